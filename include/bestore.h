@@ -1,38 +1,38 @@
-/* bestore: a shared, multi-version store of nodes with attributes, indices and queries, in memory.
+/* bestore: a shared, multi-version, in-memory store of nodes with attributes, indices and queries.
  *
- * Link with libbestore.a or -lbestore (pkg-config bestore), and with -lpthread for your own threads.
+ * Link with libbestore.a or -lbestore (pkg-config bestore); add -lpthread if your program creates threads.
  *
- * HANDLES. A bes_pass is a session: one thread's handle on a store. The pass writes to the store, pins a snapshot and reads it. A
- * bes_prepared is a parsed query. It belongs to no store, and any pass may run it. A bes_place is a position in the list of operations
- * that rebuild a snapshot. A bes_witness carries what a pass has seen to a pass of the same store in another thread. A bes_draft is a
- * change: the operations that a pass will write, based on what it has read. You own the memory of a handle. Start it with BES_PASS_INIT,
- * BES_PREPARED_INIT, BES_PLACE_INIT, BES_WITNESS_INIT or BES_DRAFT_INIT, which are zero bytes. Never copy a handle or change its fields;
- * move it with bes_move, bes_move_prepared, bes_move_place, bes_move_witness or bes_move_draft. Close a handle with bes_close,
- * bes_release, bes_leave or bes_dismiss, and a draft with bes_end_change or bes_abandon_change. Closing the store's last open pass frees
- * the store.
+ * HANDLES. A bes_pass is a session: one thread's handle to a store. A thread writes to the store, pins a snapshot and reads it through its
+ * pass. A bes_prepared is a parsed query. It isn't tied to a store, and any pass may run it. A bes_place is a position in the list of
+ * operations that rebuild a snapshot. A bes_witness carries a record of what a pass has seen to a pass of the same store in another thread.
+ * A bes_draft is a change: the operations that a pass will write, based on what it has read. You own the memory that a handle occupies.
+ * Initialise it with BES_PASS_INIT, BES_PREPARED_INIT, BES_PLACE_INIT, BES_WITNESS_INIT or BES_DRAFT_INIT, all of which are zero bytes.
+ * Never copy a handle or change its fields; move it with bes_move, bes_move_prepared, bes_move_place, bes_move_witness or bes_move_draft.
+ * Close a handle with bes_close, bes_release, bes_leave or bes_dismiss; close a draft with bes_end_change or bes_abandon_change. Closing a
+ * store's last open pass frees the store.
  *
- * THREADS. Give each thread its own pass. Calls on different passes run at the same time, and no call waits for another. A pass, a
- * prepared query, a place, a witness and a draft each take one call at a time. You may hand any of these handles to another thread if that
- * thread's calls come after yours, because of a join, a lock or a thread start. Call nothing here from a signal handler. No call is a
- * cancellation point: with deferred cancellation, the default, a thread ends between two calls. Close its pass in a cleanup handler. A
- * thread that ends inside a call, through asynchronous cancellation or a longjmp, leaves a handle that must not be used again. The
- * handle's pin stays for good. If the thread was writing, every later write to the store returns BES_BUSY.
+ * THREADS. Give each thread its own pass. Calls on different passes run concurrently, and no call waits for another. A pass, a prepared
+ * query, a place, a witness or a draft may be used by only one call at a time. You may hand any of these handles to another thread if a
+ * join, a lock or a thread start ensures that the other thread's calls come after yours. Never call these functions from a signal handler.
+ * None of them is a cancellation point: with deferred cancellation, the default, a thread ends only between calls. Close its pass in a
+ * cleanup handler. If a thread ends inside a call, through asynchronous cancellation or a longjmp, its handle must not be used again, and
+ * its pin is never released. If the thread was writing, every later write to the store returns BES_BUSY.
  *
- * FORK. A forked child has a copy of the store, and nobody else sees what the child writes there. If another thread was in a call at the
- * fork, the copy may be locked or half written. So a child must not pass a handle that its parent opened to any call here. The child
- * clears each handle with bes_forget, bes_forget_prepared, bes_forget_place, bes_forget_witness or bes_forget_draft, which free nothing.
- * Then it may open its own store.
+ * FORK. A forked child has its own copy of the store, and no other process sees what the child writes there. If another thread was inside a
+ * call at the time of the fork, the copy may be locked or half written. So a child must not pass any of these functions a handle that its
+ * parent opened. It clears each such handle with bes_forget, bes_forget_prepared, bes_forget_place, bes_forget_witness or bes_forget_draft,
+ * which free nothing. Then it may open a store of its own.
  *
- * ERRORS. Each call returns BES_OK or the number of an error. A call's comment lists its errors in the order in which the call checks for
- * them; if two apply, the call returns the first. After an error the store, the handles and your memory are unchanged, unless the comment
- * says otherwise. Only the parameter number, count, seen or place changes: the call sets it to the value that the comment gives for the
- * error, or to 0. The pass may have seen more of the journal. Pointers must be valid and must not overlap. Even if a length is 0, the
- * pointer must not be null; it may point to any variable.
+ * ERRORS. Each call returns BES_OK or an error number. A function's comment lists its errors in the order in which it checks for them; if
+ * two apply, it returns the first. After an error the store, the handles and your memory are unchanged, unless the comment says otherwise.
+ * The exceptions are the parameters number, count, seen and place, which are set to the value that the comment gives for the error, or to
+ * 0. The pass may also have seen more of the journal. Pointers must be valid, and the memory that they point to must not overlap. A pointer
+ * must not be null even if its length is 0; it may then point to any variable.
  *
- * SNAPSHOTS. The journal is the commit log: all accepted transactions, numbered from 1. Reading needs a pin. The pass reads the snapshot
- * that was current when the pass was pinned, whatever is written meanwhile. The snapshot's number is the commit number of its last
- * transaction. The snapshot includes everything that the pass has written or seen. A pin keeps its snapshot's pages from being reused, so
- * unpin soon. If a thread never returns its handle, its snapshot stays pinned.
+ * SNAPSHOTS. The journal is the commit log: all committed transactions, numbered from 1. Pin a pass before you read through it. A pinned
+ * pass reads the snapshot that was current when it was pinned, whatever is written in the meantime. The snapshot's number is the commit
+ * number of its last transaction. The snapshot includes everything that the pass has written or seen. A pin prevents its snapshot's pages
+ * from being reused, so unpin as soon as you can. If a thread never returns its handle, its snapshot stays pinned.
  */
 #ifndef BESTORE_H
 #define BESTORE_H
@@ -51,7 +51,7 @@ extern "C" {
 #define BES_VERSION "0.4.0"
 #define BES_VERSION_NUMBER (BES_VERSION_MAJOR * 1000000 + BES_VERSION_MINOR * 1000 + BES_VERSION_PATCH)
 
-/* Both fields belong to the library. */
+/* Both fields are private to the library. */
 typedef struct bes_pass {
     bool live;
     void *at;
@@ -59,7 +59,7 @@ typedef struct bes_pass {
 
 #define BES_PASS_INIT { false, NULL }
 
-/* Both fields belong to the library. */
+/* Both fields are private to the library. */
 typedef struct bes_prepared {
     bool live;
     void *at;
@@ -67,7 +67,7 @@ typedef struct bes_prepared {
 
 #define BES_PREPARED_INIT { false, NULL }
 
-/* Both fields belong to the library. */
+/* Both fields are private to the library. */
 typedef struct bes_place {
     bool live;
     void *at;
@@ -75,7 +75,7 @@ typedef struct bes_place {
 
 #define BES_PLACE_INIT { false, NULL }
 
-/* Both fields belong to the library. */
+/* Both fields are private to the library. */
 typedef struct bes_witness {
     bool live;
     void *at;
@@ -83,7 +83,7 @@ typedef struct bes_witness {
 
 #define BES_WITNESS_INIT { false, NULL }
 
-/* Both fields belong to the library. */
+/* Both fields are private to the library. */
 typedef struct bes_draft {
     bool live;
     void *at;
@@ -151,7 +151,7 @@ enum {
     /* surface.toml: end */
 };
 
-/* The kinds of values, by the type codes of BeOS. */
+/* The kinds of values, identified by BeOS type codes. */
 enum {
     /* surface.toml: kinds */
     BES_STRING_TYPE = 0x43535452,      /* 'CSTR': up to 255 bytes of UTF-8 */
@@ -164,7 +164,7 @@ enum {
     /* surface.toml: end */
 };
 
-/* What a program can do about an error, as bes_class returns it. */
+/* What a program can do about an error, as returned by bes_class. */
 enum {
     /* surface.toml: classes */
     BES_CLASS_NONE = 0,  /* of BES_OK */
@@ -178,7 +178,8 @@ enum {
     /* surface.toml: end */
 };
 
-/* What an operation does. An index holds an attribute only if the attribute was set after the index was made and has the index's kind. */
+/* What an operation does. An index holds an attribute only if the attribute was set after the index was created and is of the index's
+ * kind. */
 enum {
     /* surface.toml: operations */
     BES_NEW_NODE = 0,     /* makes a node with the next number; the first is 1, and no number is
@@ -191,21 +192,21 @@ enum {
     /* surface.toml: end */
 };
 
-/* An operation. All operations in a batch share an array of bytes, which contains the operation's name and its value's bytes. A field that
- * the operation doesn't use may have any value, but the name and the value must lie within the array even if they are unused: leave their
- * fields 0. */
+/* An operation. All operations in a batch share one byte array, which contains each operation's name and the bytes of its value. A field
+ * that an operation doesn't use may have any value, but the name and the value must lie within the array even if they are unused: leave
+ * their fields 0. */
 typedef struct bes_operation {
     uint32_t kind;         /* BES_NEW_NODE .. BES_REMOVE_INDEX */
     uint32_t code;         /* the type code of the value or the index */
     uint64_t node;
-    uint64_t number;       /* the value, if it is a number; (uint64_t)(int64_t)n of a signed one */
-    uint32_t name_at;      /* where the name begins in the bytes */
+    uint64_t number;       /* the value, if it is a number; (uint64_t)(int64_t)n if it is signed */
+    uint32_t name_at;      /* the offset in the array at which the name begins */
     uint32_t name_length;
-    uint32_t value_at;     /* where the bytes of a text or a raw value begin */
+    uint32_t value_at;     /* the offset at which the bytes of a text or raw value begin */
     uint32_t value_length;
 } bes_operation;
 
-/* What an item of a predicate does. A predicate is items in reverse Polish order. */
+/* What an item of a predicate does. A predicate is a list of items in reverse Polish order. */
 enum {
     /* surface.toml: items */
     BES_ITEM_ATTRIBUTE = 0, /* an attribute, by the bytes of its name */
@@ -227,7 +228,8 @@ enum {
     /* surface.toml: end */
 };
 
-/* An item of a predicate. Its bytes lie within the array that all items share. Unused fields follow the same rule as in an operation. */
+/* An item of a predicate. Its bytes lie within an array that all items share. The rule for unused fields is the same as for an
+ * operation. */
 typedef struct bes_item {
     uint32_t kind;
     uint32_t at;
@@ -235,37 +237,37 @@ typedef struct bes_item {
     uint64_t number;
 } bes_item;
 
-/* What bes_get writes about a value. */
+/* A value, as written by bes_get. */
 typedef struct bes_attribute {
     uint32_t code;    /* the type code */
-    uint64_t length;  /* for a text or a raw value: how many bytes it has */
+    uint64_t length;  /* for a text or raw value: its length in bytes */
     uint64_t number;  /* for a number: the value; (int64_t)number if it is signed */
 } bes_attribute;
 
-/* A name that is checked once, for calls that use it repeatedly. bes_check_name makes it. You may copy a bes_name, and any thread may use
- * it with any store. If the struct contains anything else, that does no harm: its bytes name no attribute, so a read finds none. */
+/* A name that has been checked once, for repeated use. bes_check_name fills it in. You may copy a bes_name, and any thread may use it with
+ * any store. A struct with any other contents does no harm: its bytes name no attribute, so a read finds none. */
 typedef struct bes_name {
-    uint64_t length;   /* how many of the bytes belong to the name */
+    uint64_t length;   /* the length of the name in bytes */
     uint8_t bytes[64];
 } bes_name;
 
-/* What bes_columns writes about a node's attribute. If there is no such attribute, every field except the error and the offset is 0. */
+/* A node's attribute, as written by bes_columns. If the node has no such attribute, every field except error and offset is 0. */
 typedef struct bes_cell {
     uint32_t error;   /* BES_OK, BES_NO_ATTRIBUTE, or BES_NO_NODE */
     uint32_t code;    /* the type code */
     uint64_t number;  /* for a number: the value; (int64_t)number if it is signed */
-    uint64_t offset;  /* for a text or a raw value: where in the bytes the value begins */
-    uint64_t length;  /* and how many bytes the value has */
+    uint64_t offset;  /* for a text or raw value: the offset of the value in the bytes */
+    uint64_t length;  /* and its length in bytes */
 } bes_cell;
 
-/* How full a store is, and which pass holds the oldest version. */
+/* How full a store is, and which pass holds its oldest version. */
 typedef struct bes_usage {
-    uint64_t pages;    /* all pages of the store */
-    uint64_t free;     /* pages that a write may take */
-    uint64_t retired;  /* pages from older versions, which stay until no pass may read them */
+    uint64_t pages;    /* the total number of pages */
+    uint64_t free;     /* pages available to writes */
+    uint64_t retired;  /* pages of older versions, kept until no pass can read them any more */
     uint64_t entries;  /* how many transactions the journal has */
-    uint64_t commits;  /* how many transactions the journal may have */
-    bool is_held;      /* whether a pass has published a version: the pass is, or soon will be, pinned to that version or a later one */
+    uint64_t commits;  /* how many transactions the journal can have */
+    bool is_held;      /* whether a pass has published a version: that pass is, or soon will be, pinned to that version or a later one */
     uint64_t oldest;   /* the oldest published version, or 0 */
     uint64_t holder;   /* the lowest-numbered pass that has published this version, or 0 */
 } bes_usage;
@@ -276,88 +278,87 @@ typedef struct bes_updates {
     uint64_t removed;
 } bes_updates;
 
-/* A position in an order, as bes_ordered leaves it: the position of a page's last node. All zeros is the beginning. A cursor contains no
- * pointers, so you may copy it and keep it. */
+/* A position in an index's order, as set by bes_ordered: the position of a page's last node. A cursor of all zeros is the beginning. A
+ * cursor contains no pointers, so you may copy and store it. */
 typedef struct bes_cursor {
     uint32_t kind;     /* the type code of the index's kind; 0 at the beginning */
-    uint32_t length;   /* how many bytes the key has; 0 at the beginning */
-    uint8_t key[264];  /* the value's bytes as the index orders them, then the node in 8 bytes, the highest byte first
+    uint32_t length;   /* the length of the key in bytes; 0 at the beginning */
+    uint8_t key[264];  /* the value's bytes in the form that the index orders, then the node in 8 bytes, highest byte first
                         * (bestore's ARCHITECTURE.md, Keys of an index) */
 } bes_cursor;
 
-/* How long a list is. */
+/* The length of a list. */
 typedef struct bes_counts {
     uint64_t operations;
     uint64_t bytes;
 } bes_counts;
 
-/* Opens a store in memory, with the handle as its first pass. Passes are numbered from 0; the first pass has the number passes - 1.
+/* Opens a store in memory and makes the handle its first pass. Passes are numbered from 0; the first pass has the number passes - 1.
  * [in] pages     how many pages of 4 KiB the store has, 8 to 16,384
  * [in] passes    how many passes it has, 1 to 64
- * [in] commits   how many transactions its journal may have, 1 to 2^32 - 1
+ * [in] commits   how many transactions its journal can have, 1 to 2^32 - 1
  * [out] pass     a closed handle, which is opened
  * BES_OPEN, BES_BAD_LIMITS, BES_NO_MEMORY.
- * Cost: the memory for all pages, allocated here. */
+ * Cost: the memory for all pages, which this call allocates. */
 uint32_t bes_open(uint64_t pages, uint64_t passes, uint64_t commits, bes_pass *pass);
 
-/* Opens another handle, for another pass of the same store. Unused passes stay with the handle from bes_open, which hands them out in
- * descending order, down to 0. If that handle has none left, the new handle gets a pass that bes_close gave back. This pass keeps its
- * number and what it has seen. The new pass meets the existing one: afterwards both have seen what either had seen, so the new pass sees
- * everything that the existing pass has written.
- * [in,out] pass  any open handle of the store; only the handle from bes_open has passes that were never used
+/* Opens another handle, for another pass of the same store. The handle from bes_open holds the unused passes, and hands them out in
+ * descending order, down to 0. If it has none left, the new handle gets a pass that bes_close returned to the store. That pass keeps its
+ * number and the record of what it has seen. The new pass meets the existing one: afterwards both have seen what either had seen, so
+ * everything that the existing pass has written is visible to the new one.
+ * [in,out] pass  any open handle of the store; only the handle from bes_open holds passes that were never used
  * [out] other    a closed handle, which is opened
- * Returns BES_CLOSED if pass is closed, BES_OPEN if other is open, BES_NO_PASS or BES_NO_MEMORY. No pass is lost.
- * Cost: some memory, three steps, and a look at each pass if no unused pass is left. */
+ * Returns BES_CLOSED if pass is closed, BES_OPEN if other is open, BES_NO_PASS or BES_NO_MEMORY. An error doesn't use up a pass.
+ * Cost: some memory and three steps, and a check of each pass if no unused pass is left. */
 uint32_t bes_another(bes_pass *pass, bes_pass *other);
 
 /* Moves the handle's contents, including its pin, into other, and closes the handle.
- * [in,out] pass  the handle, which is closed
+ * [in,out] pass  the handle to close
  * [out] other    a closed handle, which is opened
  * Returns BES_CLOSED if pass is closed, BES_OPEN if other is open.
  * Cost: constant.
- * Threads: when one thread has finished with a pass, the pass can stay pinned in your memory until another thread takes it. */
+ * Threads: when one thread has finished with a pass, you can keep the pass in memory, still pinned, until another thread takes it. */
 uint32_t bes_move(bes_pass *pass, bes_pass *other);
 
-/* Closes the handle and unpins it. The pass goes back to the store, along with all unused passes that the handle still has. bes_another
+/* Closes the handle and unpins it. The pass goes back to the store, along with any unused passes that the handle still holds. bes_another
  * hands them out again, through any handle of the store. Closing the last open handle frees the store.
  * BES_CLOSED.
- * Cost: a step for each pass that goes back; for the last handle, the time to free all pages and the journal. */
+ * Cost: one step for each pass that goes back; for the last handle, the time to free all pages and the journal. */
 uint32_t bes_close(bes_pass *pass);
 
-/* Closes the store through its last handle, and writes the whole journal as text, as bes_journal does. For each pass the text has exactly
- * the transactions that the pass's calls have committed, with their commit numbers. If bytes_room is less than count, nothing is written,
- * and the handle stays open: call again with a larger array. The handle may be pinned.
- * [in,out] pass  the last open handle of the store, which is closed
+/* Closes the store through its last handle, and writes the whole journal as text, as bes_journal does. For each pass, the text lists
+ * exactly the transactions that calls on that pass have committed, with their commit numbers. If bytes_room is less than count, nothing is
+ * written and the handle stays open; call again with a larger array. The handle may be pinned.
+ * [in,out] pass  the store's last open handle, which this call closes
  * [out] bytes    the text. No zero byte follows it.
  * [out] count    how many bytes the text has
  * BES_CLOSED. BES_IN_USE: another handle is open. BES_NO_MEMORY. After BES_IN_USE and BES_NO_MEMORY the handle stays open.
  * Cost: time and memory for the whole text, and the time to free all pages. */
 uint32_t bes_finish(bes_pass *pass, uint8_t *bytes, size_t bytes_room, uint64_t *count);
 
-/* Writes the pass's number, which the journal, BES_BUSY and bes_status use.
+/* Writes the pass's number, by which the journal, BES_BUSY and bes_status refer to it.
  * [out] number   the number, 0 to passes - 1
  * BES_CLOSED.
  * Cost: constant. */
 uint32_t bes_number(bes_pass *pass, uint64_t *number);
 
-/* Meets a pass that bes_close gave back: afterwards both have seen what either had seen. So two threads share what they have seen if each
- * meets that pass in turn.
+/* Meets a pass that bes_close returned to the store: afterwards both have seen what either had seen. So two threads can share what they
+ * have seen by meeting that pass in turn.
  * [out] seen     how many transactions both have now seen
- * BES_CLOSED, BES_NO_PASS (none has been given back, or another thread is meeting it).
- * Cost: three steps, and a look at each pass. */
+ * BES_CLOSED, BES_NO_PASS (no pass has been returned to the store, or another thread is meeting it).
+ * Cost: three steps, and a check of each pass. */
 uint32_t bes_meet(bes_pass *pass, uint64_t *seen);
 
-/* Opens a witness that records all transactions that the pass has seen so far, including its own. Hand the witness to another thread,
- * whose pass joins it. Needs no pin. A witness contains no part of the store and keeps no page in use.
+/* Opens a witness that records all transactions that the pass has seen so far, including its own. Hand the witness to another thread, whose
+ * pass joins it. No pin is needed. A witness contains no part of the store and keeps no page in use.
  * [out] witness  a closed handle, which is opened
  * Returns BES_CLOSED if pass is closed, BES_OPEN if witness is open, BES_NO_MEMORY.
  * Cost: one step, and some memory until bes_dismiss. */
 uint32_t bes_witness_of(bes_pass *pass, bes_witness *witness);
 
 /* Joins a witness, whether the pass is pinned or not: afterwards the pass and the witness have both seen what either had seen. So each
- * later snapshot of the pass includes everything that the witness's pass had seen, and each later commit number of the pass is greater
- * than the commit numbers of those transactions. A pinned pass keeps its snapshot. The witness stays open, so you may hand it on and join
- * it again.
+ * later snapshot of the pass includes everything that the witness had seen, and each transaction that the pass commits later has a higher
+ * number than all of those. A pinned pass keeps its snapshot. The witness stays open, so you may pass it on and join it again.
  * [in,out] witness  a witness from a pass of the same store. The library can't check that: with a witness from another store the
  *                behaviour is undefined.
  * [out] seen     how many transactions both have now seen
@@ -365,10 +366,10 @@ uint32_t bes_witness_of(bes_pass *pass, bes_witness *witness);
  * Cost: three steps. */
 uint32_t bes_join(bes_pass *pass, bes_witness *witness, uint64_t *seen);
 
-/* Closes the witness and frees its memory. BES_CLOSED. */
+/* Closes a witness and frees its memory. BES_CLOSED. */
 uint32_t bes_dismiss(bes_witness *witness);
 
-/* Moves a witness into other, and closes its handle.
+/* Moves a witness into other, and closes the original handle.
  * [out] other    a closed handle, which is opened
  * Returns BES_CLOSED if witness is closed, BES_OPEN if other is open. */
 uint32_t bes_move_witness(bes_witness *witness, bes_witness *other);
@@ -376,173 +377,175 @@ uint32_t bes_move_witness(bes_witness *witness, bes_witness *other);
 /* Pins the current snapshot.
  * [out] number   the snapshot's number: how many transactions it includes
  * BES_CLOSED, BES_PINNED.
- * Cost: three steps, whatever other passes do. */
+ * Cost: three steps, regardless of what other passes are doing. */
 uint32_t bes_pin(bes_pass *pass, uint64_t *number);
 
 /* Unpins the pass. BES_CLOSED, BES_NOT_PINNED.
  * Cost: one step. */
 uint32_t bes_unpin(bes_pass *pass);
 
-/* Writes a batch of 1 to 64 operations as one transaction: all of them, in order, or none. A pinned pass keeps its snapshot.
- * [in] operations  the operations, operations_count of them
+/* Writes a batch of 1 to 64 operations as one transaction: either all of them take effect, in order, or none does. A pinned pass keeps its
+ * snapshot.
+ * [in] operations  an array of operations_count operations
  * [in] bytes     the bytes that contain their names and values
- * [out] made     for each operation the node that it made, or 0; at most made_room
+ * [out] made     for each operation, the node that it created, or 0; at most made_room entries
  * [out] number   the commit number
  * BES_CLOSED, BES_BAD_COUNT, BES_NO_MEMORY.
  * BES_BAD_PART, BES_NO_OPERATION; then for the name BES_NOT_UTF8, BES_NAME_LENGTH, BES_HAS_NUL; then BES_NO_KIND; then for the value
- * BES_NOT_UTF8, BES_DATA_LENGTH, BES_HAS_NUL or BES_NO_VALUE: an operation is invalid, and number is the index of the first invalid
- * operation.
+ * BES_NOT_UTF8, BES_DATA_LENGTH, BES_HAS_NUL or BES_NO_VALUE: an operation is invalid, and number is the index of the first one that is.
  * BES_BUSY: another pass is writing, and number is that pass. Call again, as bes_apply_or_retry does.
- * BES_NO_NODE, BES_NO_ATTRIBUTE, BES_TOO_MANY_ATTRS, BES_INDEX_EXISTS, BES_NO_INDEX, BES_TOO_MANY_INDICES, BES_NOT_INDEXABLE: the
- * batch is refused with the error of the first operation that the store refuses.
+ * BES_NO_NODE, BES_NO_ATTRIBUTE, BES_TOO_MANY_ATTRS, BES_INDEX_EXISTS, BES_NO_INDEX, BES_TOO_MANY_INDICES, BES_NOT_INDEXABLE: the store
+ * refused an operation, and the error is that of the first one refused.
  * BES_COMMITS_SPENT, BES_NO_MEMORY.
- * BES_FULL: no page is free, and number is the oldest version that a pass may still read; bes_status names the pass that holds this
- * version. If the version is an older snapshot, the write succeeds once that snapshot is unpinned; bes_apply_or_retry keeps trying for a
- * while. Otherwise the store is too small for the batch: write a smaller one, remove nodes a few at a time, or carry the state to a larger
- * store.
- * Cost: memory for the operations and for their entry in the journal, and new pages along the path to each change in a tree. If no page is
- * free, or a page was retired since the last scan (32 pages, if that scan had to leave pages to readers), the call scans: a look at each
- * pass, and work for each page that becomes free. After BES_BUSY the cost is one step, and the memory for the operations. */
+ * BES_FULL: no page is free, and number is the oldest version that a pass can still read; bes_status names the pass that holds it. If that
+ * version is an older snapshot, the write succeeds once the snapshot is unpinned; bes_apply_or_retry keeps trying for a while. Otherwise
+ * the store is too small for the batch: write a smaller batch, remove nodes a few at a time, or copy the state into a larger store.
+ * Cost: memory for the operations and for their journal entry, and new pages along the path to each change in a tree. The call scans for
+ * pages to reuse if no page is free, or if a page has been retired since the last scan (or 32 pages, if that scan had to leave some to
+ * readers). A scan checks each pass, and does some work for each page that becomes free. If the call returns BES_BUSY, it costs one step
+ * and the memory for the operations. */
 uint32_t bes_apply(bes_pass *pass, const bes_operation *operations, size_t operations_count, const uint8_t *bytes,
                    size_t bytes_count, uint64_t *made, size_t made_room, uint64_t *number);
 
-/* Like bes_apply, but only if the journal has exactly `expected` entries. If a pass is pinned to snapshot n and calls with expected = n,
- * its write follows directly on what it has read. bes_change does this, and begins again after BES_CONFLICT.
+/* Like bes_apply, but writes only if the journal has exactly `expected` entries. If a pass that is pinned to snapshot n calls with expected
+ * = n, no other transaction can come between its snapshot and its write. bes_change does this, and starts over after BES_CONFLICT.
  * [in] expected  how many transactions the journal must have
- * BES_CONFLICT: is checked after BES_BUSY and before the store's own errors. number is the journal's length. Otherwise errors, parameters
- * and cost are as for bes_apply; after BES_CONFLICT the cost is as after BES_BUSY. */
+ * BES_CONFLICT: the journal's length differs, and number is that length. This is checked after BES_BUSY and before the store's own errors.
+ * The other errors and parameters are as for bes_apply. So is the cost; with BES_CONFLICT it is the same as with BES_BUSY. */
 uint32_t bes_apply_if(bes_pass *pass, uint64_t expected, const bes_operation *operations, size_t operations_count,
                       const uint8_t *bytes, size_t bytes_count, uint64_t *made, size_t made_room, uint64_t *number);
 
-/* Writes the number that the next new node gets, as of the pinned snapshot. A batch may refer to the nodes that it makes by this number
- * and the following ones, if bes_apply_if writes the batch with the snapshot's number. With bes_apply another pass may take the number
- * first.
+/* Writes the number that the next new node will get, as of the pinned snapshot. A batch may refer to the nodes that it creates by this
+ * number and the following ones if you write it with bes_apply_if and the snapshot's number. With bes_apply, another pass might take the
+ * number first.
  * [out] node     the number
  * BES_CLOSED, BES_NOT_PINNED.
  * Cost: constant. */
 uint32_t bes_next(bes_pass *pass, uint64_t *node);
 
-/* Writes a batch as a change to the pinned snapshot. It does what bes_apply_if does with the snapshot's number, but first checks that each
- * BES_SET has the kind of the index with its name, as the earlier operations leave that index. The store would keep a value of another
- * kind, but no query on that name would find the node. A name without an index takes any kind. The new nodes are numbered from the number
- * that bes_next gives. bes_change ends with this call.
- * [in] operations, bytes  as in bes_apply
+/* Writes a batch as a change to the pinned snapshot. It does what bes_apply_if does with the snapshot's number, but first checks each
+ * BES_SET operation: if its name has an index, taking the batch's earlier operations into account, the value must be of the index's kind.
+ * The store would accept a value of another kind, but no query on that name would find the node. Without an index, a value of any kind is
+ * accepted. New nodes are numbered from the number that bes_next returns. bes_change ends with this call.
+ * [in] operations, bytes  as for bes_apply
  * [out] number   the commit number
- * BES_CLOSED, BES_BAD_COUNT, BES_NO_MEMORY, and the errors of an invalid operation, as in bes_apply.
+ * BES_CLOSED, BES_BAD_COUNT, BES_NO_MEMORY, and the errors for an invalid operation, as for bes_apply.
  * BES_NOT_PINNED. BES_WRONG_KIND: number is the index of the first operation with a value of the wrong kind. From BES_BUSY on, the errors
  * are as for bes_apply_if.
- * Cost: as for bes_apply_if, and for each BES_SET a look at the earlier operations and a search among the indices. */
+ * Cost: as for bes_apply_if; in addition, each BES_SET costs a scan of the earlier operations and a search among the indices. */
 uint32_t bes_apply_change(bes_pass *pass, const bes_operation *operations, size_t operations_count, const uint8_t *bytes,
                           size_t bytes_count, uint64_t *number);
 
-/* Begins a change. The draft reads the pinned snapshot and collects up to 64 operations; bes_end_change writes them if no other
- * transaction has been committed since. If the pass isn't pinned, this call pins it, and bes_end_change or bes_abandon_change unpins it.
- * Run other reads and queries through the pass: they show the snapshot. bes_change does the same with a batch, in a loop.
+/* Begins a change. The draft reads the pinned snapshot and collects up to 64 operations; bes_end_change writes them if no other transaction
+ * has been committed since. If the pass isn't pinned, this call pins it, and bes_end_change or bes_abandon_change unpins it. Use the pass
+ * for other reads and queries; they see the snapshot, without the draft's operations. bes_change does the same with a batch, in a loop.
  *
- * A draft works with the pass that began it, as long as the pass stays pinned to the draft's snapshot. If you unpin the pass and pin it to
+ * A draft works with the pass that began it for as long as that pass is pinned to the draft's snapshot. If you unpin the pass and pin it to
  * another snapshot, bes_change_get and bes_end_change return BES_NOT_PINNED. A pass may have several drafts. Don't use a draft with a pass
- * of another store: the operations would be written there.
+ * of another store: the operations would be written to that store.
  * [out] draft    a closed handle, which is opened
  * [out] number   the snapshot's number
- * [out] next     the number that the first new node gets
- * Returns BES_CLOSED if pass is closed, BES_OPEN if draft is open, BES_NO_MEMORY. After an error the pass is pinned only if it was before.
- * Cost: as for bes_pin if the pass isn't pinned, two reads of a page, and memory for the draft and the list of indices. */
+ * [out] next     the number that the first new node will get
+ * Returns BES_CLOSED if pass is closed, BES_OPEN if draft is open, BES_NO_MEMORY. After an error the pass is pinned only if it was pinned
+ * before.
+ * Cost: that of bes_pin if the pass isn't pinned, two page reads, and memory for the draft and the list of indices. */
 uint32_t bes_begin_change(bes_pass *pass, bes_draft *draft, uint64_t *number, uint64_t *next);
 
-/* Lets the draft take values of any kind from now on. Before this call the draft refuses a value whose kind the index with its name
- * doesn't take: the store would keep the attribute, but no query on that name would find the node. BES_CLOSED. */
+/* Makes the draft accept values of any kind from now on. Before this call, it refuses a value whose kind differs from that of the index of
+ * the same name: the store would accept the attribute, but no query on that name would find the node. BES_CLOSED. */
 uint32_t bes_change_any_kind(bes_draft *draft);
 
-/* Adds an operation to the draft. Nothing is written to the store yet. After an error nothing is added.
+/* Adds an operation to the draft. Nothing is written to the store yet. After an error, the draft is unchanged.
  * [in] operation the operation
  * [in] bytes     the bytes that contain its name and value
- * [out] node     for BES_NEW_NODE the number of the new node, which later operations may use; otherwise 0
- * BES_CLOSED. If the operation is invalid, BES_BAD_PART and the errors listed after it for bes_apply.
- * BES_WRONG_KIND: the operation sets an attribute, and the index with its name, as the earlier operations leave it, takes another kind.
- * node is that kind's type code. A name without an index takes any kind. This error can't occur after bes_change_any_kind.
- * BES_BAD_COUNT: the draft has 64 operations. BES_NO_MEMORY.
- * The store's own errors, such as BES_NO_NODE, come from bes_end_change.
- * Cost: memory for the operation, and for BES_SET a look at the earlier operations and at the list of indices. */
+ * [out] node     for BES_NEW_NODE, the number of the new node, which later operations may use; otherwise 0
+ * BES_CLOSED. For an invalid operation, BES_BAD_PART or one of the errors listed with it under bes_apply.
+ * BES_WRONG_KIND: the operation sets an attribute, and the index of that name, taking the earlier operations into account, holds another
+ * kind of value. node is that kind's type code. Without an index, a value of any kind is accepted. This error can't occur after
+ * bes_change_any_kind. BES_BAD_COUNT: the draft already has 64 operations. BES_NO_MEMORY.
+ * The store's own errors, such as BES_NO_NODE, are returned by bes_end_change.
+ * Cost: memory for the operation; for BES_SET, a scan of the earlier operations and of the list of indices. */
 uint32_t bes_change_add(bes_draft *draft, const bes_operation *operation, const uint8_t *bytes, size_t bytes_count,
                         uint64_t *node);
 
-/* Reads a node's attribute as the draft's operations leave it. The last operation that sets or removes the attribute, or makes or removes
- * its node, decides; if there is none, the snapshot does. If the store would refuse the operations, the result is meaningless.
+/* Reads a node's attribute as it will be after the draft's operations. The last operation that sets or removes the attribute, or that
+ * creates or removes its node, determines the result; without any such operation, the snapshot does. If the store would refuse the
+ * operations, the result is meaningless.
  * [in] name      the name, name_length bytes
- * [out] attribute, bytes  as in bes_get
+ * [out] attribute, bytes  as for bes_get
  * Returns BES_CLOSED if pass or draft is closed (pass is checked first), BES_NOT_UTF8, BES_NAME_LENGTH, BES_HAS_NUL,
  * BES_NOT_PINNED (the pass isn't pinned to the draft's snapshot), BES_NO_ATTRIBUTE (also if there is no such node).
- * Cost: a look at the draft's operations, and at most one descent of a tree. */
+ * Cost: a scan of the draft's operations, and at most one tree descent. */
 uint32_t bes_change_get(bes_pass *pass, bes_draft *draft, uint64_t node, const uint8_t *name, size_t name_length,
                         bes_attribute *attribute, uint8_t *bytes, size_t bytes_room);
 
-/* Lists the draft's operations, as a batch for bes_apply.
- * [out] counts, operations, bytes  as in bes_attributes; 64 operations and 64 * (63 + 255) bytes suffice
+/* Lists the draft's operations as a batch for bes_apply.
+ * [out] counts, operations, bytes  as for bes_attributes; 64 operations and 64 * (63 + 255) bytes suffice
  * BES_CLOSED, BES_NO_MEMORY.
  * Cost: memory for the list. */
 uint32_t bes_change_batch(bes_draft *draft, bes_counts *counts, bes_operation *operations, size_t operations_room, uint8_t *bytes,
                           size_t bytes_room);
 
-/* Ends a change: writes the draft's operations as one transaction, if no other transaction was committed after the draft's snapshot. It
- * unpins the pass if bes_begin_change pinned it, and closes the draft, even after an error. A draft without operations writes nothing.
+/* Ends a change: writes the draft's operations as one transaction if no other transaction has been committed since the draft's snapshot.
+ * Even after an error, it closes the draft, and unpins the pass if bes_begin_change pinned it. A draft without operations writes nothing.
  * [out] number   the commit number; for a draft without operations, the snapshot's number. The new nodes have the numbers that
  *                bes_change_add returned.
- * Returns BES_CLOSED if pass or draft is closed (pass is checked first). BES_NOT_PINNED: the pass isn't pinned to the draft's snapshot,
- * and its pin stays.
- * BES_BUSY: another pass is writing, and number is that pass. BES_CONFLICT: another transaction was committed, and number is the journal's
- * current length. After either error begin again: bes_again and bes_stand_back say when.
- * The store's own errors, from BES_NO_NODE on, are as for bes_apply. After BES_FULL, too, begin again once other passes have unpinned.
- * After an error nothing is written.
- * Cost: as for bes_apply; after BES_CONFLICT as after BES_BUSY. */
+ * Returns BES_CLOSED if pass or draft is closed (pass is checked first). BES_NOT_PINNED: the pass isn't pinned to the draft's snapshot. If
+ * it is pinned to another, it stays pinned.
+ * BES_BUSY: another pass is writing, and number is that pass. BES_CONFLICT: another transaction has been committed, and number is the
+ * journal's current length. After either error, begin the change again; bes_again and bes_stand_back help you decide when.
+ * The store's own errors, from BES_NO_NODE on, are as for bes_apply. After BES_FULL, too, you can begin the change again, once other passes
+ * have unpinned. After an error nothing is written.
+ * Cost: as for bes_apply; with BES_CONFLICT, the same as with BES_BUSY. */
 uint32_t bes_end_change(bes_pass *pass, bes_draft *draft, uint64_t *number);
 
-/* Ends a change without writing: closes the draft, and unpins the pass if bes_begin_change pinned it and the pass is still pinned to that
+/* Ends a change without writing it: closes the draft, and unpins the pass if bes_begin_change pinned it and it is still pinned to that
  * snapshot. If the pass is closed, the call only closes the draft.
  * Returns BES_CLOSED if pass or draft is closed (pass is checked first).
  * Cost: one step. */
 uint32_t bes_abandon_change(bes_pass *pass, bes_draft *draft);
 
-/* Moves a draft into other, and closes its handle.
+/* Moves a draft into other, and closes the original handle.
  * [out] other    a closed handle, which is opened
  * Returns BES_CLOSED if draft is closed, BES_OPEN if other is open. */
 uint32_t bes_move_draft(bes_draft *draft, bes_draft *other);
 
 /* Runs a query in the pinned snapshot.
  * [in] text           the query; bestore's QUERIES.md describes the language
- * [out] nodes    the first nodes that match the query, ascending; at most nodes_room
- * [out] count    how many nodes match; if that is more than nodes_room, run the query again with a larger array
+ * [out] nodes    the first nodes that match the query, in ascending order; at most nodes_room
+ * [out] count    how many nodes match; if more than nodes_room match, run the query again with a larger array
  * BES_CLOSED, BES_NOT_UTF8, BES_TOO_LONG.
- * BES_SYNTAX, BES_BAD_PATTERN, BES_TOO_MANY, BES_TOO_DEEP: the first from the left. For BES_SYNTAX and BES_BAD_PATTERN, count is
- * the byte offset in the text.
+ * BES_SYNTAX, BES_BAD_PATTERN, BES_TOO_MANY, BES_TOO_DEEP: the leftmost error in the text. For BES_SYNTAX and BES_BAD_PATTERN, count is its
+ * byte offset.
  * BES_NOT_PINNED.
- * BES_NOT_COVERED: no index can answer the query. bes_uncovered finds the first name without an index. BES_NO_MEMORY can also occur while
- * the text is parsed.
- * Cost: the time to parse the text; a tree descent for each chosen comparison, and a walk over the range of keys that the comparison
- * leaves; look-ups of other names at each key, if the range doesn't decide the query. Memory for the plan and the whole result. */
+ * BES_NOT_COVERED: no index can answer the query. bes_uncovered finds the first name without an index.
+ * BES_NO_MEMORY, which can also occur while the text is being parsed.
+ * Cost: the time to parse the text; for each comparison in the plan, a tree descent and a walk over the range of keys that can match; if
+ * the range alone doesn't decide the query, look-ups of other attributes at each key; memory for the plan and the whole result. */
 uint32_t bes_query(bes_pass *pass, const uint8_t *text, size_t text_length, uint64_t *nodes, size_t nodes_room,
                    uint64_t *count);
 
-/* Like bes_query, but the query is built from items in reverse Polish order. Nothing is parsed.
- * [in] items     the items, items_count of them
- * [in] bytes     the bytes that contain their names and texts
+/* Like bes_query, but builds the query from items in reverse Polish order. No text is parsed.
+ * [in] items     an array of items_count items
+ * [in] bytes     the bytes that contain their names and text values
  * BES_CLOSED.
  * BES_BAD_PART, BES_NOT_UTF8, BES_NAME_LENGTH, BES_HAS_NUL, BES_NO_ITEM: count is the index of the first invalid item.
- * BES_BAD_RPN, BES_BAD_PATTERN: count is the index of the item at which the items stop forming a query, or items_count if that is known
- * only after the last item. BES_TOO_MANY, BES_TOO_DEEP.
- * BES_NOT_PINNED, BES_NOT_COVERED. BES_NO_MEMORY can also occur while the query is built. */
+ * BES_BAD_RPN, BES_BAD_PATTERN: count is the index of the item at which the list can no longer be a query, or items_count if that shows
+ * only at its end. BES_TOO_MANY, BES_TOO_DEEP.
+ * BES_NOT_PINNED, BES_NOT_COVERED. BES_NO_MEMORY, which can also occur while the query is being built. */
 uint32_t bes_query_items(bes_pass *pass, const bes_item *items, size_t items_count, const uint8_t *bytes, size_t bytes_count,
                          uint64_t *nodes, size_t nodes_room, uint64_t *count);
 
-/* Parses a query, and opens the handle with it.
+/* Parses a query and opens a handle for it.
  * [in] text      the query
  * [out] prepared a closed handle, which is opened
- * [out] place    after BES_SYNTAX or BES_BAD_PATTERN the byte offset of the error, otherwise 0
- * BES_OPEN, then the errors of bes_query that concern the text. The handle stays closed.
+ * [out] place    after BES_SYNTAX or BES_BAD_PATTERN, the byte offset of the error; otherwise 0
+ * BES_OPEN, then the errors of bes_query that concern the text. After an error the handle is still closed.
  * Cost: the time to parse the text, and memory until bes_release. */
 uint32_t bes_prepare(const uint8_t *text, size_t text_length, bes_prepared *prepared, uint64_t *place);
 
-/* Builds a query from items, and opens the handle with it. Otherwise like bes_prepare.
- * [out] place    after an error in an item the item's index, like count in bes_query_items, otherwise 0
+/* Like bes_prepare, but builds the query from items, as bes_query_items does.
+ * [out] place    after an error in an item, its index, like count in bes_query_items; otherwise 0
  * BES_OPEN, then the errors of bes_query_items that concern the items. */
 uint32_t bes_prepare_items(const bes_item *items, size_t items_count, const uint8_t *bytes, size_t bytes_count,
                            bes_prepared *prepared, uint64_t *place);
@@ -550,121 +553,122 @@ uint32_t bes_prepare_items(const bes_item *items, size_t items_count, const uint
 /* Closes the handle, and frees the query and its result. BES_CLOSED. */
 uint32_t bes_release(bes_prepared *prepared);
 
-/* Moves a prepared query into other, along with its result, and closes its handle.
+/* Moves a prepared query and its result into other, and closes the original handle.
  * [out] other    a closed handle, which is opened
  * Returns BES_CLOSED if prepared is closed, BES_OPEN if other is open. */
 uint32_t bes_move_prepared(bes_prepared *prepared, bes_prepared *other);
 
-/* Writes the canonical text of a prepared query. Each comparison in this text is "name"op"value", with no ! and no needless parentheses.
- * bes_next_comparison reads the text's comparisons.
+/* Writes the canonical text of a prepared query. Each comparison in it has the form "name"op"value", without ! or redundant parentheses.
+ * bes_next_comparison reads these comparisons.
  * [out] bytes    the first bytes of the text; at most bytes_room. No zero byte follows them.
- * [out] count    how many bytes the text has; it may be longer than the query that was parsed
+ * [out] count    how many bytes the text has, which may be more than the original query had
  * BES_CLOSED, BES_NO_MEMORY.
  * Cost: memory for the text. */
 uint32_t bes_prepared_text(bes_prepared *prepared, uint8_t *bytes, size_t bytes_room, uint64_t *count);
 
-/* Like bes_query, for a prepared query: nothing is parsed. The handle keeps the result for bes_found until the query is run again. The
- * result of the last refresh stays.
- * Returns BES_CLOSED if pass or prepared is closed (pass is checked first), BES_NOT_PINNED, BES_NOT_COVERED, BES_NO_MEMORY. After any
- * error except BES_CLOSED the handle keeps no result.
- * Cost: as for bes_query without parsing. If all comparisons are on one attribute and none is under ||, the range of keys that they leave
- * is computed once, and most queries cost one tree descent and a walk over that range. The handle keeps the memory for the result, and
- * reuses it. */
+/* Like bes_query, but for a prepared query, so nothing is parsed. The handle keeps the result for bes_found until the query is run again.
+ * The result of the last refresh isn't affected.
+ * Returns BES_CLOSED if pass or prepared is closed (pass is checked first), BES_NOT_PINNED, BES_NOT_COVERED, BES_NO_MEMORY. After any error
+ * except BES_CLOSED the handle has no result.
+ * Cost: as for bes_query without parsing. If all comparisons are on one attribute and none is under ||, the range of keys that can match is
+ * computed only once, and most queries cost one tree descent and a walk over that range. The handle reuses the memory for the result. */
 uint32_t bes_query_prepared(bes_pass *pass, bes_prepared *prepared, uint64_t *nodes, size_t nodes_room, uint64_t *count);
 
-/* Writes the nodes that the handle's last bes_query_prepared found, from an index on. So you can read a result that didn't fit without
- * running the query again, and read a long result in parts. Needs no pin.
- * [in] from      the index of the first node to write, from 0
- * [out] nodes    the nodes, ascending; at most nodes_room
+/* Writes the nodes that the handle's last bes_query_prepared found, starting at an index. Use it to read a result that didn't fit without
+ * running the query again, or to read a long result in parts. No pin is needed.
+ * [in] from      the index of the first node to write, counting from 0
+ * [out] nodes    the nodes, in ascending order; at most nodes_room
  * [out] count    how many nodes the whole result has; 0 before the query is first run, and after an error
  * BES_CLOSED.
- * Cost: the time to copy them. */
+ * Cost: the time to copy the nodes. */
 uint32_t bes_found(bes_prepared *prepared, uint64_t from, uint64_t *nodes, size_t nodes_room, uint64_t *count);
 
 /* Runs a prepared query in the pinned snapshot, and returns a page of its result in the order of an index: by the value of one attribute,
- * and by node where values are equal, ascending or exactly reversed. A page has the first nodes_room nodes after the cursor. A node that
- * has no value in this index isn't on any page, but bes_query_prepared finds it. The handle keeps the page for bes_found.
+ * then by node number among equal values; either ascending or exactly the reverse. A page has the first nodes_room nodes after the cursor.
+ * A node that has no value in this index isn't on any page, although bes_query_prepared finds it. The handle keeps the page for bes_found.
  *
- * A cursor is a position, not a count. If the pass is pinned again between two pages, the second continues in the new snapshot where the
- * first ended, whatever was written in between. A node whose value has since moved to before the cursor is missed. A node that was already
- * returned comes again if its value is now after the cursor. Within one snapshot each node comes once.
- * [in] by        the name of the index, checked by bes_check_name
- * [in] descending  0: ascending; any other number: reversed
+ * A cursor is a position, not a count. If you unpin the pass and pin it again between two pages, the second page continues in the new
+ * snapshot where the first ended, whatever was written in between. A node is missed if its value has moved to before the cursor, and is
+ * returned again if its value has moved to after the cursor. Within one snapshot each node is returned once.
+ * [in] by        the name of the index, from bes_check_name
+ * [in] descending  0 for ascending order; any other number for the reverse
  * [in,out] cursor  where the page begins; on return, the position of the page's last node. If the page is empty, the cursor is unchanged.
- *                All zeros before the first page. A cursor fits any index of its kind, in either direction.
- * [out] nodes    the page, at most nodes_room nodes
+ *                Use all zeros for the first page. A cursor works with any index of its kind, in either direction.
+ * [out] nodes    the page; at most nodes_room nodes
  * [out] count    how many nodes the page has
  * [out] more     1 if more nodes follow the page, otherwise 0
  * Returns BES_CLOSED if pass or prepared is closed (pass is checked first), BES_NOT_PINNED, BES_NO_ROOM (nodes_room is 0), BES_NO_INDEX
  * (the snapshot has no index with this name), BES_BAD_CURSOR (the cursor's kind isn't the index's, or its key doesn't have 8 to 264
  * bytes), BES_NOT_COVERED, BES_NO_MEMORY. After an error count is 0, and nodes, more and cursor are unchanged. After any error except
- * BES_CLOSED the handle keeps no result.
- * Cost: if only comparisons with this attribute decide the query, a tree descent and a walk over the page's keys. Otherwise the call walks
- * the index from the cursor and tests each node against the query, with one descent per node. Once fewer than about one node in 32
- * matches, it runs the whole query, with two descents for each node in the result, a sort, and memory for the keys. */
+ * BES_CLOSED the handle has no result.
+ * Cost: if comparisons on this attribute decide the whole query, a tree descent and a walk over the page's keys. Otherwise the call walks
+ * the index from the cursor and tests each node against the query, at one descent per node. Once fewer than about one node in 32 has
+ * matched, it runs the whole query instead, which costs two descents for each node in the result, a sort, and memory for the keys. */
 uint32_t bes_ordered(bes_pass *pass, bes_prepared *prepared, const bes_name *by, uint32_t descending, bes_cursor *cursor,
                      uint64_t *nodes, size_t nodes_room, uint64_t *count, uint32_t *more);
 
-/* Runs a prepared query in the pinned snapshot, and returns the first nodes of its result from a number on, ascending. To continue, call
- * again with the number after the last node. The handle keeps these nodes for bes_found.
+/* Runs a prepared query in the pinned snapshot, and returns the first nodes of its result that have a given number or a higher one, in
+ * ascending order. To continue, call again with the number after the last node. The handle keeps these nodes for bes_found.
  * [in] from      the number
  * [out] nodes    the nodes; at most nodes_room of them
  * [out] count    how many nodes were written. If that is less than nodes_room, there are no more.
- * Returns BES_CLOSED if pass or prepared is closed (pass is checked first), BES_NOT_PINNED, BES_NO_ROOM (nodes_room is 0),
- * BES_NOT_COVERED, BES_NO_MEMORY. After any error except BES_CLOSED the handle keeps no result.
+ * Returns BES_CLOSED if pass or prepared is closed (pass is checked first), BES_NOT_PINNED, BES_NO_ROOM (nodes_room is 0), BES_NOT_COVERED,
+ * BES_NO_MEMORY. After any error except BES_CLOSED the handle has no result.
  * Cost: as for bes_query_prepared. */
 uint32_t bes_first(bes_pass *pass, bes_prepared *prepared, uint64_t from, uint64_t *nodes, size_t nodes_room, uint64_t *count);
 
-/* Runs a prepared query in the pinned snapshot, and returns any nodes of its result, each at most once, in any order. The handle keeps
- * these nodes for bes_found. Different calls may return different nodes.
- * [out] nodes    the nodes; nodes_room of them, or all if there are fewer
- * [out] count    how many nodes were written Returns the errors that bes_first returns; the cost is the same. */
+/* Runs a prepared query in the pinned snapshot, and returns arbitrary nodes of its result, each at most once, in no particular order. The
+ * handle keeps these nodes for bes_found. Different calls may return different nodes.
+ * [out] nodes    the nodes; nodes_room of them, or all of them if there are fewer
+ * [out] count    how many nodes were written
+ * Errors and cost are as for bes_first. */
 uint32_t bes_any(bes_pass *pass, bes_prepared *prepared, uint64_t *nodes, size_t nodes_room, uint64_t *count);
 
-/* Refreshes a prepared query: runs it in the pinned snapshot, and compares the result with that of the last refresh, which is empty at
- * first. Until the next refresh the handle keeps the nodes that were added and removed, for bes_changes. Nodes are compared by number, so
- * a node that changed but is in both results isn't reported. Use passes of one store, or of another store to which its state was carried
- * on.
+/* Refreshes a prepared query: runs it in the pinned snapshot, and compares the result with that of the previous refresh, or with an empty
+ * result the first time. Until the next refresh the handle keeps the nodes that were added and removed, for bes_changes. Nodes are compared
+ * by number, so a node that changed but is in both results isn't reported. Always use passes of the same store, or of another store into
+ * which its state was copied.
  * [out] updates  how many nodes were added and how many were removed
  * Returns BES_CLOSED if pass or prepared is closed (pass is checked first), BES_NOT_PINNED, BES_NOT_COVERED, BES_NO_MEMORY. After an error
- * the query keeps its last result.
- * Cost: as for bes_query_prepared, and a walk over both results. Memory for the added and removed nodes. */
+ * the query keeps the result of its last refresh.
+ * Cost: as for bes_query_prepared; in addition, a walk over both results, and memory for the added and removed nodes. */
 uint32_t bes_refresh(bes_pass *pass, bes_prepared *prepared, bes_updates *updates);
 
-/* Like bes_refresh, but it reads the journal's entries since the last refresh, and checks only the nodes that these entries name. Use it
- * for a large result that changes little. It runs the whole query, as bes_refresh does, if the last result has fewer than 96 nodes,
- * another pass is writing, the snapshot is older than the last refresh's snapshot, an index was made or removed since then, or many nodes
- * were written: more than 4 plus one for each 32 nodes in the last result, or more than 64.
+/* Like bes_refresh, but reads the journal entries since the last refresh, and checks only the nodes that they name. Use it for a large
+ * result that changes little. It runs the whole query, as bes_refresh does, if the last result has fewer than 96 nodes, if another pass is
+ * writing, if the snapshot is older than that of the last refresh, if an index has been created or removed since then, or if many nodes
+ * have been written: more than 4 plus one for every 32 nodes in the last result, or more than 64.
  * [in,out] prepared  a query whose last refresh, if any, was in this store. The library can't check that: if it was in another store, the
  *                behaviour is undefined.
  * [out] updates  how many nodes were added and how many were removed
  * Returns BES_CLOSED if pass or prepared is closed (pass is checked first), BES_NOT_PINNED, BES_NOT_COVERED, BES_NO_MEMORY. After an error
  * the query keeps its last result.
- * Cost: a step for each entry since the last refresh, and a look-up for each comparison at each node that the entries name. The call holds
- * the writers' lock meanwhile, so writes by other passes return BES_BUSY. If it runs the whole query, as for bes_refresh. */
+ * Cost: one step for each entry since the last refresh, and one look-up for each comparison at each node that the entries name. The call
+ * holds the write lock, so writes by other passes return BES_BUSY while it runs. If it runs the whole query, the cost is as for
+ * bes_refresh. */
 uint32_t bes_refresh_changed(bes_pass *pass, bes_prepared *prepared, bes_updates *updates);
 
-/* Writes the nodes that the last refresh added and those that it removed, both ascending. Needs no pin.
+/* Writes the nodes that the last refresh added and those that it removed, both in ascending order. No pin is needed.
  * [out] created  the first added nodes; at most created_room
  * [out] removed  the first removed nodes; at most removed_room
  * BES_CLOSED.
  * Cost: the time to copy the nodes. */
 uint32_t bes_changes(bes_prepared *prepared, uint64_t *created, size_t created_room, uint64_t *removed, size_t removed_room);
 
-/* Explains a query: writes the comparisons whose indices the query reads, joined by " || ", and the cost, such as "size"<"0" score 3.
+/* Explains a query: writes the comparisons for which it reads an index, joined by " || ", and its cost, such as "size"<"0" score 3.
  * [out] bytes    the first bytes of the explanation; at most bytes_room. No zero byte follows them.
  * [out] count    how many bytes the explanation has
  * Returns the errors that bes_query returns.
- * Cost: the time to parse the query, and to find the indices of its names. Memory for the plan and the text. No node is read. */
+ * Cost: the time to parse the query and find the indices of its names; memory for the plan and the text. No node is read. */
 uint32_t bes_explain(bes_pass *pass, const uint8_t *text, size_t text_length, uint8_t *bytes, size_t bytes_room, uint64_t *count);
 
-/* Lists the pinned snapshot's nodes from a number on, ascending, whatever attributes they have.
+/* Lists the pinned snapshot's nodes, in ascending order from a given number on, whether or not they have attributes.
  * [in] from      the number
  * [out] nodes    the nodes; at most nodes_room of them
  * [out] count    how many nodes were written. If that is less than nodes_room, there are no more; otherwise continue from the number after
  * the last node.
  * BES_CLOSED, BES_NOT_PINNED, BES_NO_MEMORY.
- * Cost: one tree descent, a step for each node and for each of its attributes, and memory for the list. */
+ * Cost: one tree descent, one step for each node and for each of its attributes, and memory for the list. */
 uint32_t bes_nodes(bes_pass *pass, uint64_t from, uint64_t *nodes, size_t nodes_room, uint64_t *count);
 
 /* Reads a node's attribute in the pinned snapshot.
@@ -672,41 +676,41 @@ uint32_t bes_nodes(bes_pass *pass, uint64_t from, uint64_t *nodes, size_t nodes_
  * [out] attribute  its type code, number and length
  * [out] bytes    the first bytes of a text or raw value; at most bytes_room, and 255 suffice
  * BES_CLOSED, BES_NOT_UTF8, BES_NAME_LENGTH, BES_HAS_NUL, BES_NOT_PINNED, BES_NO_ATTRIBUTE (also if there is no such node).
- * Cost: one descent of a tree. */
+ * Cost: one tree descent. */
 uint32_t bes_get(bes_pass *pass, uint64_t node, const uint8_t *name, size_t name_length, bes_attribute *attribute,
                  uint8_t *bytes, size_t bytes_room);
 
-/* Checks a name once, for bes_get_named and bes_columns. Needs no pass.
+/* Checks a name once, for use in bes_get_named, bes_columns and bes_ordered. No pass is needed.
  * [in] name      the name, name_length bytes
  * [out] checked  the name. After an error it is unchanged.
  * BES_NOT_UTF8, BES_NAME_LENGTH, BES_HAS_NUL.
  * Cost: the time to read the name. */
 uint32_t bes_check_name(const uint8_t *name, size_t name_length, bes_name *checked);
 
-/* Reads a node's attribute in the pinned snapshot, as bes_get does, with a name from bes_check_name.
+/* Reads a node's attribute in the pinned snapshot, like bes_get, but with a name from bes_check_name.
  * [in] name      the name
  * [out] attribute  its type code, number and length
  * [out] bytes    the first bytes of a text or raw value; at most bytes_room, and 255 suffice
  * BES_CLOSED, BES_NOT_PINNED, BES_NO_ATTRIBUTE (also if there is no such node).
- * Cost: one descent of a tree. */
+ * Cost: one tree descent. */
 uint32_t bes_get_named(bes_pass *pass, uint64_t node, const bes_name *name, bes_attribute *attribute, uint8_t *bytes,
                        size_t bytes_room);
 
-/* Reads attributes of many nodes in the pinned snapshot: for each node, the value of each named attribute. The bytes of all texts and raw
- * values are written one after another, in the order of the cells.
- * [in] nodes     the nodes, nodes_count of them, in any order
- * [in] names     the names, names_count of them. Ascending byte order costs least.
- * [out] cells    the cells of the first node, one for each name, then those of the second, and so on; at most cells_room. A missing node
- *                or attribute isn't an error of the call: its cell has the error's number.
+/* Reads attributes of many nodes in the pinned snapshot: for each node, the value of each named attribute. The bytes of all text and raw
+ * values are written one after another, in the order of their cells.
+ * [in] nodes     an array of nodes_count nodes, in any order
+ * [in] names     an array of names_count names. Ascending byte order is the fastest.
+ * [out] cells    the cells of the first node, one for each name, then those of the second node, and so on; at most cells_room. If a node or
+ *                attribute is missing, the call still succeeds, and the cell has the error number.
  * [out] bytes    the first bytes; at most bytes_room
- * [out] bytes_count  how many bytes there are; if that is more than bytes_room, call again with a larger array
- * BES_CLOSED, BES_NOT_PINNED, BES_BAD_COUNT (more than 2^32 cells). After an error cells and bytes are unchanged, and bytes_count is 0.
- * Cost: one tree descent for a node whose named attributes follow one another; one more descent for each name that the node lacks, and for
- * each named attribute that another attribute follows. No memory. */
+ * [out] bytes_count  how many bytes there are; if there are more than bytes_room, call again with a larger array
+ * BES_CLOSED, BES_NOT_PINNED, BES_BAD_COUNT (more than 2^32 cells). After an error, cells and bytes are unchanged, and bytes_count is 0.
+ * Cost: one tree descent for a node whose named attributes are adjacent; one more descent for each name that the node lacks, and for each
+ * named attribute that is followed by another attribute. No memory. */
 uint32_t bes_columns(bes_pass *pass, const uint64_t *nodes, size_t nodes_count, const bes_name *names, size_t names_count,
                      bes_cell *cells, size_t cells_room, uint8_t *bytes, size_t bytes_room, uint64_t *bytes_count);
 
-/* Lists a node's attributes in the pinned snapshot, in ascending order of names, as the operations that set them.
+/* Lists a node's attributes in the pinned snapshot, in ascending order of their names, as the operations that would set them.
  * [out] counts   how many operations and bytes there are; if they don't fit, call again with larger arrays
  * [out] operations  the first operations; at most operations_room, and 64 suffice
  * [out] bytes    the first of the bytes that contain their names and values; at most bytes_room, and 64 * (63 + 255) suffice
@@ -715,86 +719,86 @@ uint32_t bes_columns(bes_pass *pass, const uint64_t *nodes, size_t nodes_count, 
 uint32_t bes_attributes(bes_pass *pass, uint64_t node, bes_counts *counts, bes_operation *operations, size_t operations_room,
                         uint8_t *bytes, size_t bytes_room);
 
-/* Lists the pinned snapshot's indices, in ascending order of names, as the operations that make them. Parameters are as in bes_attributes;
- * 32 operations and 32 * 63 bytes suffice.
+/* Lists the pinned snapshot's indices, in ascending order of their names, as the operations that would create them. The parameters are as
+ * for bes_attributes; 32 operations and 32 * 63 bytes suffice.
  * BES_CLOSED, BES_NOT_PINNED, BES_NO_MEMORY.
- * Cost: a look at one page, and memory for the list. */
+ * Cost: one page read, and memory for the list. */
 uint32_t bes_indices(bes_pass *pass, bes_counts *counts, bes_operation *operations, size_t operations_room, uint8_t *bytes,
                      size_t bytes_room);
 
-/* Lists the next operations that rebuild the pinned snapshot on an empty store: its next node number, its nodes with their attributes, its
- * indices with their entries. Each list is a batch for bes_apply. An empty list is the end.
- * [in,out] place where the list begins; a closed place begins at the first operation, and is opened. A place belongs to one pin: for
- *                another pin use another place. If a list didn't fit, the next call returns the same list again; otherwise it returns the
- *                next list.
- * [out] counts, operations, bytes  as in bes_attributes; 64 operations and 64 * (63 + 255) bytes suffice
- * Returns BES_CLOSED if pass is closed, BES_NO_MEMORY, BES_NOT_PINNED. After an error nothing is skipped; the place may have been opened.
- * Cost: a walk over the attributes of each node in the list, and two tree descents for each attribute. Memory for the list, the operations
- * of one node, and the place, until bes_leave. */
+/* Lists the next of the operations that rebuild the pinned snapshot in an empty store: its next node number, its nodes with their
+ * attributes, and its indices with their entries. Each list is a batch for bes_apply. An empty list means that the snapshot is complete.
+ * [in,out] place where the list begins. A closed place is opened, at the first operation. A place belongs to one pin; use a new place for
+ *                another pin. If a list didn't fit, the next call returns it again; otherwise the next call returns the next list.
+ * [out] counts, operations, bytes  as for bes_attributes; 64 operations and 64 * (63 + 255) bytes suffice
+ * Returns BES_CLOSED if pass is closed, BES_NO_MEMORY, BES_NOT_PINNED. After an error nothing is skipped, but the place may have been
+ * opened.
+ * Cost: for each node in the list, a walk over its attributes and two tree descents for each of them. Memory for the list, for the
+ * operations of one node, and, until bes_leave, for the place. */
 uint32_t bes_state(bes_pass *pass, bes_place *place, bes_counts *counts, bes_operation *operations, size_t operations_room,
                    uint8_t *bytes, size_t bytes_room);
 
-/* Closes the place and frees its memory. If you use the place again, reading starts at the first operation. BES_CLOSED. */
+/* Closes a place and frees its memory. If you use the place again, it starts at the first operation. BES_CLOSED. */
 uint32_t bes_leave(bes_place *place);
 
-/* Moves a place into other, and closes its handle.
+/* Moves a place into other, and closes the original handle.
  * [out] other    a closed handle, which is opened
  * Returns BES_CLOSED if place is closed, BES_OPEN if other is open. */
 uint32_t bes_move_place(bes_place *place, bes_place *other);
 
-/* Writes the journal as text, whether the pass is pinned or not. Each transaction has a line, such as 2 by 0 set 1 "size" LONG 5 -> ok:
- * its commit number, the pass that wrote it, its operations and their outcomes. The journal only grows, so a later call's text begins with
- * this text.
+/* Writes the journal as text, whether the pass is pinned or not. Each transaction takes one line, such as 2 by 0 set 1 "size" LONG 5 -> ok:
+ * its commit number, the pass that wrote it, and its operations with their outcomes. The journal only grows, so the text that a later call
+ * writes begins with this one.
  * [out] bytes    the first bytes of the text; at most bytes_room. No zero byte follows them.
  * [out] count    how many bytes the text has
  * BES_CLOSED. BES_BUSY: another pass is writing, and count is that pass. BES_NO_MEMORY.
- * Cost: time and memory for the whole text. Meanwhile writes by other passes return BES_BUSY. */
+ * Cost: time and memory for the whole text. Writes by other passes return BES_BUSY while the call runs. */
 uint32_t bes_journal(bes_pass *pass, uint8_t *bytes, size_t bytes_room, uint64_t *count);
 
-/* Reads one entry of the journal, whether the pass is pinned or not. The entry is a batch in the form that bes_apply takes; for
- * BES_NEW_NODE, node is the node that the operation made. bes_batch_entry calls this function.
- * [in] from      the entry's index, from 0: the entry with commit number from + 1
+/* Reads one entry of the journal, whether the pass is pinned or not. The entry is a batch in the form that bes_apply takes; in a
+ * BES_NEW_NODE operation, node is the node that it created. bes_batch_entry calls this function.
+ * [in] from      the entry's index, counting from 0: the entry has the commit number from + 1
  * [out] by       the number of the pass that wrote the entry
- * [out] counts   how many operations and bytes the entry has; 0 operations if from is not less than the journal's length
- * [out] operations, bytes  as in bes_attributes
+ * [out] counts   how many operations and bytes the entry has; 0 operations if from isn't less than the journal's length
+ * [out] operations, bytes  as for bes_attributes
  * [out] number   the journal's length
  * BES_CLOSED. BES_BUSY: another pass is writing, and number is that pass. BES_NO_MEMORY.
- * Cost: time and memory for the entry. Meanwhile writes by other passes return BES_BUSY. */
+ * Cost: time and memory for the entry. Writes by other passes return BES_BUSY while the call runs. */
 uint32_t bes_journal_from(bes_pass *pass, uint64_t from, uint64_t *by, bes_counts *counts, bes_operation *operations,
                           size_t operations_room, uint8_t *bytes, size_t bytes_room, uint64_t *number);
 
-/* Writes how full the store is and which pass holds the oldest version, whether the pass is pinned or not. It first frees the pages that
- * no pass may read. So a program can see BES_FULL and BES_COMMITS_SPENT coming, and which pass's pin holds pages.
+/* Writes how full the store is and which pass holds its oldest version, whether the calling pass is pinned or not. It first frees the pages
+ * that no pass can read. Use it to see BES_FULL and BES_COMMITS_SPENT coming, and to find the pass whose pin holds pages.
  * [out] usage    the figures
  * [out] number   0
  * BES_CLOSED. BES_BUSY: another pass is writing, and number is that pass.
- * Cost: a look at each pass and each page. Meanwhile writes by other passes return BES_BUSY. */
+ * Cost: a check of each pass and each page. Writes by other passes return BES_BUSY while the call runs. */
 uint32_t bes_status(bes_pass *pass, bes_usage *usage, uint64_t *number);
 
-/* Calls on a query's text: these list its comparisons, and escape texts for use in a query. They take no pass, and any thread may make
+/* Calls on text: they list the comparisons in a query, and escape strings for use in a query. They take no pass, and any thread may make
  * them.
  *
- * A comparison in a query's text. Offsets are in bytes: in the text, or in the bytes that bes_query_comparisons writes. */
+ * A comparison in a query's text. Offsets count bytes, either in the text or in the bytes that bes_query_comparisons writes. */
 typedef struct bes_compared {
-    uint64_t at;             /* the comparison in the text: from its name */
-    uint64_t end;            /* to the byte after its value */
-    uint64_t name_at;        /* the name in the text, without its quotes and with its backslashes */
+    uint64_t at;             /* the comparison in the text: where its name begins */
+    uint64_t end;            /* the byte after its value */
+    uint64_t name_at;        /* the name in the text, without its quotes but with its backslashes */
     uint64_t name_end;
     uint64_t value_at;       /* the value in the text, likewise */
     uint64_t value_end;
     uint64_t plain_name_at;  /* the name in the bytes, without backslashes; it ends where the plain value begins */
     uint64_t plain_value_at; /* the value in the bytes, without backslashes; for a pattern, its canonical text */
     uint64_t plain_end;
-    uint32_t kind;           /* BES_ITEM_EQ .. BES_ITEM_GE, with each ! around the comparison applied */
-    uint32_t kind_in_text;   /* the same, as written in the text; different from kind inside an odd number of ! */
+    uint32_t kind;           /* BES_ITEM_EQ .. BES_ITEM_GE, after applying every ! around the comparison */
+    uint32_t kind_in_text;   /* the operator as written in the text; it differs from kind inside an odd number of ! */
     uint32_t form;           /* a bes_form */
-    bool is_never_int32;     /* whether no value in an index of this kind makes the comparison true */
+    bool is_never_int32;     /* whether the comparison is false for every value in an index of this kind */
     bool is_never_int64;
     bool is_never_uint32;
     bool is_never_uint64;
 } bes_compared;
 
-/* What the value of a comparison is. */
+/* The form of a comparison's value. */
 enum bes_form {
     /* surface.toml: forms */
     BES_FORM_TEXT = 0,
@@ -803,35 +807,35 @@ enum bes_form {
     /* surface.toml: end */
 };
 
-/* Lists the comparisons in a query's text, from left to right, up to 256.
- * [out] counts   how many comparisons there are, in counts->operations, and how many bytes
+/* Lists the comparisons in a query's text, up to 256, from left to right.
+ * [out] counts   how many comparisons there are (in counts->operations), and how many bytes
  * [out] compared the first comparisons; at most compared_room
- * [out] bytes    the first of the bytes with plain names and values; at most bytes_room. 64 bytes for each comparison and 4 for
- *                each byte of the text suffice
- * [out] place    after an error in the text, the byte offset of the error, as in bes_prepare; otherwise 0
- * BES_NOT_UTF8, and the errors for a text that isn't a query, as in bes_query: BES_TOO_LONG, BES_SYNTAX, BES_BAD_PATTERN, BES_TOO_MANY,
+ * [out] bytes    the first of the bytes with plain names and values; at most bytes_room. 64 bytes for each comparison and 4 for each byte
+ *                of the text are enough
+ * [out] place    after an error in the text, its byte offset, as in bes_prepare; otherwise 0
+ * BES_NOT_UTF8, and as for bes_query, the errors for text that isn't a query: BES_TOO_LONG, BES_SYNTAX, BES_BAD_PATTERN, BES_TOO_MANY,
  * BES_TOO_DEEP. BES_NO_MEMORY. After an error, counts, compared and bytes are unchanged.
  * Cost: the time to parse the text twice, and memory for the query and the list. */
 uint32_t bes_query_comparisons(const uint8_t *text, size_t text_length, bes_counts *counts, bes_compared *compared,
                                size_t compared_room, uint8_t *bytes, size_t bytes_room, uint64_t *place);
 
-/* Escapes a text so that a query reads it literally: as a name, as a value, or as part of a pattern, in quotes of either kind or, unless
- * the text is empty, without quotes. bes_escape calls this function.
- * [out] bytes    the first bytes; at most bytes_room. No zero byte follows them. Twice the text's length suffices
+/* Escapes a string so that a query reads it literally: as a name, as a value or as part of a pattern, and inside either kind of quotes or,
+ * unless the string is empty, without quotes. bes_escape calls this function.
+ * [out] bytes    the first bytes; at most bytes_room. No zero byte follows them. Twice the string's length is enough
  * [out] count    how many bytes there are; 0 after an error
- * BES_NOT_UTF8, BES_NO_MEMORY. No query can contain a text with a zero byte. */
+ * BES_NOT_UTF8, BES_NO_MEMORY. A string with a zero byte can't be used in any query. */
 uint32_t bes_escape_bytes(const uint8_t *text, size_t text_length, uint8_t *bytes, size_t bytes_room, uint64_t *count);
 
-/* Writes a pattern, for == and !=, that matches exactly the texts that equal this one by Unicode's simple case folding, character by
- * character: draft becomes [dD][rR][aA][fF][tT]. You can use the pattern wherever you can use a text from bes_escape_bytes. bes_any_case
- * calls this function.
- * [out] bytes, count  as in bes_escape_bytes. 12 times the text's length suffices
+/* Writes a pattern, for == and !=, that matches exactly the strings that are equal to this one, character by character, under Unicode
+ * simple case folding: draft becomes [dD][rR][aA][fF][tT]. You can use the pattern wherever you can use a string from bes_escape_bytes.
+ * bes_any_case calls this function.
+ * [out] bytes, count  as for bes_escape_bytes. 12 times the string's length is enough
  * BES_NOT_UTF8, BES_NO_MEMORY.
- * Cost: a search in a table of 3,134 pairs for each character. */
+ * Cost: for each character, a search in a table of 3,134 pairs. */
 uint32_t bes_any_case_bytes(const uint8_t *text, size_t text_length, uint8_t *bytes, size_t bytes_room, uint64_t *count);
 
-/* Returns the version of the running library. BES_VERSION_NUMBER is this header's version; a program that loads the library at startup
- * compares the two. */
+/* Returns the version of the running library. BES_VERSION_NUMBER is the version of this header; a program that loads the library at startup
+ * can compare the two. */
 uint32_t bes_version(void);
 
 #ifdef __cplusplus

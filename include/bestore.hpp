@@ -1,4 +1,4 @@
-// bestore for C++17: the calls of bestore.h as objects that close themselves. Link as bestore.h says, with -lpthread.
+// bestore for C++17: the calls of bestore.h as objects that close themselves. Link as described in bestore.h, with -lpthread.
 //
 //     bestore::Store store;
 //     store.make_index("MAIL:from", bestore::Kind::string);
@@ -9,10 +9,10 @@
 //     for (bestore::Node found : pin.query("MAIL:from==ann"))
 //         std::cout << found << '\n';
 //
-// What bestore.h says about each call also holds here: its errors, its cost and its rules for threads. If a C call returns an error, the
-// C++ call throws a Refusal, which carries the number that comes with the error. Then nothing has changed. Store, Pass, Pin, State,
-// Prepared, Live and Witness can be moved but not copied. Destroy a Pin before its pass, and a State before its Pin; you may move the pass
-// meanwhile. Give each thread its own Pass, and make one call at a time on an object. In a forked child the parent's objects are dead:
+// What bestore.h says about a call's errors, cost and threading rules applies here too. If a C function returns an error, the C++ call
+// throws a Refusal, which carries the number that comes with the error, and has changed nothing. Store, Pass, Pin, State, Prepared, Live
+// and Witness are movable but not copyable. Destroy a Pin before its pass, and a State before its Pin; in the meantime the pass may be
+// moved. Give each thread its own Pass, and make only one call at a time on an object. In a forked child the parent's objects are dead:
 // their calls throw BES_CLOSED, and their destructors do nothing.
 #ifndef BESTORE_HPP
 #define BESTORE_HPP
@@ -23,8 +23,8 @@
 
 namespace bestore {
 
-// What Pass::change passes to its function: a pinned snapshot, and up to 64 operations for the transaction that will follow it. get() sees
-// what the change has set and removed so far; all other calls read only the snapshot. A call that throws adds no operation.
+// The argument of the function that Pass::change runs: a pinned snapshot, and up to 64 operations for the next transaction. get() sees what
+// the change has set and removed so far; all other calls read only the snapshot. A call that throws adds no operation.
 class Change : public Snapshot, public detail::Writes<Change> {
 public:
     Change(const Change &) = delete;
@@ -36,18 +36,18 @@ public:
             bes_abandon_change(handle(), &draft_);
     }
 
-    // Makes a node, and returns its number.
+    // Creates a node and returns its number.
     Node create() { return add({BES_NEW_NODE}); }
 
-    // Lets the change take values of any kind from now on. Before this call, setting a value whose kind the index with its name doesn't
-    // take throws KindMismatch.
+    // Makes the change accept values of any kind from now on. Before this call, setting a value throws KindMismatch if its name has an
+    // index of another kind.
     Change &any_kind() noexcept
     {
         bes_change_any_kind(&draft_);
         return *this;
     }
 
-    // Returns the operations so far. To see operations that are added later, call it again.
+    // Returns the operations added so far. Call it again to see operations added later.
     const Batch &batch() const
     {
         detail::check(batch_.read([&](auto... room) { return bes_change_batch(&draft_, room...); }));
@@ -72,7 +72,7 @@ private:
         return *this;
     }
 
-    // Adds an operation. Returns the node that the operation makes, or 0.
+    // Adds an operation. Returns the node that the operation creates, or 0.
     Node add(const detail::Edit &edit)
     {
         std::uint64_t made = 0;
@@ -89,8 +89,8 @@ private:
         return made;
     }
 
-    // Writes the operations if no other transaction came after the snapshot, and unpins. Returns the error, and the commit number or
-    // the error's number.
+    // Writes the operations if no other transaction has been committed since the snapshot, and unpins. Returns the error, together with the
+    // commit number or the number that comes with the error.
     std::uint32_t commit(std::uint64_t *number)
     {
         const auto error = bes_end_change(handle(), &draft_, number);
@@ -99,28 +99,28 @@ private:
     }
 
     mutable bes_draft draft_ = BES_DRAFT_INIT;
-    mutable Batch batch_; // what batch() has read
-    std::string parts_;   // of an operation: its name and its value
+    mutable Batch batch_; // the operations that batch() last returned
+    std::string parts_;   // an operation's name and value
     Node next_ = 0;       // the number of the first new node
     std::uint64_t size_ = 0;
 };
 
-// What Pass::change returns if its function has a result: the commit number and the result.
+// The return value of Pass::change if its function has a result: the commit number and the result.
 template <class T> struct Changed {
     std::uint64_t number;
     T value;
 };
 
-// An entry of the journal: its commit number, the pass that wrote it, and its operations. Each new_node operation has the node that it
-// made.
+// An entry of the journal: its commit number, the pass that wrote it, and its operations. Each new_node operation contains the node that it
+// created.
 struct Entry {
     std::uint64_t number;
     std::uint64_t pass;
     Batch batch;
 };
 
-// The entries of the journal from an index on, up to the journal's end when the loop gets there. Iterate over the entries once, while the
-// pass is open. A later loop continues with the entries that have been written since.
+// The entries of the journal, from a given index to wherever the journal ends when the loop gets there. Iterate over them only while the
+// pass is open. Each entry is returned once: a later loop continues with the entries written since.
 class Entries {
 public:
     using Iterator = detail::Iterator<Entries, Entry>;
@@ -155,31 +155,31 @@ private:
     Entry item_;
 };
 
-// How full a store is.
+// A store's usage.
 struct Status {
-    // The oldest version that a pass has published, and the lowest-numbered pass that has published it. This pass is, or soon will be,
+    // The oldest version that any pass has published, and the lowest-numbered pass that has published it. That pass is, or soon will be,
     // pinned to that version or a later one.
     struct Held {
         std::uint64_t version;
         std::uint64_t pass_number;
     };
 
-    std::uint64_t pages;        // all pages
-    std::uint64_t free;         // pages that a write may take
-    std::uint64_t retired;      // pages of older versions, which wait until no pass may read them
+    std::uint64_t pages;        // the total number of pages
+    std::uint64_t free;         // pages available to writes
+    std::uint64_t retired;      // pages of older versions, kept until no pass can read them any more
     std::uint64_t entries;      // how many transactions the journal has
-    std::uint64_t commits;      // how many it may have
+    std::uint64_t commits;      // how many it can have
     std::optional<Held> oldest; // empty if no pass has published a version
 };
 
-// A session: one thread's handle on a store.
+// A session: one thread's handle to a store.
 class Pass : public detail::Writes<Pass> {
 public:
-    // Returns the pass's number, which the journal and errors use.
+    // Returns the pass's number, by which the journal and errors refer to it.
     std::uint64_t number() const { return detail::number_from(bes_number, handle()); }
 
-    // Returns a pass of the same store, for another thread. Unused passes stay with the Store; any pass can hand out a pass that was
-    // closed.
+    // Returns a pass of the same store, for another thread. Only the Store hands out passes that have never been used; any pass can hand
+    // out one that was closed.
     Pass another()
     {
         Pass other(store_);
@@ -187,7 +187,7 @@ public:
         return other;
     }
 
-    // Meets a pass that was closed: afterwards both have seen what either had seen. Returns how many transactions both have seen.
+    // Meets a pass that was closed: afterwards both have seen what either had seen. Returns how many transactions that is.
     std::uint64_t meet() { return detail::number_from(bes_meet, handle()); }
 
     // Returns a witness that records all transactions that the pass has seen so far, including its own. Move the witness to another
@@ -199,9 +199,9 @@ public:
         return witness;
     }
 
-    // Joins a witness: afterwards the pass and the witness have both seen what either had seen. So each later snapshot of the pass
-    // includes everything that the witness's pass had seen, and each later commit number of the pass is greater than the commit numbers of
-    // those transactions. Returns how many transactions both have seen. Throws std::invalid_argument if the witness is from another store.
+    // Joins a witness: afterwards the pass and the witness have both seen what either had seen. So each later snapshot of the pass includes
+    // everything that the witness had seen, and each transaction that the pass commits later has a higher number than all of those. Returns
+    // how many transactions both have now seen. Throws std::invalid_argument if the witness is from another store.
     std::uint64_t join(Witness &witness)
     {
         if (witness.store_ != store_)
@@ -210,9 +210,9 @@ public:
     }
 
     // Reads and writes atomically. Pins the current snapshot, runs f on a Change, and writes the Change's operations as one transaction if
-    // no other transaction was committed in between. Otherwise, or if the store is busy, or full while bes_again waits, it unpins and runs
-    // f again on a new snapshot. So f may run several times, up to `attempts`, and must have no effects other than on its Change and its
-    // result.
+    // no other transaction has been committed in the meantime. If one has, or if the store is busy, or is full and bes_again still waits
+    // for room, it unpins and runs f again on a new snapshot. So f may run up to `attempts` times, and its only effects must be on its
+    // Change and its result.
     //
     //     const auto [number, letter] = store.change([](bestore::Change &change) {
     //         const auto letter = change.create();
@@ -220,9 +220,9 @@ public:
     //         return letter;
     //     });
     //
-    // Returns the commit number, or a Changed with the commit number and f's result. Without operations it writes nothing, and the number
-    // is the snapshot's. Throws BES_CONFLICT if another transaction was committed in between at the last attempt. An exception from f ends
-    // the change.
+    // Returns the commit number, or a Changed with the commit number and f's result. If there are no operations, nothing is written, and
+    // the number is the snapshot's. Throws BES_CONFLICT if another transaction committed first on the last attempt. An exception from f
+    // ends the change.
     template <class F> auto change(F &&f, std::uint32_t attempts = BES_TRIES)
     {
         using Result = std::invoke_result_t<F &, Change &>;
@@ -244,13 +244,13 @@ public:
         }
     }
 
-    // Writes all operations or none. Like bes_apply_or_retry, makes up to `tries` tries, and at least one.
+    // Writes either all operations or none. Like bes_apply_or_retry, it makes up to `tries` tries, and at least one.
     Written apply(const Batch &batch, std::uint32_t tries = BES_TRIES)
     {
         return written(batch, tries, [&](auto... list) { return bes_apply(handle(), list...); });
     }
 
-    // Like apply, if the journal has exactly `expected` entries; otherwise throws BES_CONFLICT.
+    // Like apply, but throws BES_CONFLICT unless the journal has exactly `expected` entries.
     Written apply_if(std::uint64_t expected, const Batch &batch, std::uint32_t tries = BES_TRIES)
     {
         return written(batch, tries, [&](auto... list) { return bes_apply_if(handle(), expected, list...); });
@@ -259,7 +259,7 @@ public:
     // Makes a node.
     Node new_node() { return apply(Batch().new_node()).made.front(); }
 
-    // Makes 1 to 64 nodes in one write. No other pass gets these numbers, so later batches may name them.
+    // Creates 1 to 64 nodes in one write. No other pass gets the same numbers, so later batches may refer to these nodes.
     std::vector<Node> new_nodes(std::size_t count)
     {
         Batch batch;
@@ -268,8 +268,8 @@ public:
         return apply(batch).made;
     }
 
-    // Sets each attribute with this name again, if its value has the index's kind, as bes_reindex does. The index then also holds the
-    // attributes that were set before the index was made. Returns how many attributes were set.
+    // Sets every attribute of this name again if its value is of the index's kind, as bes_reindex does. The index then also holds the
+    // attributes that were set before it was created. Returns how many attributes were set.
     std::uint64_t reindex(std::string_view name, std::uint32_t attempts = BES_TRIES)
     {
         return detail::number_from(bes_reindex, handle(), std::string(name).c_str(), attempts);
@@ -279,7 +279,7 @@ public:
         return reindex(attribute.name(), attempts);
     }
 
-    // Returns the journal so far, with a line for each transaction.
+    // Returns the journal so far, one line per transaction.
     std::string journal(std::uint32_t tries = BES_TRIES)
     {
         return detail::whole<std::string>(1 << 16, detail::Place::none, [&](char *text, std::size_t room, std::uint64_t *count) {
@@ -289,8 +289,8 @@ public:
         });
     }
 
-    // Closes the store through its last pass, which is then closed, and returns the whole journal as text. Throws BES_IN_USE if another
-    // pass is open; then this pass is unchanged.
+    // Closes this pass, which must be the store's last, together with the store, and returns the whole journal as text. If another pass is
+    // open, throws BES_IN_USE and leaves this pass unchanged.
     std::string finish()
     {
         return detail::whole<std::string>(1 << 16, detail::Place::none, [&](char *text, std::size_t room, std::uint64_t *count) {
@@ -298,13 +298,13 @@ public:
         });
     }
 
-    // Returns the entries of the journal from an index on. The entry with commit number 1 has index 0.
+    // Returns the entries of the journal from an index on. The entry with commit number 1 is at index 0.
     //
     //     for (const bestore::Entry &entry : pass.journal_from(seen))
     //         for (const bestore::Operation &operation : entry.batch.operations())
     [[nodiscard]] Entries journal_from(std::uint64_t from = 0) { return Entries(handle(), from); }
 
-    // Returns how full the store is, and which pass holds the oldest version.
+    // Returns how full the store is and which pass holds its oldest version.
     Status status(std::uint32_t tries = BES_TRIES)
     {
         bes_usage usage{};
@@ -317,7 +317,7 @@ public:
         return status;
     }
 
-    // Pins the current snapshot. A pass has one pin at a time.
+    // Pins the current snapshot. A pass can have only one pin at a time.
     [[nodiscard]] Pin pin() & { return Pin(handle(), store_); }
 
     // Closes the pass, as the destructor does: the pass goes back to the store, and `another` may hand it out again.
@@ -350,8 +350,8 @@ private:
         return written;
     }
 
-    // Returns the commit number if the change was written. Returns nothing if the change has to run again; then the pass has already stood
-    // back.
+    // Returns the commit number if the change was written, or nothing if the change has to be run again; in that case bes_stand_back has
+    // already been called.
     std::optional<std::uint64_t> committed(Change &change, bes_retry &retry)
     {
         std::uint64_t number = 0;
@@ -368,24 +368,24 @@ private:
     }
 
     detail::Handle<bes_pass, bes_close> handle_;
-    std::uint64_t store_; // which store it belongs to
+    std::uint64_t store_; // the number of its store
 };
 
 namespace detail {
 
-// How many stores this process has made.
+// How many stores this process has opened.
 inline std::atomic<std::uint64_t> stores{0};
 
 } // namespace detail
 
-// How large a store may grow.
+// A store's limits.
 struct Limits {
-    std::uint64_t pages = 4096;         // of 4 KiB, all allocated at the start: 8 to 16,384
-    std::uint64_t passes = 63;          // 1 to 64. Each takes about 90 bytes, and adds 13 instructions to a write's 12,000 or so
-    std::uint64_t commits = UINT32_MAX; // transactions: 1 to 2^32 - 1
+    std::uint64_t pages = 4096;         // 8 to 16,384 pages of 4 KiB, all allocated at the start
+    std::uint64_t passes = 63;          // 1 to 64. Each takes about 90 bytes, and adds 13 instructions to the 12,000 or so of a write
+    std::uint64_t commits = UINT32_MAX; // 1 to 2^32 - 1 transactions
 };
 
-// A new store, as its first pass. Closing the last pass frees the store.
+// A new store, which is also its first pass. Closing the last pass frees the store.
 class Store : public Pass {
 public:
     explicit Store(const Limits &limits = {}) : Pass(detail::stores++)
@@ -398,7 +398,7 @@ inline Updates Live::refresh(Snapshot &snapshot) { return refreshed(snapshot, be
 
 inline Updates Live::refresh_changed(Snapshot &snapshot)
 {
-    // The library requires the last refresh to have been in this store, and can't check that.
+    // The last refresh must have been in this store; the library can't check that.
     return refreshed(snapshot, store_ == snapshot.store_ ? bes_refresh_changed : bes_refresh);
 }
 

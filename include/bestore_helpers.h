@@ -1,8 +1,8 @@
-/* Helpers over the calls of bestore.h. Include bestore.h, which includes this file.
+/* Helpers built on the calls in bestore.h. Include bestore.h, which includes this file.
  *
- * Helpers that have a body here are inline functions. The others are in libbestore, in plain C next to the proved calls. If a helper's
- * comment names no errors, the helper returns the errors of the call that it makes. Names that end with _ are only for these headers. */
-#include "bestore.h" /* which includes this file again; then the rest is skipped here */
+ * Helpers whose bodies are here are inline functions. The others are plain C functions in libbestore, next to the proved calls. A helper
+ * whose comment lists no errors returns the errors of the call that it makes. Names that end with _ are internal to these headers. */
+#include "bestore.h" /* bestore.h includes this file again, and the second inclusion is skipped */
 
 #ifndef BESTORE_HELPERS_H
 #define BESTORE_HELPERS_H
@@ -15,20 +15,21 @@
 extern "C" {
 #endif
 
-/* Returns what an error means, and what would be right, in English. */
+/* Returns a description of an error, in English, with a hint on how to fix it. */
 const char *bes_strerror(uint32_t error);
 
 /* Returns an error's name, such as "BES_BUSY", or "BES_?" for an unknown number. */
 const char *bes_error_name(uint32_t error);
 
 /* Returns what a program can do about an error: BES_CLASS_RETRY, BES_CLASS_MINE, BES_CLASS_FULL or BES_CLASS_GONE. For BES_OK it returns
- * BES_CLASS_NONE. For an unknown number it returns BES_CLASS_MINE: it is assumed that the same call won't succeed later. */
+ * BES_CLASS_NONE; for an unknown number it returns BES_CLASS_MINE, on the assumption that repeating the call won't help. */
 uint32_t bes_class(uint32_t error);
 
-/* Returns whether values with this type code are integers. */
+/* Returns whether this type code is that of an integer kind. */
 bool bes_is_number_code(uint32_t code);
 
-/* Clears a handle in a forked child and frees nothing. The copy of the parent's store takes memory until the child ends or calls exec. */
+/* Clears a handle in a forked child without freeing anything. The copy of the parent's store occupies memory until the child exits or calls
+ * exec. */
 static inline void bes_forget(bes_pass *pass)
 {
     pass->live = false;
@@ -63,10 +64,10 @@ static inline void bes_forget_draft(bes_draft *draft)
     draft->at = NULL;
 }
 
-/* A batch with space for 64 operations of any kind. Initialise it with BES_BATCH_INIT, which sets all its 23 KB to zero, or with
- * bes_batch_clear, which sets two words. Fill the batch with the helpers below, apply it, and clear it for the next batch.
- * BES_BAD_COUNT: the batch has 64 operations. BES_NAME_LENGTH: the name has more than 63 bytes. BES_DATA_LENGTH: the value has more than
- * 255. After an error the batch is unchanged. Any other error comes when the batch is applied. */
+/* A batch with room for any 64 operations. Initialise it with BES_BATCH_INIT, which sets all 23 KB of it to zero, or with bes_batch_clear,
+ * which sets only two words. Fill it with the helpers below, apply it, and clear it before you reuse it.
+ * BES_BAD_COUNT: the batch already has 64 operations. BES_NAME_LENGTH: the name has more than 63 bytes. BES_DATA_LENGTH: the value has more
+ * than 255 bytes. After an error the batch is unchanged. All other errors are reported when the batch is applied. */
 typedef struct bes_batch {
     size_t count;
     size_t used;
@@ -82,7 +83,7 @@ static inline void bes_batch_clear(bes_batch *batch)
     batch->used = 0;
 }
 
-/* Makes an operation, and appends the bytes of its name and value to the used bytes. */
+/* Fills in an operation, and appends the bytes of its name and value to those already used. */
 static inline uint32_t bes_put_operation_(bes_operation *operation, uint8_t *bytes, size_t *used, uint32_t kind, uint64_t node,
                                           const void *name, size_t name_length, uint32_t code, uint64_t number,
                                           const void *value, size_t value_length)
@@ -107,7 +108,7 @@ static inline uint32_t bes_put_operation_(bes_operation *operation, uint8_t *byt
     return BES_OK;
 }
 
-/* Adds an operation, whose name may have any bytes. */
+/* Adds an operation. Its name may contain any bytes. */
 static inline uint32_t bes_batch_add_bytes(bes_batch *batch, uint32_t kind, uint64_t node, const void *name, size_t name_length,
                                            uint32_t code, uint64_t number, const void *value, size_t value_length)
 {
@@ -188,8 +189,9 @@ static inline uint32_t bes_batch_remove_index(bes_batch *batch, const char *name
     return bes_batch_add(batch, BES_REMOVE_INDEX, 0, name, 0, 0, NULL, 0);
 }
 
-/* Yields the processor to other threads `turns` times. Returns how many times to yield before the next try: twice as many, up to 1,024. If
- * two passes write in turn, each waits for what the other has just written; so a pass whose try fails lets the other pass go on writing. */
+/* Yields the processor to other threads `turns` times. Returns how many times to yield before the next try: twice that, up to 1,024. When
+ * two passes alternate, each write has to wait for the memory that the other pass has just written. So a pass whose try fails lets the
+ * other pass keep writing for a while. */
 static inline unsigned bes_stand_back(unsigned turns)
 {
     for (unsigned i = 0; i < turns; i++)
@@ -197,25 +199,26 @@ static inline unsigned bes_stand_back(unsigned turns)
     return turns < 1024 ? 2 * turns : turns;
 }
 
-/* How many tries the helpers below make if they have no parameter for it. On an idle machine these tries take a few seconds. */
+/* How many tries the helpers below make if they don't take that number as a parameter. On an idle machine, that many tries take a few
+ * seconds. */
 #ifndef BES_TRIES
 #define BES_TRIES 10000u
 #endif
 
-/* How many seconds a write is retried after BES_FULL while another pass has an older snapshot pinned. bes_reindex always has 2. */
+/* For how many seconds a write is retried after BES_FULL while another pass has an older snapshot pinned. bes_reindex always uses 2. */
 #ifndef BES_FULL_SECONDS
 #define BES_FULL_SECONDS 2
 #endif
 
-/* What bes_again knows about the tries so far. */
+/* The state of bes_again between tries. */
 typedef struct bes_retry {
     uint32_t left;     /* how many more tries are allowed */
     unsigned turns;    /* for bes_stand_back */
-    time_t full_since; /* when BES_FULL first came, or 0 */
+    time_t full_since; /* when BES_FULL was first returned, or 0 */
 } bes_retry;
 
-/* Returns whether a write that returned BES_FULL with this number may succeed later: another pass has an older snapshot pinned, or had it
- * pinned until now. If the caller's own pin is the oldest, the result is false. */
+/* Returns whether a write that returned BES_FULL with this number may succeed later, because another pass has an older snapshot pinned or
+ * had one pinned a moment ago. If the caller's own pin is the oldest, the result is false. */
 static inline bool bes_waits_for_other(bes_pass *pass, uint64_t oldest)
 {
     bes_usage usage;
@@ -228,8 +231,8 @@ static inline bool bes_waits_for_other(bes_pass *pass, uint64_t oldest)
     return !usage.is_held || (usage.holder != own && usage.oldest < usage.entries && usage.retired > 0);
 }
 
-/* Returns whether to repeat a call that returned this error and number; if so, it stands back first. The result is true after BES_BUSY,
- * and after BES_FULL for up to BES_FULL_SECONDS while bes_waits_for_other is true, as long as tries are left. */
+/* Returns whether to repeat a call that returned this error and number. If so, it first calls bes_stand_back. As long as tries are left,
+ * the result is true after BES_BUSY; after BES_FULL it is true for up to BES_FULL_SECONDS, while bes_waits_for_other returns true. */
 static inline bool bes_again(bes_pass *pass, uint32_t error, uint64_t number, bes_retry *retry)
 {
     if ((error != BES_BUSY && error != BES_FULL) || retry->left == 0)
@@ -246,8 +249,8 @@ static inline bool bes_again(bes_pass *pass, uint32_t error, uint64_t number, be
     return true;
 }
 
-/* Writes like bes_apply, and tries again when bes_again says so, up to `retries` times after the first try. With 0 retries it is the
- * same as bes_apply. */
+/* Like bes_apply, but after the first try it tries again up to `retries` times, for as long as bes_again returns true. With 0 retries it is
+ * the same as bes_apply. */
 static inline uint32_t bes_apply_or_retry(bes_pass *pass, const bes_operation *operations, size_t operations_count,
                                           const uint8_t *bytes, size_t bytes_count, uint32_t retries, uint64_t *made,
                                           size_t made_room, uint64_t *number)
@@ -260,8 +263,7 @@ static inline uint32_t bes_apply_or_retry(bes_pass *pass, const bes_operation *o
     return error;
 }
 
-/* Like bes_apply_or_retry, for bes_apply_if. It doesn't try again after BES_CONFLICT: the data that the caller read is no longer
- * current. */
+/* Like bes_apply_or_retry, for bes_apply_if. It doesn't try again after BES_CONFLICT, because what the caller read is no longer current. */
 static inline uint32_t bes_apply_if_or_retry(bes_pass *pass, uint64_t expected, const bes_operation *operations,
                                              size_t operations_count, const uint8_t *bytes, size_t bytes_count, uint32_t retries,
                                              uint64_t *made, size_t made_room, uint64_t *number)
@@ -274,7 +276,7 @@ static inline uint32_t bes_apply_if_or_retry(bes_pass *pass, uint64_t expected, 
     return error;
 }
 
-/* Applies the batch as bes_apply_or_retry does, with `tries` tries in all, and at least one. */
+/* Applies a batch as bes_apply_or_retry does, making up to `tries` tries in all, and at least one. */
 static inline uint32_t bes_batch_apply(bes_pass *pass, const bes_batch *batch, unsigned tries, uint64_t *made,
                                        size_t made_room, uint64_t *number)
 {
@@ -282,7 +284,7 @@ static inline uint32_t bes_batch_apply(bes_pass *pass, const bes_batch *batch, u
                               made_room, number);
 }
 
-/* Applies the batch as bes_apply_if_or_retry does, with `tries` tries in all, and at least one. */
+/* Applies a batch as bes_apply_if_or_retry does, making up to `tries` tries in all, and at least one. */
 static inline uint32_t bes_batch_apply_if(bes_pass *pass, uint64_t expected, const bes_batch *batch, unsigned tries,
                                           uint64_t *made, size_t made_room, uint64_t *number)
 {
@@ -290,12 +292,12 @@ static inline uint32_t bes_batch_apply_if(bes_pass *pass, uint64_t expected, con
                                  tries > 0 ? tries - 1 : 0, made, made_room, number);
 }
 
-/* The function that bes_change runs. It reads the pass's pinned snapshot, and adds operations to the batch, which is empty at first. The
- * nodes that it makes get the numbers next, next + 1 and so on. bes_change may run the function several times, so only the last result
- * should remain in *with. The function returns BES_OK, or an error, which bes_change then returns. */
+/* A function for bes_change to run. It reads the pass's pinned snapshot, and adds operations to the batch, which is empty at first. The
+ * nodes that it creates get the numbers next, next + 1 and so on. bes_change may run the function several times, so each run should
+ * overwrite what the previous one left in *with. The function returns BES_OK or an error; bes_change passes the error on. */
 typedef uint32_t bes_changer(bes_pass *pass, bes_batch *batch, uint64_t next, void *with);
 
-/* One attempt of bes_change. If the changer exits by a longjmp or an exception, only the pin remains. */
+/* One attempt of bes_change. If the changer exits through a longjmp or an exception, nothing is left over except the pin. */
 static inline uint32_t bes_change_once_(bes_pass *pass, bes_changer *changer, void *with, uint64_t *number)
 {
     bes_batch batch;
@@ -316,13 +318,13 @@ static inline uint32_t bes_change_once_(bes_pass *pass, bes_changer *changer, vo
     return error;
 }
 
-/* Reads and writes atomically: pins the current snapshot, runs the changer, applies its batch if no other transaction was committed in
- * between, and unpins. If another transaction was committed, or if bes_again says so, bes_change begins again. It makes up to `attempts`
- * attempts in all, and at least one. An empty batch writes nothing.
+/* Reads and writes atomically: pins the current snapshot, runs the changer, applies its batch if no other transaction has been committed in
+ * the meantime, and unpins. If another transaction has been committed, or if bes_again returns true, bes_change starts over. It makes up to
+ * `attempts` attempts in all, and at least one. If the batch is empty, nothing is written.
  * [in] pass      a pass that isn't pinned
  * [out] number   the commit number; for an empty batch, the snapshot's number
- * BES_CONFLICT: at each attempt another transaction was committed in between. BES_PINNED, the changer's errors, and the errors of
- * bes_apply_change except BES_BAD_COUNT, with number as there. */
+ * BES_CONFLICT: another transaction committed first on the last attempt. BES_PINNED, the changer's errors, and the errors of
+ * bes_apply_change except BES_BAD_COUNT, with number set as there. */
 static inline uint32_t bes_change(bes_pass *pass, uint32_t attempts, bes_changer *changer, void *with, uint64_t *number)
 {
     bes_retry retry = {attempts > 0 ? attempts - 1 : 0, 1, 0};
@@ -337,8 +339,8 @@ static inline uint32_t bes_change(bes_pass *pass, uint32_t attempts, bes_changer
     }
 }
 
-/* Replaces the batch with the next operations that rebuild the pinned snapshot, for bes_batch_apply on a pass of another store. When no
- * operations are left, and after an error, the batch is empty. The errors are those of bes_state. */
+/* Replaces the batch with the next of the operations that rebuild the pinned snapshot. Apply it to another store with bes_batch_apply. When
+ * no operations are left, and after an error, the batch is empty. The errors are those of bes_state. */
 static inline uint32_t bes_batch_state(bes_pass *pass, bes_place *place, bes_batch *batch)
 {
     bes_counts counts = {0, 0};
@@ -348,11 +350,11 @@ static inline uint32_t bes_batch_state(bes_pass *pass, bes_place *place, bes_bat
     return error;
 }
 
-/* Replaces the batch with an entry of the journal, as bes_journal_from returns it. After BES_BUSY it tries again, with BES_TRIES tries in
- * all. The batch is empty if there is no such entry yet, and after an error.
- * [in] from      the entry's index, from 0
+/* Replaces the batch with an entry of the journal, as read by bes_journal_from. After BES_BUSY it tries again, making up to BES_TRIES tries
+ * in all. If the entry doesn't exist yet, and after an error, the batch is empty.
+ * [in] from      the entry's index, counting from 0
  * [out] by       the pass that wrote the entry
- * [out] length     the journal's length, or the number that goes with the error */
+ * [out] length     the journal's length; after an error, the number that the error comes with */
 static inline uint32_t bes_batch_entry(bes_pass *pass, uint64_t from, bes_batch *batch, uint64_t *by, uint64_t *length)
 {
     bes_retry retry = {BES_TRIES > 0 ? BES_TRIES - 1 : 0, 1, 0};
@@ -367,13 +369,13 @@ static inline uint32_t bes_batch_entry(bes_pass *pass, uint64_t from, bes_batch 
     return error;
 }
 
-/* Like bes_batch_to_bytes, for operations as bes_apply takes them. It also returns BES_BAD_COUNT if there are more than 64 operations,
- * BES_NAME_LENGTH if a name has more than 63 bytes, and BES_DATA_LENGTH if a text or raw value has more than 255. */
+/* Like bes_batch_to_bytes, but takes operations in the form that bes_apply does. It also returns BES_BAD_COUNT if there are more than 64
+ * operations, BES_NAME_LENGTH if a name has more than 63 bytes, and BES_DATA_LENGTH if a text or raw value has more than 255 bytes. */
 uint32_t bes_operations_to_bytes(const bes_operation *operations, size_t operations_count, const uint8_t *parts, size_t parts_count,
                                  uint8_t *bytes, size_t bytes_room, uint64_t *count);
 
 /* Like bes_batch_from_bytes, but reads into arrays.
- * [out] counts, operations, parts  as in bes_attributes; 64 operations and 64 * (63 + 255) bytes suffice. After an error the counts are 0,
+ * [out] counts, operations, parts  as for bes_attributes; 64 operations and 64 * (63 + 255) bytes suffice. After an error the counts are 0,
  *                and the contents of the arrays are unspecified. */
 uint32_t bes_operations_from_bytes(const uint8_t *bytes, size_t length, bes_counts *counts, bes_operation *operations,
                                    size_t operations_room, uint8_t *parts, size_t parts_room, uint64_t *place);
@@ -381,21 +383,21 @@ uint32_t bes_operations_from_bytes(const uint8_t *bytes, size_t length, bes_coun
 /* The maximum number of bytes that bes_batch_to_bytes writes. */
 #define BES_BATCH_BYTES (5 + 64 * (1 + 8 + 1 + 63 + 4 + 1 + 255))
 
-/* Writes a batch as bytes, to keep or send, in the format that bestore's KEPT.md describes. bes_batch_from_bytes reads these bytes.
+/* Encodes a batch as bytes that can be stored or sent, in the format described in bestore's KEPT.md. bes_batch_from_bytes decodes them.
  * [out] bytes    the first bytes; at most bytes_room, and BES_BATCH_BYTES suffice
- * [out] count    how many bytes there are, or the index of the operation that has an error
- * BES_BAD_COUNT: the batch is empty. BES_BAD_PART, BES_NO_OPERATION, BES_NO_KIND: the batch has an operation that no call accepts. */
+ * [out] count    how many bytes there are; after an error in an operation, its index
+ * BES_BAD_COUNT: the batch is empty. BES_BAD_PART, BES_NO_OPERATION, BES_NO_KIND: the batch contains an operation that no call accepts. */
 static inline uint32_t bes_batch_to_bytes(const bes_batch *batch, uint8_t *bytes, size_t bytes_room, uint64_t *count)
 {
     return bes_operations_to_bytes(batch->operations, batch->count, batch->bytes, batch->used, bytes, bytes_room, count);
 }
 
-/* Replaces the batch with the batch that bes_batch_to_bytes wrote as these bytes. After an error the batch is empty.
- * [out] place    the byte offset of the error, otherwise 0
- * BES_BAD_PART: the bytes begin differently or have another format version; a part is cut off, and place is its first byte; or bytes
- * follow the end.
- * BES_BAD_COUNT, BES_NO_OPERATION, BES_NAME_LENGTH (more than 63), BES_NO_KIND: place is the offset of the number. Any other error in an
- * operation shows when the batch is applied. */
+/* Replaces the batch with the one that bes_batch_to_bytes encoded as these bytes. After an error the batch is empty.
+ * [out] place    the byte offset of the error; otherwise 0
+ * BES_BAD_PART: the bytes don't begin as an encoded batch does or are of another format version; a part is cut off (place is its first
+ * byte); or more bytes follow the end of the batch.
+ * BES_BAD_COUNT, BES_NO_OPERATION, BES_NAME_LENGTH (more than 63), BES_NO_KIND: place is the offset of the invalid number. All other errors
+ * in an operation are reported when the batch is applied. */
 static inline uint32_t bes_batch_from_bytes(bes_batch *batch, const uint8_t *bytes, size_t length, uint64_t *place)
 {
     bes_counts counts = {0, 0};
@@ -405,7 +407,7 @@ static inline uint32_t bes_batch_from_bytes(bes_batch *batch, const uint8_t *byt
     return error;
 }
 
-/* Makes 1 to 64 nodes in one transaction, and writes their numbers. The numbers belong to this caller: no other pass gets them. */
+/* Creates 1 to 64 nodes in one transaction, and writes their numbers. No other pass gets the same numbers. */
 static inline uint32_t bes_new_nodes(bes_pass *pass, size_t count, uint64_t *nodes)
 {
     bes_operation operations[64];
@@ -417,7 +419,7 @@ static inline uint32_t bes_new_nodes(bes_pass *pass, size_t count, uint64_t *nod
     return bes_apply_or_retry(pass, operations, count, &none, 0, BES_TRIES > 0 ? BES_TRIES - 1 : 0, nodes, count, &number);
 }
 
-/* The helpers below each write one operation as its own transaction, like bes_batch_apply with BES_TRIES tries. They don't return the
+/* Each of the helpers below writes one operation as its own transaction, like bes_batch_apply with BES_TRIES tries. They don't return the
  * number that comes with an error. made may be NULL. */
 static inline uint32_t bes_apply_one(bes_pass *pass, uint32_t kind, uint64_t node, const char *name, uint32_t code,
                                      uint64_t number, const void *value, size_t value_length, uint64_t *made)
@@ -433,7 +435,7 @@ static inline uint32_t bes_apply_one(bes_pass *pass, uint32_t kind, uint64_t nod
                               &commit);
 }
 
-/* Makes a node, and writes its number. */
+/* Creates a node, and writes its number. */
 static inline uint32_t bes_new_node(bes_pass *pass, uint64_t *node)
 {
     return bes_apply_one(pass, BES_NEW_NODE, 0, "", 0, 0, NULL, 0, node);
@@ -496,7 +498,7 @@ static inline uint32_t bes_remove_index(bes_pass *pass, const char *name)
     return bes_apply_one(pass, BES_REMOVE_INDEX, 0, name, 0, 0, NULL, 0, NULL);
 }
 
-/* Calls bes_query with a text that ends with a zero byte. */
+/* Like bes_query, for text that ends with a zero byte. */
 static inline uint32_t bes_find(bes_pass *pass, const char *text, uint64_t *nodes, size_t nodes_room, uint64_t *count)
 {
     return bes_query(pass, (const uint8_t *)text, strlen(text), nodes, nodes_room, count);
@@ -509,19 +511,19 @@ static inline uint32_t bes_count(bes_pass *pass, const char *text, uint64_t *cou
     return bes_find(pass, text, &none, 0, count);
 }
 
-/* Calls bes_prepare with a text that ends with a zero byte. */
+/* Like bes_prepare, for text that ends with a zero byte. */
 static inline uint32_t bes_prepare_text(const char *text, bes_prepared *prepared, uint64_t *place)
 {
     return bes_prepare((const uint8_t *)text, strlen(text), prepared, place);
 }
 
-/* Calls bes_check_name with a name that ends with a zero byte. */
+/* Like bes_check_name, for a name that ends with a zero byte. */
 static inline uint32_t bes_check_name_text(const char *name, bes_name *checked)
 {
     return bes_check_name((const uint8_t *)name, strlen(name), checked);
 }
 
-/* Calls bes_get with a name that ends with a zero byte. */
+/* Like bes_get, for a name that ends with a zero byte. */
 static inline uint32_t bes_read(bes_pass *pass, uint64_t node, const char *name, bes_attribute *attribute, uint8_t *bytes,
                                 size_t bytes_room)
 {

@@ -17,10 +17,10 @@ namespace bestore {
 
 namespace detail {
 
-// How many forks lie between the first process with this library and this process.
+// How many forks separate this process from the first one that used this library.
 inline std::atomic<unsigned> forks{0};
 
-// Returns the number of forks. The first call starts the counting.
+// Returns the number of forks. Counting starts with the first call.
 inline unsigned generation()
 {
     static const bool is_counted = [] {
@@ -32,10 +32,10 @@ inline unsigned generation()
     return forks;
 }
 
-// Returns whether an object made at this generation belongs to this process.
+// Returns whether an object created in this generation belongs to this process.
 inline bool is_ours(unsigned made_in) noexcept { return made_in == forks.load(std::memory_order_relaxed); }
 
-// A library handle. It stays at the same address when the object that owns it is moved, and is closed with that object.
+// A library handle. It keeps its address when the object that owns it is moved, and is closed with that object.
 template <class T, std::uint32_t (*close)(T *)> class Handle {
 public:
     Handle() : handle_(nullptr, Closes{generation()}) { handle_.reset(new T()); }
@@ -75,8 +75,8 @@ struct Unpins {
     }
 };
 
-// Returns the whole output of a call that counts what there is and writes as much as fits. If the output doesn't fit, repeats the call
-// with a larger list.
+// Returns the whole output of a call that counts the items and writes as many of them as fit. If they don't all fit, repeats the call with
+// a larger list.
 template <class List, class Call> List whole(std::size_t room, Place place, Call call)
 {
     for (;;) {
@@ -92,8 +92,8 @@ template <class List, class Call> List whole(std::size_t room, Place place, Call
     }
 }
 
-// Repeats a call as bes_again says, up to `tries` times in all, and at least once. Returns the call's error. The call writes the number
-// that comes with the error to `number`.
+// Repeats a call for as long as bes_again returns true, up to `tries` times in all, and at least once. Returns the call's error. The call
+// writes the number that comes with the error to `number`.
 template <class Call> std::uint32_t tried(bes_pass *pass, std::uint32_t tries, const std::uint64_t &number, Call call)
 {
     bes_retry retry{tries > 0 ? tries - 1 : 0, 1, 0};
@@ -103,7 +103,7 @@ template <class Call> std::uint32_t tried(bes_pass *pass, std::uint32_t tries, c
     return error;
 }
 
-// Iterates over a source's items once, and reads one item at a time.
+// Iterates over a source's items, once and one at a time.
 template <class Source, class Item> class Iterator {
 public:
     using iterator_category = std::input_iterator_tag;
@@ -112,7 +112,7 @@ public:
     using pointer = const Item *;
     using reference = const Item &;
 
-    // Starts at the source's current item, or after the last item if there is no source.
+    // Starts at the source's current item; without a source, past the last item.
     explicit Iterator(Source *source) : source_(source) {}
 
     reference operator*() const { return source_->item_; }
@@ -132,7 +132,7 @@ private:
 
 } // namespace detail
 
-// A query that is parsed once. It belongs to no store, and can be run in any snapshot.
+// A query that is parsed once. It isn't tied to a store, and can be run in any snapshot.
 class Prepared {
 public:
     explicit Prepared(std::string_view text)
@@ -158,8 +158,8 @@ public:
         });
     }
 
-    // Returns the names of the query's attributes, each once, in order. Throws BES_TOO_LONG if the canonical text has more than 4,096
-    // bytes.
+    // Returns the names of the query's attributes, in order and without duplicates. Throws BES_TOO_LONG if the canonical text has more than
+    // 4,096 bytes.
     std::vector<std::string> names() const { return names_of(text()); }
 
 protected:
@@ -171,7 +171,7 @@ private:
     detail::Handle<bes_prepared, bes_release> handle_;
 };
 
-// A record of what a pass has seen of its store, for a pass of the same store in another thread. Pass::witness makes a witness, and
+// A record of what a pass has seen of its store, for a pass of the same store in another thread. Pass::witness creates a witness, and
 // Pass::join joins it.
 class Witness {
 private:
@@ -182,10 +182,10 @@ private:
     bes_witness *handle() const { return handle_.get(); }
 
     detail::Handle<bes_witness, bes_dismiss> handle_;
-    std::uint64_t store_; // as for a pass
+    std::uint64_t store_; // the number of its store
 };
 
-// The nodes that joined a live query's result, and those that left the result, both ascending.
+// The nodes that a live query's result has gained, and those that it has lost, both in ascending order.
 struct Updates {
     std::vector<Node> created;
     std::vector<Node> removed;
@@ -193,11 +193,10 @@ struct Updates {
 
 class Snapshot;
 
-// An order of nodes: by their values in an index, and by number where values are equal. A node without a value in the index isn't in the
-// order.
+// An order of nodes: by their values in an index, then by node number among equal values. Nodes without a value in the index are left out.
 class Order {
 public:
-    // Makes the ascending order by the index with this name.
+    // Creates the ascending order by the index of this name.
     explicit Order(std::string_view name)
     {
         detail::check(bes_check_name(detail::bytes_of(name), name.size(), &name_));
@@ -221,16 +220,16 @@ private:
     bool is_descending_ = false;
 };
 
-// A position in a query's ordered result: the position of a page's last node. The next page begins right after it, even in a later
-// snapshot, whatever was written in between.
+// A position in a query's ordered result: the position of a page's last node. The next page begins just after it, even in a later snapshot,
+// whatever was written in between.
 class Cursor {
 public:
-    // Makes a cursor at the beginning of the query's result.
+    // Creates a cursor at the beginning of the query's result.
     Cursor(const Prepared &query, const Order &order) : order_(order), query_(query.text()) {}
 
     const Order &order() const noexcept { return order_; }
 
-    // Return the page's last node, and the node's value in the index. Both are empty at the beginning.
+    // Return the page's last node and that node's value in the index. At the beginning both are empty.
     std::optional<Node> node() const { return raw_.length == 0 ? std::nullopt : std::optional<Node>(read().first); }
     std::optional<Value> value() const { return raw_.length == 0 ? std::nullopt : std::optional<Value>(read().second); }
 
@@ -251,15 +250,15 @@ private:
     bes_cursor raw_{};
 };
 
-// Some of the nodes that a query finds, in an order.
+// Some of the nodes that a query finds, in a given order.
 struct Page {
     std::vector<Node> nodes;
-    bool more;     // whether others come after these
-    Cursor cursor; // the position of the last one; for an empty page, where it began
+    bool more;     // whether more nodes follow
+    Cursor cursor; // the position of the last node; if the page is empty, the position where it began
 };
 
-// The nodes that a query finds, in an order. Snapshot::ordered makes this range, which reads page after page. Iterate over it once. The
-// query and the snapshot must outlive the range.
+// A range of the nodes that a query finds, in a given order, as returned by Snapshot::ordered. It is read page by page, and can be iterated
+// over only once. The query and the snapshot must outlive the range.
 //
 //     for (bestore::Node node : pin.ordered(query, bestore::Order("MAIL:when").descending()))
 class Ordered {
@@ -285,18 +284,18 @@ private:
     Node item_ = 0;
 };
 
-// A query that returns what changed since its last refresh. The first refresh returns all nodes in the result.
+// A query that returns how its result has changed since the last refresh. The first refresh returns all nodes in the result.
 class Live : public Prepared {
 public:
     using Prepared::Prepared;
 
-    // Runs the query in the snapshot, and returns what changed. Use snapshots of one store, or of another store that its state was
-    // carried on to. This call runs the whole query and takes no lock, so it never causes BES_BUSY in another pass's write.
+    // Runs the query in the snapshot, and returns what has changed. Always use snapshots of the same store, or of another store into which
+    // its state was copied. This call runs the whole query and takes no lock, so it never makes another pass's write return BES_BUSY.
     Updates refresh(Snapshot &snapshot);
 
-    // Returns what refresh() does, but calls bes_refresh_changed, which reads what was written since the last refresh, and checks only the
-    // written nodes. This takes less time if the result has 96 nodes or more and few nodes were written; meanwhile writes by other passes
-    // return BES_BUSY. Otherwise, or if the last refresh was in another store, it runs the whole query.
+    // Returns the same as refresh(), but calls bes_refresh_changed, which reads what has been written since the last refresh, and checks
+    // only the nodes that were written. This takes less time if the result has 96 nodes or more and few nodes have been written, but writes
+    // by other passes return BES_BUSY while it runs. Otherwise, or if the last refresh was in another store, it runs the whole query.
     Updates refresh_changed(Snapshot &snapshot);
 
 private:
@@ -305,8 +304,8 @@ private:
     std::optional<std::uint64_t> store_; // the store of the last refresh
 };
 
-// The operations that rebuild a snapshot on an empty store, as batches of 1 to 64 operations, each for one write. Iterate over the batches
-// once.
+// The operations that rebuild a snapshot in an empty store, as batches of 1 to 64 operations, each for one write. The batches can be
+// iterated over only once.
 //
 //     for (const bestore::Batch &batch : pin.state())
 //         other.apply(batch);
@@ -333,13 +332,13 @@ private:
     Batch item_;
 };
 
-// What a pass reads: the store as it was when the pass was pinned, whatever is written meanwhile. It is a Pin or a Change.
+// What a pass reads: the store as it was when the pass was pinned, whatever is written in the meantime. Either a Pin or a Change.
 class Snapshot {
 public:
     // Returns the snapshot's number: how many transactions it includes.
     std::uint64_t number() const noexcept { return number_; }
 
-    // Returns the nodes that match the query, ascending.
+    // Returns the nodes that match the query, in ascending order.
     std::vector<Node> query(std::string_view text)
     {
         return found([&](auto... room) { return asked(text, room...); }, detail::Place::byte);
@@ -360,7 +359,7 @@ public:
         return nodes;
     }
 
-    // Returns the first `most` nodes in the order, of those that match the query and have a value in the order's index. Throws
+    // Returns the first `most` nodes, in this order, among those that match the query and have a value in the order's index. Throws
     // BES_NO_INDEX, and BES_NO_ROOM if `most` is 0.
     Page page(Prepared &query, const Order &order, std::size_t most) { return page(query, Cursor(query, order), most); }
 
@@ -381,17 +380,18 @@ public:
         return page;
     }
 
-    // Returns all nodes in the order, read page by page.
+    // Returns all these nodes in order, read page by page.
     Ordered ordered(Prepared &query, const Order &order) { return ordered(query, Cursor(query, order)); }
     Ordered ordered(Prepared &query, const Cursor &after) { return Ordered(*this, query, after); }
 
-    // Returns the first `most` nodes that match the query, ascending from a number on. Throws BES_NO_ROOM if `most` is 0.
+    // Returns the first `most` nodes that match the query, in ascending order from a given number on. Throws BES_NO_ROOM if `most` is 0.
     std::vector<Node> first(Prepared &query, Node from, std::size_t most)
     {
         return part(most, [&](auto... nodes) { return bes_first(handle(), query.handle(), from, nodes...); });
     }
 
-    // Returns any `most` nodes that match the query, or all if there are fewer, in no particular order. Throws BES_NO_ROOM if `most` is 0.
+    // Returns any `most` nodes that match the query, or all of them if there are fewer, in no particular order. Throws BES_NO_ROOM if
+    // `most` is 0.
     std::vector<Node> any(Prepared &query, std::size_t most)
     {
         return part(most, [&](auto... nodes) { return bes_any(handle(), query.handle(), nodes...); });
@@ -402,7 +402,7 @@ public:
     std::uint64_t count(const Predicate &predicate) { return counted(predicate, detail::Place::item); }
     std::uint64_t count(Prepared &prepared) { return counted(prepared, detail::Place::none); }
 
-    // Returns the nodes from a number on, ascending, whatever attributes they have; at most `most` nodes.
+    // Returns up to `most` nodes, in ascending order from a given number on, whether or not they have attributes.
     std::vector<Node> nodes(Node from = 0, std::size_t most = SIZE_MAX)
     {
         std::vector<Node> all;
@@ -418,7 +418,7 @@ public:
         }
     }
 
-    // Explains a query: returns the comparisons whose indices the query reads, and the cost.
+    // Explains a query: returns the comparisons for which it reads an index, and its cost.
     std::string explain(std::string_view text)
     {
         return detail::whole<std::string>(256, detail::Place::byte, [&](char *said, std::size_t room, std::uint64_t *count) {
@@ -428,7 +428,7 @@ public:
         });
     }
 
-    // Returns the byte offset of the first comparison whose name has no index in this snapshot. Needs to parse the text.
+    // Returns the byte offset of the first comparison whose name has no index in this snapshot. This parses the text.
     std::optional<std::size_t> uncovered(std::string_view text)
     {
         std::size_t at = 0;
@@ -436,9 +436,9 @@ public:
         return at < text.size() ? std::optional<std::size_t>(at) : std::nullopt;
     }
 
-    // Returns the comparisons that no node can match, because the index with the name holds integers of a kind in this snapshot: the value
-    // isn't a whole number, as in size>1.5, or no integer of this kind is in the range. The comparisons' offsets are those in the
-    // canonical text. Throws BES_TOO_LONG if the canonical text has more than 4,096 bytes.
+    // Returns the comparisons that no node can match, because in this snapshot their name has an index of an integer kind: either the value
+    // isn't a whole number, as in size>1.5, or no integer of that kind is in the range. The offsets are those in the canonical text. Throws
+    // BES_TOO_LONG if the canonical text has more than 4,096 bytes.
     std::vector<Comparison> never_true(const Prepared &prepared)
     {
         const std::string text = prepared.text();
@@ -452,7 +452,7 @@ public:
         return never;
     }
 
-    // Returns an attribute's value, if the node exists and has the attribute. In a change, the value may be one that the change has set.
+    // Returns an attribute's value if the node exists and has the attribute. In a change, this may be a value that the change has set.
     std::optional<Value> get(Node node, std::string_view name)
     {
         bes_attribute read{};
@@ -466,7 +466,7 @@ public:
         return detail::value_of(read.code, read.number, {reinterpret_cast<const char *>(bytes), read.length});
     }
 
-    // Returns an attribute's value, if the node has the attribute and the value is a T. T is one of the types that a Value may hold.
+    // Returns an attribute's value if the node has the attribute and the value is a T. T is one of the types that a Value can hold.
     template <class T> std::optional<T> get(Node node, std::string_view name)
     {
         auto value = get(node, name);
@@ -475,9 +475,8 @@ public:
     }
     template <class T> std::optional<T> get(Node node, const Attribute<T> &attribute) { return get<T>(node, attribute.name()); }
 
-    // Returns several attributes of many nodes: for each name, a list with each node's value, empty if the node has no such attribute.
-    // Takes one tree search for each node, if the node's named attributes are next to each other. In a change it takes one search for each
-    // value.
+    // Returns several attributes of many nodes: for each name, a list with each node's value, which is empty if the node has no such
+    // attribute. A node whose named attributes are adjacent takes one tree search. In a change, each value takes one search.
     std::vector<std::vector<std::optional<Value>>> columns(const std::vector<Node> &nodes, const std::vector<std::string_view> &names)
     {
         std::vector<std::vector<std::optional<Value>>> columns(names.size(), std::vector<std::optional<Value>>(nodes.size()));
@@ -502,13 +501,13 @@ public:
         return columns;
     }
 
-    // Returns one attribute of many nodes, as columns() does for each name.
+    // Returns one attribute of many nodes, as columns() does for several.
     std::vector<std::optional<Value>> column(const std::vector<Node> &nodes, std::string_view name)
     {
         return std::move(columns(nodes, {name}).front());
     }
 
-    // Returns a node's attributes, in ascending order of names.
+    // Returns a node's attributes, in ascending order of their names.
     std::vector<NamedValue> attributes(Node node)
     {
         Batch sets;
@@ -519,7 +518,7 @@ public:
         return attributes;
     }
 
-    // Returns the indices, in ascending order of names.
+    // Returns the indices, in ascending order of their names.
     std::vector<Index> indices()
     {
         Batch makes;
@@ -530,7 +529,7 @@ public:
         return indices;
     }
 
-    // Returns how many nodes have an attribute with this name that the index holds.
+    // Returns how many nodes have an attribute of this name that the index holds.
     std::uint64_t pairs(std::string_view name)
     {
         return detail::number_from(bes_pairs, handle(), std::string(name).c_str());
@@ -556,7 +555,7 @@ protected:
 
     void release() noexcept { pass_.reset(); }
 
-    // Returns whether the snapshot has a pin and was made in this process.
+    // Returns whether the snapshot is pinned and was created in this process.
     bool is_ours() const noexcept { return pass_ && detail::is_ours(pass_.get_deleter().made_in); }
 
     // Makes get() see this draft's operations from now on.
@@ -579,7 +578,7 @@ private:
         return bes_query_prepared(handle(), prepared.handle(), nodes, room, count);
     }
 
-    // Returns how many of the wanted nodes can exist, and at least one if any are wanted.
+    // Returns how many of the requested nodes can exist, but at least 1 if any are requested.
     std::size_t room(std::size_t most)
     {
         Node next = 0;
@@ -601,7 +600,7 @@ private:
         return detail::whole<std::vector<Node>>(256, place, call);
     }
 
-    // Reads the attributes that have these names into the cells. The last name and the last cell are unused. Returns the values' bytes.
+    // Reads the attributes of these names into the cells. The last name and the last cell aren't used. Returns the values' bytes.
     std::string read_columns(const std::vector<Node> &nodes, const std::vector<bes_name> &names, std::vector<bes_cell> &cells)
     {
         const auto call = [&](char *bytes, std::size_t room, std::uint64_t *count) {
@@ -620,7 +619,7 @@ private:
         return count;
     }
 
-    // Returns the error. For BES_NOT_COVERED, writes the offset of the comparison without an index to `place`.
+    // Returns the error. For BES_NOT_COVERED, sets `place` to the offset of the comparison that has no index.
     std::uint32_t located(std::uint32_t error, std::string_view text, std::uint64_t *place)
     {
         if (error == BES_NOT_COVERED)
@@ -630,8 +629,8 @@ private:
 
     std::uint64_t number_ = 0;
     std::unique_ptr<bes_pass, detail::Unpins> pass_;
-    std::uint64_t store_;        // which store it belongs to
-    bes_draft *draft_ = nullptr; // of a change
+    std::uint64_t store_;        // the number of its store
+    bes_draft *draft_ = nullptr; // in a Change
 };
 
 inline Ordered::Iterator Ordered::begin()
@@ -647,13 +646,13 @@ inline Ordered::Iterator Ordered::begin()
     return Iterator(this);
 }
 
-// A pinned snapshot, for as long as the object lives.
+// A snapshot that stays pinned for as long as the object lives.
 class Pin : public Snapshot {
 public:
     // Unpins, as the destructor does.
     void unpin() noexcept { release(); }
 
-    // Returns the operations that rebuild the snapshot on an empty store.
+    // Returns the operations that rebuild the snapshot in an empty store.
     [[nodiscard]] State state() { return State(handle()); }
 
 private:

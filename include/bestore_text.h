@@ -1,8 +1,8 @@
-/* Helpers for indices and texts: the comparisons in a query, the indices that they need, escapes, UTF-8, a caret under an error, and
+/* Helpers for indices and text: the comparisons in a query, the indices that they need, escaping, UTF-8, a caret under an error, and
  * positions in an index. Include bestore.h, which includes this file.
  *
- * The library itself reads the text of a query: bes_query_comparisons lists its comparisons. */
-#include "bestore.h" /* which includes this file again; then the rest is skipped here */
+ * The text of a query is parsed by the library itself, through bes_query_comparisons. */
+#include "bestore.h" /* bestore.h includes this file again, and the second inclusion is skipped */
 
 #ifndef BESTORE_TEXT_H
 #define BESTORE_TEXT_H
@@ -13,10 +13,10 @@
 extern "C" {
 #endif
 
-/* A comparison in a query's text. The name and the value exclude their quotes and include their backslashes. */
+/* A comparison in a query's text. The ranges of its name and value exclude quotes but include backslashes. */
 typedef struct bes_comparison {
-    size_t at;           /* the byte offset of its first byte */
-    size_t length;       /* how many bytes the comparison has */
+    size_t at;           /* the offset of its first byte */
+    size_t length;       /* its length in bytes */
     size_t name_at;
     size_t name_length;
     uint32_t kind;       /* BES_ITEM_EQ .. BES_ITEM_GE */
@@ -24,7 +24,7 @@ typedef struct bes_comparison {
     size_t value_length;
 } bes_comparison;
 
-/* The maximum number of comparisons in a query, and of bytes in their plain names and values. */
+/* The maximum number of comparisons in a query, and the maximum total size of their plain names and values, in bytes. */
 enum { BES_COMPARISONS = 256, BES_COMPARISONS_BYTES = 64 * 256 + 4 * 4096 };
 
 /* The comparisons in a query, from left to right. The list takes 55 KB. */
@@ -34,7 +34,7 @@ typedef struct bes_comparison_list {
     uint8_t bytes[BES_COMPARISONS_BYTES];
 } bes_comparison_list;
 
-/* Fills a list with bes_query_comparisons. After an error the list is empty. */
+/* Fills a list by calling bes_query_comparisons. After an error the list is empty. */
 static inline uint32_t bes_list_comparisons(const char *text, size_t length, bes_comparison_list *list, uint64_t *place)
 {
     list->counts.operations = list->counts.bytes = 0;
@@ -42,19 +42,19 @@ static inline uint32_t bes_list_comparisons(const char *text, size_t length, bes
                                  sizeof list->bytes, place);
 }
 
-/* Reads the next comparison in a query. Each call parses the whole text; bes_list_comparisons reads all comparisons in one call.
- * [in,out] at    where to start reading: 0 at first; on return, after the comparison that was read
- * Returns whether there is a comparison. A text that isn't a query has none. */
+/* Finds the next comparison in a query. Each call parses the whole text; bes_list_comparisons lists all comparisons in one call.
+ * [in,out] at    where to start, which is 0 for the first call; on return, the offset just past the comparison
+ * Returns whether there is another comparison. If the text isn't a query, there is none. */
 bool bes_next_comparison(const char *text, size_t length, size_t *at, bes_comparison *found);
 
-/* A snapshot's indices, in ascending order of names. */
+/* A snapshot's indices, in ascending order of their names. */
 typedef struct bes_index_list {
     bes_counts counts;
     bes_operation operations[32];
     uint8_t bytes[32 * 63];
 } bes_index_list;
 
-/* Fills a list with bes_indices. After an error the list is empty. */
+/* Fills a list by calling bes_indices. After an error the list is empty. */
 static inline uint32_t bes_list_indices(bes_pass *pass, bes_index_list *list)
 {
     list->counts.operations = list->counts.bytes = 0;
@@ -72,7 +72,7 @@ static inline const bes_operation *bes_index_named(const bes_index_list *list, c
     return NULL;
 }
 
-/* Returns the index with a listed comparison's name, or NULL. */
+/* Returns the index on the name in a listed comparison, or NULL. */
 static inline const bes_operation *bes_index_of(const bes_index_list *list, const bes_comparison_list *comparisons,
                                                 const bes_compared *comparison)
 {
@@ -80,14 +80,14 @@ static inline const bes_operation *bes_index_of(const bes_index_list *list, cons
                            (size_t)(comparison->plain_value_at - comparison->plain_name_at));
 }
 
-/* Finds the first comparison whose name has no index in the pinned snapshot, for a message after BES_NOT_COVERED. An index on this name
- * need not be what the query lacks: an || needs an index on both sides, an && on one side.
- * [out] at       the byte offset of the comparison; the text's length if each name has an index, and after an error
- * Returns the errors of bes_indices and bes_query_comparisons; the cost is that of both. */
+/* Finds the first comparison whose name has no index in the pinned snapshot, for a message after BES_NOT_COVERED. An index on that name
+ * isn't necessarily what the query lacks: an || needs an index on each side, but an && needs one on either side only.
+ * [out] at       the byte offset of the comparison, or the text's length if each name has an index or an error is returned
+ * Returns the errors of bes_indices and bes_query_comparisons, and costs the same as the two together. */
 uint32_t bes_uncovered(bes_pass *pass, const char *text, size_t length, size_t *at);
 
-/* Returns whether no node can match a listed comparison, because of the kind of the index with its name: any integer kind for size>1.5, an
- * unsigned kind for size<0. */
+/* Returns whether no node can match a listed comparison because of the kind of the index on its name: for size>1.5 any integer kind, for
+ * size<0 any unsigned kind. */
 static inline bool bes_is_never_true(const bes_index_list *list, const bes_comparison_list *comparisons, const bes_compared *comparison)
 {
     const bes_operation *index = bes_index_of(list, comparisons, comparison);
@@ -107,56 +107,56 @@ static inline bool bes_is_never_true(const bes_index_list *list, const bes_compa
     }
 }
 
-/* Finds the next comparison for which bes_is_never_true is true. Use it like bes_next_comparison. */
+/* Finds the next comparison for which bes_is_never_true returns true. Use it like bes_next_comparison. */
 bool bes_next_never_true(const bes_index_list *list, const char *text, size_t length, size_t *at, bes_comparison *found);
 
-/* Counts an index's pairs in the pinned snapshot: how many nodes have an attribute with this name that the index holds.
+/* Counts an index's entries in the pinned snapshot: the nodes that have an attribute of this name that the index holds.
  * BES_NO_INDEX, and the errors of bes_query_items.
- * Cost: as for bes_query_items: a walk over the whole index, and memory for its nodes. */
+ * Cost: that of bes_query_items, which here is a walk over the whole index and memory for its nodes. */
 uint32_t bes_pairs(bes_pass *pass, const char *name, uint64_t *count);
 
-/* Sets each attribute with this name again, if its value has the index's kind. The index then also holds the attributes that were set
- * before the index was made. Each bes_change covers up to 64 nodes and loses no newer value.
+/* Sets every attribute of this name again if its value is of the index's kind. The index then also holds the attributes that were set
+ * before it was created. The work is done through bes_change, up to 64 nodes at a time, so no newer value is lost.
  * [in] pass      a pass that isn't pinned
- * [in] attempts  how many attempts each change may make
- * [out] count    how many attributes were set again, even if an error followed
+ * [in] attempts  how many attempts each bes_change may make
+ * [out] count    how many attributes were set again, even if an error is returned
  * BES_NO_INDEX, and the errors of bes_pin, bes_indices and bes_change. */
 uint32_t bes_reindex(bes_pass *pass, const char *name, uint32_t attempts, uint64_t *count);
 
-/* Escapes a text so that a query reads it literally: as a name, a value or part of a pattern, in quotes or not. An empty text needs
- * quotes; other texts work either way. For example, [draft].txt becomes \[draft].txt.
- * [out] out      the text and a zero byte, cut to `room` bytes; twice the text's length plus 1 suffice
- * Returns how many bytes the whole result has, without the zero byte; 0 if the text isn't valid UTF-8. */
+/* Escapes a string so that a query reads it literally: as a name, as a value or as part of a pattern. Any string may be put in quotes, but
+ * only an empty one needs them. For example, [draft].txt becomes \[draft].txt.
+ * [out] out      the result and a zero byte, truncated to `room` bytes; twice the string's length plus 1 is enough
+ * Returns how many bytes the whole result has, not counting the zero byte, or 0 if the string isn't valid UTF-8. */
 size_t bes_escape(const char *text, char *out, size_t room);
 
-/* Like bes_escape, but each letter matches in either case, like in a BQuery: draft becomes [dD][rR][aA][fF][tT]. The result is
- * a pattern, for == and !=.
- * [out] out      12 times the text's length plus 1 suffice */
+/* Like bes_escape, but each letter matches in either case, as in a BQuery: draft becomes [dD][rR][aA][fF][tT]. The result is a pattern, for
+ * == and !=.
+ * [out] out      as for bes_escape; 12 times the string's length plus 1 is enough */
 size_t bes_any_case(const char *text, char *out, size_t room);
 
-/* Turns any bytes, such as a file name or a mail header, into a text that the library accepts: each byte that isn't part of a UTF-8
- * character becomes a ?, and a text that is too long is cut after a whole character.
- * [out] out      the text and a zero byte, at most `room` bytes: 256 for a value, 64 for a name
- * Returns how many bytes the result has, without the zero byte. */
+/* Turns arbitrary bytes, such as a file name or a mail header, into text that the library accepts: each byte that isn't part of a UTF-8
+ * character becomes a ?, and text that is too long is truncated after a whole character.
+ * [out] out      the result and a zero byte, in at most `room` bytes: 256 for a value, 64 for a name
+ * Returns how many bytes the result has, not counting the zero byte. */
 size_t bes_to_utf8(const char *text, size_t length, char *out, size_t room);
 
-/* Prints a query's text, and on the next line a caret under the character at a byte offset. If the text has several lines, it prints only
- * the line with that byte. Control characters are printed as blanks. Returns what ferror returns. */
+/* Prints a query's text and, on the next line, a caret under the character at a byte offset. If the text has several lines, only the line
+ * with that byte is printed. Control characters are printed as spaces. Returns the result of ferror. */
 int bes_print_caret(FILE *file, const char *text, uint64_t byte);
 
-/* Makes a cursor at the position of a value and a node in an index's order, so that bes_ordered continues after that position. With node 0
- * the position is before all nodes with the value, or after them in the reverse order.
+/* Sets a cursor to the position of a value and a node in an index's order; bes_ordered then continues after that position. With node 0, the
+ * position is before all nodes that have the value, or after them in the reverse order.
  * [in] value     the value, as bes_get writes it
- * [in] bytes     the bytes of a text
+ * [in] bytes     the bytes of a text value
  * BES_NOT_INDEXABLE, BES_DATA_LENGTH, BES_HAS_NUL, BES_NO_VALUE (the number doesn't fit its type). After an error the cursor is
  * unchanged. */
 uint32_t bes_cursor_at(const bes_attribute *value, const void *bytes, uint64_t node, bes_cursor *cursor);
 
-/* Reads the value and the node from a cursor, as bes_ordered leaves it after a page that isn't empty.
+/* Reads the value and the node from a cursor that bes_ordered has set after a page that isn't empty.
  * [out] value    the value, as bes_get writes it
- * [out] bytes    the bytes of a text, if all of them fit
+ * [out] bytes    the bytes of a text value, if all of them fit
  * [out] node     the node
- * BES_BAD_CURSOR: the cursor is the beginning, or isn't a position in any index. */
+ * BES_BAD_CURSOR: the cursor is at the beginning, or isn't a position in any index. */
 uint32_t bes_cursor_value(const bes_cursor *cursor, bes_attribute *value, uint8_t *bytes, size_t bytes_room, uint64_t *node);
 
 #ifdef __cplusplus

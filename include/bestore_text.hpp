@@ -1,4 +1,5 @@
-// Texts for C++17: the comparisons in a query, escapes, UTF-8, and a caret under an error. Include bestore.hpp, which includes this file.
+// Text helpers for C++17: the comparisons in a query, escaping, UTF-8, and a caret under an error. Include bestore.hpp, which includes this
+// file.
 #ifndef BESTORE_TEXT_HPP
 #define BESTORE_TEXT_HPP
 
@@ -14,8 +15,8 @@ struct Comparison {
     std::string name;
     query_op op;
     std::string value;  // as written in the query, with its backslashes
-    std::size_t offset; // of its first byte in the text
-    std::size_t length; // how many bytes it has there
+    std::size_t offset; // the offset of its first byte in the query
+    std::size_t length; // its length in the query, in bytes
 };
 
 namespace detail {
@@ -27,7 +28,7 @@ inline Comparison comparison_of(std::string_view text, const bes_comparison_list
             std::string(text.substr(found.value_at, found.value_end - found.value_at)), found.at, found.end - found.at};
 }
 
-// Returns the comparisons in a query, as the library lists them.
+// Returns the comparisons in a query as the library lists them.
 inline std::unique_ptr<bes_comparison_list> listed_comparisons(std::string_view text)
 {
     std::uint64_t place = 0;
@@ -37,7 +38,7 @@ inline std::unique_ptr<bes_comparison_list> listed_comparisons(std::string_view 
     return list;
 }
 
-// Returns the text that a library call makes from another text. It has at most `times` times as many bytes.
+// Returns the string that a library call derives from another string. It has at most `times` times the number of bytes.
 template <class Call> std::string made_text(std::string_view text, std::size_t times, Call call)
 {
     std::string made(times * text.size(), '\0');
@@ -50,7 +51,7 @@ template <class Call> std::string made_text(std::string_view text, std::size_t t
 
 } // namespace detail
 
-// Returns the comparisons in a query, in order. If the text isn't a query, throws the error.
+// Returns the comparisons in a query, in order. Throws an error if the text isn't a query.
 inline std::vector<Comparison> comparisons_of(std::string_view text)
 {
     const auto list = detail::listed_comparisons(text);
@@ -60,7 +61,7 @@ inline std::vector<Comparison> comparisons_of(std::string_view text)
     return comparisons;
 }
 
-// Returns the names in a query, each once, in order.
+// Returns the names in a query, in order and without duplicates.
 inline std::vector<std::string> names_of(std::string_view text)
 {
     std::vector<std::string> names;
@@ -70,13 +71,13 @@ inline std::vector<std::string> names_of(std::string_view text)
     return names;
 }
 
-// Escapes a text so that a query reads it literally, as bes_escape does. Throws BES_NOT_UTF8.
+// Escapes a string so that a query reads it literally, as bes_escape does. Throws BES_NOT_UTF8.
 inline std::string escape(std::string_view text) { return detail::made_text(text, 2, bes_escape_bytes); }
 
-// Like escape, but each letter matches in either case, by Unicode's simple case folding. The result is a pattern, for == and !=.
+// Like escape, but each letter matches in either case, under Unicode simple case folding. The result is a pattern, for == and !=.
 inline std::string any_case(std::string_view text) { return detail::made_text(text, 12, bes_any_case_bytes); }
 
-// Turns any bytes, such as a file's name, into a text that the library accepts, as bes_to_utf8 does, with at most `most` bytes.
+// Turns arbitrary bytes, such as a file name, into text of at most `most` bytes that the library accepts, as bes_to_utf8 does.
 inline std::string to_utf8(std::string_view text, std::size_t most = 255)
 {
     std::string valid(most + 1, '\0');
@@ -84,8 +85,8 @@ inline std::string to_utf8(std::string_view text, std::size_t most = 255)
     return valid;
 }
 
-// Returns a query's text, and on the next line a caret under the character at a byte offset. If the text has several lines, only the line
-// with that byte is returned. Control characters become blanks.
+// Returns a query's text and, on the next line, a caret under the character at a byte offset. If the text has several lines, only the line
+// with that byte is returned. Control characters become spaces.
 inline std::string caret(std::string_view text, std::uint64_t offset)
 {
     const auto at = static_cast<std::size_t>(std::min<std::uint64_t>(offset, text.size()));

@@ -23,10 +23,10 @@ using Node = std::uint64_t;
 
 namespace detail {
 
-// What the number that goes with an error counts: bytes of a query's text, bytes of a batch, items or operations.
+// What the number that comes with an error counts: bytes of a query's text, bytes of a batch, items or operations.
 enum class Place { none, byte, batch_byte, item, operation };
 
-// Returns whether this error comes with a place, in a call that reports places of this kind.
+// Returns whether a call that reports places of this kind reports one with this error.
 inline bool has_place(std::uint32_t error, Place place)
 {
     switch (error) {
@@ -64,7 +64,7 @@ enum class ErrorClass : std::uint32_t {
     gone = BES_CLASS_GONE
 };
 
-// An error of a call. The call has changed nothing.
+// The error of a failed call. Such a call has changed nothing.
 class Refusal : public std::runtime_error {
 public:
     explicit Refusal(std::uint32_t number, std::uint64_t carried = 0, detail::Place place = detail::Place::none)
@@ -84,23 +84,23 @@ public:
     // For BES_BUSY, returns the pass that is writing.
     std::optional<std::uint64_t> pass_number() const noexcept { return carried_if(number_ == BES_BUSY); }
 
-    // For BES_FULL, returns the oldest version that a pass may still read.
+    // For BES_FULL, returns the oldest version that a pass can still read.
     std::optional<std::uint64_t> least() const noexcept { return carried_if(number_ == BES_FULL); }
 
     // For BES_CONFLICT, returns the journal's length.
     std::optional<std::uint64_t> length() const noexcept { return carried_if(number_ == BES_CONFLICT); }
 
-    // Returns the byte, counted from 0, at which a query's text or a batch's bytes are invalid. For BES_NOT_COVERED it is the first byte
-    // of the first comparison whose name has no index.
+    // Returns the byte, counting from 0, at which a query's text or a batch's bytes are invalid. For BES_NOT_COVERED, this is where the
+    // first comparison whose name has no index begins.
     std::optional<std::uint64_t> offset() const noexcept
     {
         return carried_if(is_at(detail::Place::byte) || place_ == detail::Place::batch_byte);
     }
 
-    // Returns the index, from 0, of the Predicate's item that is invalid or at which the items stop forming a query.
+    // Returns the index, counting from 0, of the Predicate's item that is invalid or at which the list can no longer be a query.
     std::optional<std::uint64_t> item() const noexcept { return carried_if(is_at(detail::Place::item)); }
 
-    // Returns the index, from 0, of the Batch's invalid operation.
+    // Returns the index, counting from 0, of the Batch's invalid operation.
     std::optional<std::uint64_t> operation() const noexcept { return carried_if(is_at(detail::Place::operation)); }
 
 private:
@@ -153,7 +153,7 @@ inline const char *kind_name(Kind kind)
     return "?";
 }
 
-// A change sets a value of one kind under a name whose index has another kind. The index would never hold the value.
+// Thrown if a change sets a value of one kind under a name whose index is of another kind. The index would never hold the value.
 class KindMismatch : public std::invalid_argument {
 public:
     KindMismatch(std::string_view name, Kind of_index, Kind of_value)
@@ -171,7 +171,7 @@ private:
     Kind of_value_;
 };
 
-// A MIME type: a text that no index holds.
+// A MIME type: a string that no index holds.
 struct Mime {
     std::string text;
 };
@@ -182,10 +182,10 @@ inline bool operator!=(const Mime &a, const Mime &b) { return !(a == b); }
 // Bytes that no index holds.
 using Raw = std::vector<std::uint8_t>;
 
-// A value of an attribute.
+// An attribute's value.
 using Value = std::variant<std::string, std::int32_t, std::int64_t, std::uint32_t, std::uint64_t, Mime, Raw>;
 
-// An attribute of a node, in a list.
+// A node's attribute, in a list.
 struct NamedValue {
     std::string name;
     Value value;
@@ -198,14 +198,14 @@ struct Index {
 
 namespace detail {
 
-// Throws the error of a call, with the number that the call wrote and what that number counts.
+// Throws a call's error, with the number that the call wrote and what that number counts.
 inline void check(std::uint32_t error, std::uint64_t carried = 0, Place place = Place::none)
 {
     if (error != BES_OK)
         throw Refusal(error, carried, place);
 }
 
-// Makes a call that writes one number, and returns that number.
+// Calls a function that writes one number, and returns that number.
 template <class Call, class... Arguments> std::uint64_t number_from(Call call, Arguments... arguments)
 {
     std::uint64_t number = 0;
@@ -213,7 +213,7 @@ template <class Call, class... Arguments> std::uint64_t number_from(Call call, A
     return number;
 }
 
-// Returns a pointer to the text's bytes. The library needs a pointer that isn't null, even if there are no bytes.
+// Returns a pointer to the text's bytes. The library requires a non-null pointer even if there are no bytes.
 inline const std::uint8_t *bytes_of(std::string_view text)
 {
     return reinterpret_cast<const std::uint8_t *>(text.empty() ? "" : text.data());
@@ -225,7 +225,7 @@ template <class T> const T *begin_of(const std::vector<T> &list)
     return list.empty() ? &none : list.data();
 }
 
-// Appends a text to the bytes, and returns where the text begins.
+// Appends a string to the bytes, and returns its offset.
 inline std::uint32_t append(std::string &bytes, std::string_view text)
 {
     if (text.size() > UINT32_MAX - bytes.size())
@@ -244,7 +244,7 @@ template <class T> constexpr Kind kind_of_integer()
     return std::is_signed_v<T> ? Kind::int32 : Kind::uint32;
 }
 
-// Returns the kind for a type that a Value may hold.
+// Returns the kind that corresponds to one of a Value's types.
 template <class T> constexpr Kind kind_of()
 {
     if constexpr (std::is_same_v<T, std::string>)
@@ -267,7 +267,7 @@ template <class T, class U> constexpr bool fits(U number)
     return static_cast<std::uint64_t>(number) <= static_cast<std::uint64_t>(std::numeric_limits<T>::max());
 }
 
-// Returns a number in the form that an operation in bestore.h has. Throws BES_NO_VALUE if the number doesn't fit the kind.
+// Returns a number as it is stored in a bes_operation. Throws BES_NO_VALUE if the number doesn't fit the kind.
 template <class U> std::uint64_t number_of(Kind kind, U number)
 {
     const bool is_held = (kind == Kind::int32 && fits<std::int32_t>(number)) || (kind == Kind::int64 && fits<std::int64_t>(number)) ||
@@ -300,7 +300,7 @@ inline Value value_of(std::uint32_t code, std::uint64_t number, std::string_view
 
 } // namespace detail
 
-// A value passed as an argument: a text, a Mime, a Raw, a Value or an integer. It refers to the caller's data. An integer's type
+// A value passed as an argument: a string, a Mime, a Raw, a Value or an integer. It refers to the caller's data. An integer's type
 // determines whether the value has 32 or 64 bits, and whether it is signed. If a kind is given, the value has that kind; an integer that
 // doesn't fit the kind throws BES_NO_VALUE.
 class Input {
@@ -334,7 +334,7 @@ private:
     std::string_view bytes_;
 };
 
-// A name with the type of its values, so that an index and the values under its name have the same kind:
+// A name together with the type of its values, so that an index and the values under its name are of the same kind:
 //
 //     const bestore::Attribute<std::int64_t> size{"size"};
 //     store.make_index(size);
@@ -377,8 +377,7 @@ struct Edit {
     std::string_view value = {};
 };
 
-// The writes that Batch, Pass and Change have in common: each passes an operation to Self's write(Edit), and returns that function's
-// result.
+// The writes that Batch, Pass and Change have in common. Each passes an operation to Self's write(Edit) and returns its result.
 template <class Self> class Writes {
 public:
     decltype(auto) remove_node(Node node) { return write({BES_REMOVE_NODE, node}); }
@@ -429,16 +428,16 @@ enum class Action : std::uint32_t {
     remove_index = BES_REMOVE_INDEX
 };
 
-// An operation of a batch, read back.
+// An operation read back from a batch.
 struct Operation {
     Action action;
-    Node node;                  // for new_node: the node that it made, if the batch comes from the journal or from a Change
+    Node node;                  // for new_node: the node that it created, if the batch comes from the journal or from a Change
     std::string name;           // empty if the operation has none
-    std::optional<Kind> kind;   // of the value or the index
-    std::optional<Value> value; // of set
+    std::optional<Kind> kind;   // the kind of the value or the index
+    std::optional<Value> value; // the value that set gives the attribute
 };
 
-// 1 to 64 operations. A pass applies either all of them or none.
+// A list of 1 to 64 operations. A pass applies either all of them or none.
 class Batch : public detail::Writes<Batch> {
 public:
     Batch &new_node() { return write({BES_NEW_NODE}); }
@@ -451,7 +450,7 @@ public:
         bytes_.clear();
     }
 
-    // Returns the operations, read back.
+    // Reads the operations back from the batch.
     std::vector<Operation> operations() const
     {
         std::vector<Operation> operations;
@@ -464,7 +463,7 @@ public:
         return operations;
     }
 
-    // Returns the batch as bytes, to keep or send, as bes_batch_to_bytes writes it.
+    // Encodes the batch as bytes that can be stored or sent, as bes_batch_to_bytes does.
     Raw to_bytes() const
     {
         Raw bytes(BES_BATCH_BYTES);
@@ -476,7 +475,7 @@ public:
         return bytes;
     }
 
-    // Returns the batch that to_bytes wrote as these bytes. After an error, the exception's offset() is the invalid byte.
+    // Returns the batch that to_bytes encoded as these bytes. If they are invalid, the exception's offset() is the first invalid byte.
     static Batch from_bytes(const Raw &bytes)
     {
         bes_batch read;
@@ -512,7 +511,8 @@ private:
         return detail::value_of(it.code, it.number, part(it.value_at, it.value_length));
     }
 
-    // Makes space for any 64 operations, lets the call fill it, and keeps as many operations as the call counts. Returns the call's error.
+    // Makes room for any 64 operations, has the call fill it, and keeps the number of operations that the call reports. Returns the call's
+    // error.
     template <class Call> std::uint32_t read(Call call)
     {
         bes_counts counts{0, 0};
@@ -525,7 +525,7 @@ private:
         return error;
     }
 
-    // Numbers the nodes that the operations make, starting from `next`.
+    // Numbers the nodes that the operations create, starting from `next`.
     void number_new_nodes(Node next)
     {
         for (auto &it : operations_)
@@ -537,20 +537,20 @@ private:
     std::string bytes_;
 };
 
-// An accepted batch: its commit number, and for each operation the node that it made, or 0.
+// A batch that was committed: its commit number and, for each operation, the node that it created, or 0.
 struct Written {
     std::uint64_t number;
     std::vector<Node> made;
 };
 
-// What an item of a predicate does, with BeOS's names.
+// What an item of a predicate does, under its BeOS name.
 enum query_op : std::uint32_t {
     B_EQ = BES_ITEM_EQ, B_NE = BES_ITEM_NE, B_LT = BES_ITEM_LT, B_LE = BES_ITEM_LE, B_GT = BES_ITEM_GT, B_GE = BES_ITEM_GE,
     B_CONTAINS = BES_ITEM_CONTAINS, B_BEGINS_WITH = BES_ITEM_BEGINS_WITH, B_ENDS_WITH = BES_ITEM_ENDS_WITH,
     B_AND = BES_ITEM_AND, B_OR = BES_ITEM_OR, B_NOT = BES_ITEM_NOT
 };
 
-// A query as items in reverse Polish order, pushed as on a BQuery: an attribute and a value, then the operator.
+// A query as a list of items in reverse Polish order. They are pushed as on a BQuery: an attribute and a value, then the operator.
 //
 //     Predicate().PushAttr("size").PushUInt64(1000).PushOp(B_GT)
 class Predicate {

@@ -1,4 +1,4 @@
-//! Finds libbestore: in the folder that `BESTORE_LIB_DIR` names, otherwise by pkg-config.
+//! Finds libbestore in the folder given by `BESTORE_LIB_DIR`, or otherwise through pkg-config.
 
 use std::env;
 use std::path::{Path, PathBuf};

@@ -1,17 +1,17 @@
-//! Declarations for `bestore.h`, the C interface of bestore. The crate `bestore` is the safe interface.
+//! Declarations for `bestore.h`, bestore's C interface. The crate `bestore` is the safe interface.
 //!
-//! The header and bestore(3) describe each call, its errors and its cost. Names are as in C. The numbers and the operation come from
-//! `bestore-types`.
+//! The header and bestore(3) describe each call, its errors and its cost. The names are those of C. The constants and `bes_operation` come
+//! from `bestore-types`.
 //!
-//! The library is looked for in the folder that `BESTORE_LIB_DIR` names, otherwise by pkg-config. `BESTORE_STATIC` links
-//! `libbestore.a`, if it is next to `libbestore.so`.
+//! The library is found in the folder given by `BESTORE_LIB_DIR`, or otherwise through pkg-config. If that folder has both `libbestore.so`
+//! and `libbestore.a`, `BESTORE_STATIC` selects the latter.
 #![no_std]
 #![allow(non_camel_case_types)]
 
 use core::ffi::c_void;
 use core::ptr::null_mut;
 
-/// The version of the header that these declarations were made from, as `bes_version` returns it.
+/// The version of the header to which these declarations correspond, in the form that `bes_version` returns.
 pub const BES_VERSION_NUMBER: u32 = 4000;
 
 pub use bestore_types::raw::RawOperation as bes_operation;
@@ -35,13 +35,13 @@ macro_rules! handles {
 }
 
 handles! {
-    /// One thread's handle to a store. It is never copied, and keeps its address while it is open.
+    /// One thread's handle to a store. It must never be copied, and must keep its address while it is open.
     bes_pass, BES_PASS_INIT;
     /// A query that was parsed once.
     bes_prepared, BES_PREPARED_INIT;
-    /// A position in the operations that rebuild a snapshot.
+    /// A position in the list of operations that rebuild a snapshot.
     bes_place, BES_PLACE_INIT;
-    /// What a pass has seen, to be passed to a pass of the same store in another thread.
+    /// A record of what a pass has seen, for a pass of the same store in another thread.
     bes_witness, BES_WITNESS_INIT;
     /// A change that has begun and hasn't ended yet.
     bes_draft, BES_DRAFT_INIT;
@@ -57,7 +57,7 @@ pub struct bes_item {
     pub number: u64,
 }
 
-/// A value as `bes_get` writes it.
+/// A value, as written by `bes_get`.
 #[repr(C)]
 #[derive(Clone, Copy, Debug, Default, PartialEq, Eq)]
 pub struct bes_attribute {
@@ -66,7 +66,7 @@ pub struct bes_attribute {
     pub number: u64,
 }
 
-/// A name that was checked once. Other bytes in it name no attribute.
+/// A name that has been checked once. With any other contents, it names no attribute.
 #[repr(C)]
 #[derive(Clone, Copy, Debug, PartialEq, Eq)]
 pub struct bes_name {
@@ -74,7 +74,7 @@ pub struct bes_name {
     pub bytes: [u8; 64],
 }
 
-/// An attribute as `bes_columns` writes it.
+/// An attribute, as written by `bes_columns`.
 #[repr(C)]
 #[derive(Clone, Copy, Debug, Default, PartialEq, Eq)]
 pub struct bes_cell {
@@ -86,7 +86,7 @@ pub struct bes_cell {
     pub length: u64,
 }
 
-/// A position in an order, as `bes_ordered` leaves it.
+/// A position in an order, as set by `bes_ordered`.
 #[repr(C)]
 #[derive(Clone, Copy, Debug, PartialEq, Eq)]
 pub struct bes_cursor {
@@ -96,7 +96,7 @@ pub struct bes_cursor {
 }
 
 impl bes_cursor {
-    /// The beginning of each order.
+    /// The beginning of every order.
     pub const BEGINNING: Self = Self {
         kind: 0,
         length: 0,
@@ -104,7 +104,7 @@ impl bes_cursor {
     };
 }
 
-/// How full a store is.
+/// A store's usage.
 #[repr(C)]
 #[derive(Clone, Copy, Debug, Default, PartialEq, Eq)]
 pub struct bes_usage {
@@ -118,7 +118,7 @@ pub struct bes_usage {
     pub holder: u64,
 }
 
-/// How many nodes joined and left the answer at a refresh.
+/// How many nodes a refresh added to the result and how many it removed.
 #[repr(C)]
 #[derive(Clone, Copy, Debug, Default, PartialEq, Eq)]
 pub struct bes_updates {
@@ -126,7 +126,7 @@ pub struct bes_updates {
     pub removed: u64,
 }
 
-/// How many operations and bytes a list has.
+/// The numbers of operations and bytes in a list.
 #[repr(C)]
 #[derive(Clone, Copy, Debug, Default, PartialEq, Eq)]
 pub struct bes_counts {
@@ -164,7 +164,7 @@ extern "C" {
     pub fn bes_finish(pass: *mut bes_pass, bytes: *mut u8, bytes_room: usize, count: *mut u64) -> u32;
     pub fn bes_meet(pass: *mut bes_pass, seen: *mut u64) -> u32;
     pub fn bes_witness_of(pass: *mut bes_pass, witness: *mut bes_witness) -> u32;
-    /// The witness belongs to a pass of the same store: otherwise the behaviour is undefined.
+    /// The witness must belong to a pass of the same store; otherwise the behaviour is undefined.
     pub fn bes_join(pass: *mut bes_pass, witness: *mut bes_witness, seen: *mut u64) -> u32;
     pub fn bes_dismiss(witness: *mut bes_witness) -> u32;
     pub fn bes_move_witness(witness: *mut bes_witness, other: *mut bes_witness) -> u32;

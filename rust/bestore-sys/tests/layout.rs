@@ -1,4 +1,4 @@
-//! Checks the declarations against the header: a C program prints sizes, offsets and constants, and the test compares them.
+//! Checks the declarations against the header by comparing them with the sizes, offsets and constants that a C program prints.
 
 use bestore_sys::*;
 use std::fmt::Write as _;
@@ -47,7 +47,7 @@ fn layouts() -> Vec<Layout> {
     }
 }
 
-/// The folder with `bestore.h`: `BESTORE_INCLUDE_DIR`, otherwise the repository's.
+/// The folder with `bestore.h`: `BESTORE_INCLUDE_DIR` if set, otherwise the repository's.
 fn include_folder() -> PathBuf {
     std::env::var_os("BESTORE_INCLUDE_DIR").map_or_else(
         || PathBuf::from(concat!(env!("CARGO_MANIFEST_DIR"), "/../../include")),
@@ -55,7 +55,7 @@ fn include_folder() -> PathBuf {
     )
 }
 
-/// Expressions of C, and the values that they have here.
+/// C expressions, and the values that they have here.
 fn facts() -> Vec<(String, usize)> {
     let constants = CONSTANTS
         .iter()
@@ -76,7 +76,7 @@ fn facts() -> Vec<(String, usize)> {
     facts
 }
 
-/// A program that prints the expressions with their values, one on a line.
+/// A program that prints the expressions with their values, one per line.
 fn program() -> String {
     let mut text =
         String::from("#include \"bestore.h\"\n#include <stdalign.h>\n#include <stdio.h>\nint main(void)\n{\n");

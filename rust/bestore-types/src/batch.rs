@@ -9,7 +9,7 @@ use std::fmt;
 pub enum Operation<'a> {
     /// Makes a node.
     NewNode {
-        /// The number of the node that was made, in a batch from the journal; otherwise 0.
+        /// In a batch from the journal, the number of the node that was created; otherwise 0.
         node: u64,
     },
     /// Removes a node and all its attributes.
@@ -33,9 +33,9 @@ pub enum Operation<'a> {
         /// The name of the attribute.
         name: &'a str,
     },
-    /// Makes an index, which takes attributes that are set from then on.
+    /// Creates an index, which holds attributes that are set from then on.
     MakeIndex {
-        /// The name of the attributes that it takes.
+        /// The name of the attributes that it holds.
         name: &'a str,
         /// The kind of their values.
         kind: Kind,
@@ -47,7 +47,7 @@ pub enum Operation<'a> {
     },
 }
 
-/// The operations of one transaction, 1 to 64. Either all of them are done, or none.
+/// The operations of one transaction, 1 to 64. Either all of them take effect or none does.
 ///
 /// ```
 /// use bestore_types::{Batch, Kind, Operation};
@@ -58,8 +58,8 @@ pub enum Operation<'a> {
 /// # Ok::<(), bestore_types::Error>(())
 /// ```
 ///
-/// These calls don't check names and values. The store to which the batch is applied checks them, and reports the first operation that
-/// isn't valid.
+/// These calls don't check names and values. The store to which the batch is applied does, and reports the first operation that isn't
+/// valid.
 ///
 /// # Panics
 /// A call that adds an operation panics if the names and values take 4 GiB or more.
@@ -70,13 +70,13 @@ pub struct Batch {
 }
 
 impl Batch {
-    /// Makes a batch without operations.
+    /// Creates a batch without operations.
     #[must_use]
     pub fn new() -> Self {
         Self::default()
     }
 
-    /// Adds an operation that makes a node. The node gets the next number; a change knows the number in advance.
+    /// Adds an operation that creates a node. The node gets the next number, which a change knows in advance.
     pub fn new_node(&mut self) -> &mut Self {
         self.add(sys::BES_NEW_NODE, 0, "", 0, 0, &[])
     }
@@ -99,7 +99,7 @@ impl Batch {
         self.add(sys::BES_UNSET, node, name, 0, 0, &[])
     }
 
-    /// Adds an operation that makes an index with this name for values of this kind.
+    /// Adds an operation that creates an index with this name for values of this kind.
     pub fn make_index(&mut self, name: &str, kind: Kind) -> &mut Self {
         self.add(sys::BES_MAKE_INDEX, 0, name, kind.code(), 0, &[])
     }
@@ -121,26 +121,26 @@ impl Batch {
         self.list.operations.is_empty()
     }
 
-    /// Returns whether the batch has as many operations as a transaction can have.
+    /// Returns whether the batch has the maximum number of operations.
     #[must_use]
     pub fn is_full(&self) -> bool {
         self.len() >= OPERATIONS
     }
 
-    /// Gives the batch a token, a string of the caller's choice that identifies the batch later. The token changes neither the operations,
-    /// nor [`to_bytes`](Self::to_bytes), nor `==`.
+    /// Gives the batch a token, a string of your choice by which the batch can be identified later. The token affects neither the
+    /// operations, nor [`to_bytes`](Self::to_bytes), nor `==`.
     pub fn set_token(&mut self, token: &str) -> &mut Self {
         self.token = Some(token.into());
         self
     }
 
-    /// Returns the token, if the batch has one.
+    /// Returns the batch's token, if any.
     #[must_use]
     pub fn token(&self) -> Option<&str> {
         self.token.as_deref()
     }
 
-    /// Removes all operations and the token, and keeps the memory.
+    /// Removes all operations and the token, but keeps the memory.
     pub fn clear(&mut self) {
         self.token = None;
         self.list.operations.clear();
@@ -155,8 +155,8 @@ impl Batch {
         }
     }
 
-    /// Gives these numbers, in order, to the operations that make nodes. With the nodes from [`Written`](crate::Written), the batch equals
-    /// the one in the journal.
+    /// Gives these numbers, in order, to the operations that create nodes. With the nodes from [`Written`](crate::Written), the batch is
+    /// then equal to the one in the journal.
     pub fn set_nodes(&mut self, nodes: &[u64]) -> &mut Self {
         let made = self.list.operations.iter_mut();
         let made = made.filter(|operation| operation.kind == sys::BES_NEW_NODE);
@@ -166,8 +166,8 @@ impl Batch {
         self
     }
 
-    /// Returns the nodes that operations name, with the operations' indices. An operation that makes a node names it only in a batch from
-    /// the journal.
+    /// Returns the nodes to which operations refer, with the operations' indices. An operation that creates a node refers to it only in a
+    /// batch from the journal.
     pub(crate) fn named_nodes(&mut self) -> impl Iterator<Item = (usize, &mut u64)> {
         let operations = self.list.operations.iter_mut().enumerate();
         operations.filter_map(|(index, operation)| match operation.kind {
@@ -182,7 +182,7 @@ impl Batch {
     pub(crate) fn add(&mut self, kind: u32, node: u64, name: &str, code: u32, number: u64, value: &[u8]) -> &mut Self {
         let List { operations, bytes } = &mut self.list;
         if operations.is_empty() {
-            bytes.reserve(64); // for a few names and values, so that they aren't moved at each of the first ones
+            bytes.reserve(64); // room for a few names and values, so that the first ones don't each cause a move
         }
         let name_at = bytes.len();
         bytes.extend_from_slice(name.as_bytes());
@@ -215,10 +215,10 @@ impl Batch {
     }
 }
 
-/// Returns a length in the form that the C library takes.
+/// Converts a length to the type that the C library takes.
 ///
 /// # Panics
-/// If the length is 4 GiB or more.
+/// This function panics if the length is 4 GiB or more.
 #[must_use]
 pub fn narrow(length: usize) -> u32 {
     u32::try_from(length).expect("names and values have less than 4 GiB")
@@ -256,9 +256,9 @@ impl<'a> IntoIterator for &'a Batch {
 /// An accepted transaction.
 #[derive(Clone, Debug, PartialEq, Eq)]
 pub struct Written {
-    /// The commit number: the length of the journal including this transaction.
+    /// The commit number: the journal's length including this transaction.
     pub number: u64,
-    /// The nodes that the transaction made, in the order of the operations.
+    /// The nodes that the transaction created, in the order of its operations.
     pub nodes: Vec<u64>,
 }
 
@@ -292,20 +292,20 @@ impl List {
         self.bytes.get(at..at + length as usize).unwrap_or_default()
     }
 
-    /// Returns the name in an operation.
+    /// Returns an operation's name.
     #[must_use]
     pub fn name(&self, operation: &RawOperation) -> &str {
         let bytes = self.part(operation.name_at, operation.name_length);
         std::str::from_utf8(bytes).unwrap_or_default()
     }
 
-    /// Returns the bytes of the value in an operation.
+    /// Returns the bytes of an operation's value.
     #[must_use]
     pub fn value_bytes(&self, operation: &RawOperation) -> &[u8] {
         self.part(operation.value_at, operation.value_length)
     }
 
-    /// Returns the value in an operation that has the code of a kind.
+    /// Returns the value of an operation that has a valid type code.
     #[must_use]
     pub fn value(&self, operation: &RawOperation) -> Value {
         let kind = Kind::from_code(operation.code).unwrap_or(Kind::Raw);

@@ -1,6 +1,6 @@
-//! Batches as bytes, in the format that the libraries for C, C++ and Python also use. All numbers are little-endian.
+//! Batches encoded as bytes, in the format that the libraries for C, C++ and Python also use. All numbers are little-endian.
 //!
-//! `BEB`, the format's version 1, and the count of the operations come first, a byte each. Then each operation has:
+//! First come `BEB`, the format's version, which is 1, and the number of operations, one byte each. Then each operation has:
 //! - its kind, one byte;
 //! - kinds 0 to 3 (new node, remove node, set, unset): the node, 8 bytes;
 //! - kinds 2 to 5 (set, unset, make index, remove index): the length of the name, one byte, and the name;
@@ -13,10 +13,10 @@ use crate::{sys, Batch, Error, Kind, Result};
 const BEGINNING: [u8; 4] = *b"BEB\x01";
 
 impl Batch {
-    /// Returns the batch as bytes, to be kept or sent.
+    /// Encodes the batch as bytes that can be stored or sent.
     ///
     /// # Errors
-    /// [`Error::BadCount`], [`Error::NameLength`] and [`Error::DataLength`]: no store accepts such a batch.
+    /// [`Error::BadCount`], [`Error::NameLength`] or [`Error::DataLength`] if no store would accept such a batch.
     pub fn to_bytes(&self) -> Result<Vec<u8>> {
         self.check_count()?;
         let mut bytes = Vec::with_capacity(5 + 32 * self.len() + self.raw().bytes.len());
@@ -62,7 +62,7 @@ impl Batch {
     /// Returns the batch that the bytes encode.
     ///
     /// # Errors
-    /// [`Error::BadBatch`] with the offset of the first byte that isn't valid, or with the length if the bytes end too soon.
+    /// [`Error::BadBatch`] with the offset of the first invalid byte, or with the length if the bytes end too soon.
     pub fn from_bytes(bytes: &[u8]) -> Result<Self> {
         let mut reader = Reader { bytes, at: 0 };
         reader.beginning()?;
@@ -99,7 +99,7 @@ struct Reader<'a> {
 }
 
 impl<'a> Reader<'a> {
-    /// Returns the error at the byte this far before the next one.
+    /// Returns the error for the byte that is this far before the next one.
     fn bad<T>(&self, back: usize, why: &'static str) -> Result<T> {
         Err(Error::BadBatch {
             offset: self.at - back,
@@ -237,7 +237,8 @@ mod tests {
         }
     }
 
-    /// Returns the lines with this mark from the table that tests the encoders of all languages: the bytes, and the words after them.
+    /// Returns the lines with this mark from the table with which the encoders of all languages are tested: the bytes, and the words after
+    /// them.
     fn table(mark: &str) -> Vec<(Vec<u8>, String)> {
         let path = concat!(env!("CARGO_MANIFEST_DIR"), "/../../tests/batches.txt");
         let text = std::fs::read_to_string(path).unwrap();
@@ -261,7 +262,7 @@ mod tests {
         bytes.repeat(times.parse().unwrap())
     }
 
-    /// Adds the operation that the words describe.
+    /// Adds the operation that these words describe.
     fn add_words(batch: &mut Batch, words: &str) {
         let words: Vec<&str> = words.split_whitespace().collect();
         let [kind, node, name, code, number, value]: [&str; 6] = words.try_into().unwrap();

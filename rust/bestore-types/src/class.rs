@@ -1,4 +1,4 @@
-//! What each error in the library means, and what a program can do about it.
+//! The library's errors: what each one means, and what a program can do about it.
 
 use crate::sys;
 use std::fmt;
@@ -15,7 +15,7 @@ macro_rules! classes {
             /// Every class.
             pub const ALL: &'static [Class] = &[$(Class::$class),*];
 
-            /// Returns the name of the class in the server's protocol.
+            /// Returns the class's name in the server's protocol.
             #[must_use]
             pub const fn name(self) -> &'static str {
                 match self {
@@ -62,11 +62,11 @@ pub struct Meaning {
     pub class: Class,
     /// What was wrong.
     pub what: &'static str,
-    /// What would be right, or an empty string.
+    /// A hint on how to fix it, or an empty string.
     pub advice: &'static str,
 }
 
-/// The meaning of an error that only a later version of the library has. It is assumed that the same call won't succeed later.
+/// The meaning of an error that only a later version of the library has. The assumption is that repeating the call won't help.
 const UNKNOWN: Meaning = Meaning {
     code: sys::BES_OK,
     class: Class::Mine,
@@ -75,7 +75,7 @@ const UNKNOWN: Meaning = Meaning {
 };
 
 impl Meaning {
-    /// Shows what would be right, after what was wrong.
+    /// Appends the hint to the description of the error.
     pub(crate) fn show_advice(&self, f: &mut fmt::Formatter<'_>) -> fmt::Result {
         match self.advice {
             "" => Ok(()),
@@ -90,7 +90,7 @@ impl Meaning {
     }
 }
 
-/// Every error in the library.
+/// All of the library's errors.
 pub const MEANINGS: &[Meaning] = &[
     // surface.toml: errors
     Meaning {

@@ -1,11 +1,10 @@
-//! Orders, and the positions in an order that pages continue from.
+//! Orders, and the positions in them at which pages begin.
 
 use crate::{Error, Kind, Result, Value};
 use std::fmt;
 use std::str::FromStr;
 
-/// An order of nodes: by their values in an index, and by number where the values are equal. A node without a value in the index isn't in
-/// the order.
+/// An order of nodes: by their values in an index, then by node number among equal values. Nodes without a value in the index are left out.
 ///
 /// ```
 /// let newest_first = bestore_types::Order::by("MAIL:when").descending();
@@ -18,7 +17,7 @@ pub struct Order {
 }
 
 impl Order {
-    /// Returns the ascending order by the index with this name.
+    /// Returns the ascending order by the index of this name.
     #[must_use]
     pub fn by(name: &str) -> Self {
         Self {
@@ -36,7 +35,7 @@ impl Order {
         }
     }
 
-    /// Returns the name of the index.
+    /// Returns the index's name.
     #[must_use]
     pub fn name(&self) -> &str {
         &self.name
@@ -49,7 +48,7 @@ impl Order {
     }
 }
 
-/// Shows the name in quotes, and the direction.
+/// Formats the name in quotes, followed by the direction.
 impl fmt::Display for Order {
     fn fmt(&self, f: &mut fmt::Formatter<'_>) -> fmt::Result {
         let direction = if self.is_descending { "descending" } else { "ascending" };
@@ -57,10 +56,10 @@ impl fmt::Display for Order {
     }
 }
 
-/// A position in the ordered answer to a query: the position of a [`Page`](crate::Page)'s last node. The next page begins right after it,
-/// even in a later snapshot, whatever was written in between.
+/// A position in a query's ordered result: the position of a [`Page`](crate::Page)'s last node. The next page begins just after it, even in
+/// a later snapshot, whatever was written in between.
 ///
-/// It prints as a short string, which [`str::parse`] reads, so you can keep it or send it elsewhere.
+/// A cursor is displayed as a short string that [`str::parse`] reads, so you can store it or send it elsewhere.
 #[derive(Clone, Debug, PartialEq, Eq, Hash)]
 pub struct Cursor {
     order: Order,
@@ -76,31 +75,31 @@ struct Position {
 }
 
 impl Cursor {
-    /// Returns the beginning of an answer.
+    /// Returns the beginning of a result.
     #[must_use]
     pub fn beginning(order: Order, check: u32) -> Self {
         Self { order, check, at: None }
     }
 
-    /// Returns the order of the page.
+    /// Returns the page's order.
     #[must_use]
     pub fn order(&self) -> &Order {
         &self.order
     }
 
-    /// Returns the value that the page's last node has in the index, or `None` at the beginning, where no node comes before.
+    /// Returns the value of the page's last node in the index, or `None` at the beginning, where there is no such node.
     #[must_use]
     pub fn value(&self) -> Option<&Value> {
         self.at.as_ref().map(|at| &at.value)
     }
 
-    /// Returns the last node of the page, or `None` at the beginning.
+    /// Returns the page's last node, or `None` at the beginning.
     #[must_use]
     pub fn node(&self) -> Option<u64> {
         self.at.as_ref().map(|at| at.node)
     }
 
-    /// Moves to the node with this value.
+    /// Moves to this node, which has this value.
     pub fn move_to(&mut self, value: Value, node: u64) {
         self.at = Some(Position { value, node });
     }
@@ -132,14 +131,16 @@ impl Cursor {
         }
     }
 
-    /// Returns the kind of the index and the last node's key in the index, or `None` at the beginning. The byte order of keys is the order.
+    /// Returns the index's kind and the last node's key in the index, or `None` at the beginning. Comparing keys byte by byte gives the
+    /// order.
     #[must_use]
     pub fn key(&self) -> Option<(Kind, Vec<u8>)> {
         let at = self.at.as_ref()?;
         Some((at.value.kind(), encode_key(&at.value, at.node)))
     }
 
-    /// Returns the cursor after the node with this key in an index of this kind, or the beginning if there is no such key.
+    /// Returns the cursor after the node with this key in an index of this kind, or the beginning if there is no kind or the key isn't
+    /// valid.
     #[must_use]
     pub fn of_key(order: Order, check: u32, kind: Option<Kind>, key: &[u8]) -> Self {
         let at = kind.and_then(|kind| decode_key(kind, key));
@@ -155,18 +156,18 @@ pub enum CursorFault {
     Text,
     /// The cursor belongs to another order.
     OtherOrder {
-        /// The order of the cursor.
+        /// The cursor's order.
         cursor: Order,
-        /// The order of the page that was asked for.
+        /// The order of the requested page.
         page: Order,
     },
     /// The cursor belongs to another query.
     OtherQuery,
-    /// The kind of the index has changed since the cursor was made.
+    /// The index's kind has changed since the cursor was created.
     OtherKind {
-        /// The name of the index.
+        /// The index's name.
         name: String,
-        /// The kind that the index had.
+        /// The kind that the index had then.
         cursor: Kind,
         /// The kind that the index has now.
         index: Kind,
@@ -194,22 +195,22 @@ impl fmt::Display for CursorFault {
     }
 }
 
-// The text of a cursor is these bytes in base64url, without padding: the format; 1 if it descends; the kind's number, or 0 at the
-// beginning; the name's length; the name; the check of the query; the key; and the check of everything before it.
+// A cursor's text encodes the following bytes in base64url, without padding: the format; 1 for descending order; the kind's number, or 0 at
+// the beginning; the name's length; the name; the query's checksum; the key; and a checksum of everything before it.
 
-/// The first byte of a cursor's text.
+/// The first byte that a cursor's text encodes.
 const FORMAT: u8 = 1;
 
-/// The maximum number of bytes that a cursor's text encodes: with the longest name and the longest key.
+/// The maximum number of bytes that a cursor's text encodes, with the longest name and the longest key.
 const LONGEST: usize = 4 + 63 + 4 + 264 + 4;
 
-/// Returns the number of a kind in a cursor's text, which is the kind's position in [`Kind::ALL`], from 1.
+/// Returns a kind's number in a cursor's text, which is its position in [`Kind::ALL`], counting from 1.
 fn kind_number(kind: Kind) -> u8 {
     let place = Kind::ALL.iter().position(|other| *other == kind).unwrap_or_default();
     place as u8 + 1
 }
 
-/// Shows the cursor's text.
+/// Formats the cursor's text.
 impl fmt::Display for Cursor {
     fn fmt(&self, f: &mut fmt::Formatter<'_>) -> fmt::Result {
         let name = self.order.name.as_bytes();
@@ -232,13 +233,13 @@ impl FromStr for Cursor {
 
     fn from_str(text: &str) -> Result<Self> {
         let found = of_base64(text).and_then(|bytes| read(&bytes));
-        // Bits after the last byte could differ, and would give one cursor two texts.
+        // Otherwise the bits after the last byte could differ, and the same cursor could have two texts.
         let found = found.filter(|cursor| cursor.to_string() == text);
         found.ok_or(Error::BadCursor(CursorFault::Text))
     }
 }
 
-/// Returns the cursor that these bytes encode, if they encode one.
+/// Returns the cursor that these bytes encode, if any.
 fn read(bytes: &[u8]) -> Option<Cursor> {
     let (front, check) = split_last(bytes)?;
     if crc32(front) != check {
@@ -266,13 +267,13 @@ fn read(bytes: &[u8]) -> Option<Cursor> {
     })
 }
 
-/// Returns all bytes but the last four, and the last four as a number.
+/// Returns all bytes except the last four, and the last four as a number.
 fn split_last(bytes: &[u8]) -> Option<(&[u8], u32)> {
     let (front, last) = bytes.split_at(bytes.len().checked_sub(4)?);
     Some((front, u32::from_be_bytes(last.try_into().ok()?)))
 }
 
-/// Returns the key for a value and a node in an index. The byte order of keys is the order of values and nodes.
+/// Returns the key for a value and a node in an index. Comparing keys byte by byte gives the order of values and nodes.
 #[must_use]
 pub fn encode_key(value: &Value, node: u64) -> Vec<u8> {
     let mut key = match (value, value.kind().width()) {
@@ -284,8 +285,8 @@ pub fn encode_key(value: &Value, node: u64) -> Vec<u8> {
     key
 }
 
-/// Returns the number with its sign bit inverted, if its kind has a sign. Then the order of the bits is the order of the numbers. A second
-/// call inverts the bit again.
+/// Returns the number, with its sign bit inverted if the kind is signed, so that the order of the bits is the order of the numbers. A
+/// second call undoes this.
 fn in_order(kind: Kind, width: usize, number: u64) -> u64 {
     match kind.least() {
         Some(0) | None => number,
@@ -308,7 +309,7 @@ fn decode_key(kind: Kind, key: &[u8]) -> Option<Position> {
     Some(Position { value, node })
 }
 
-/// Returns the text before a final zero byte, if the text contains no other.
+/// Returns the text before a final zero byte, if it is valid and contains no other zero byte.
 fn text_of(front: &[u8]) -> Option<String> {
     let (last, text) = front.split_last()?;
     if *last != 0 || text.contains(&0) || text.len() > 255 {
@@ -317,7 +318,7 @@ fn text_of(front: &[u8]) -> Option<String> {
     String::from_utf8(text.to_vec()).ok()
 }
 
-/// Returns the CRC-32 of IEEE 802.3.
+/// Returns the CRC-32 checksum defined in IEEE 802.3.
 #[must_use]
 pub fn crc32(bytes: &[u8]) -> u32 {
     const POLYNOMIAL: u32 = 0xedb8_8320;
@@ -339,7 +340,7 @@ fn to_base64(bytes: &[u8]) -> String {
     text
 }
 
-/// Returns the bytes that a text encodes, if the text isn't longer than a cursor's.
+/// Returns the bytes that a text encodes, if it isn't longer than a cursor's text can be.
 fn of_base64(text: &str) -> Option<Vec<u8>> {
     if text.len() > LONGEST * 4 / 3 {
         return None;
@@ -373,7 +374,7 @@ mod tests {
 
     #[test]
     fn a_text_is_as_the_format_says() {
-        // Python's tests check the same text.
+        // The Python tests check the same text.
         let text = "AQEDCU1BSUw6d2hlbrFkq6-AAAAAZVPxAAAAAAAAAAARURq1_A";
         assert_eq!(crc32(b"123456789"), 0xcbf4_3926);
         assert_eq!(example().to_string(), text);

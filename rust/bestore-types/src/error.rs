@@ -1,4 +1,4 @@
-//! Why a call did nothing.
+//! Errors.
 
 use crate::class::Meaning;
 use crate::{sys, text, Class, CursorFault, Kind};
@@ -7,26 +7,26 @@ use std::fmt;
 /// The result of a call in this crate.
 pub type Result<T> = std::result::Result<T, Error>;
 
-/// Why a call did nothing, with details.
+/// The reason why a call did nothing, with details.
 #[non_exhaustive]
 #[derive(Debug)]
 pub enum Error {
-    /// Another pass was writing at every try.
+    /// Another pass was writing on every try.
     Busy {
-        /// The number of that pass.
+        /// That pass's number.
         pass: u64,
     },
     /// The node doesn't exist.
     NoNode,
     /// The node has no attribute with this name.
     NoAttribute,
-    /// The node has 64 attributes already.
+    /// The node already has 64 attributes.
     TooManyAttributes,
     /// An index with this name already exists.
     IndexExists,
     /// There is no index with this name.
     NoIndex,
-    /// There is no index of the name that an order uses.
+    /// There is no index on the name that an order uses.
     NoOrder {
         /// The name.
         name: String,
@@ -35,115 +35,115 @@ pub enum Error {
     },
     /// No page can continue from the cursor.
     BadCursor(CursorFault),
-    /// A page has at least one node.
+    /// A page must have at least one node.
     NoRoom,
-    /// There are 32 indices already.
+    /// There are already 32 indices.
     TooManyIndices,
     /// An index can't have this kind.
     NotIndexable,
-    /// The journal has as many entries as the store was opened for.
+    /// The journal has reached the number of entries that the store was opened for.
     CommitsSpent,
-    /// There isn't enough memory.
+    /// Out of memory.
     OutOfMemory,
     /// No page is free.
     Full {
-        /// The oldest snapshot that a pass may still read, whose pages are kept.
+        /// The oldest snapshot whose pages are kept because a pass may still read it.
         oldest: u64,
     },
-    /// The query is refused.
+    /// The query was refused.
     Query(QueryError),
     /// A name is empty or has more than 63 bytes.
     NameLength {
-        /// Which operation of the batch, from 0.
+        /// Which operation of the batch, counting from 0.
         operation: Option<u64>,
     },
     /// A value has more than 255 bytes.
     DataLength {
-        /// Which operation of the batch, from 0.
+        /// Which operation of the batch, counting from 0.
         operation: Option<u64>,
     },
-    /// A name or a string has a zero byte.
+    /// A name or a string contains a zero byte.
     HasNul {
-        /// Which operation of the batch, from 0.
+        /// Which operation of the batch, counting from 0.
         operation: Option<u64>,
     },
-    /// A limit of the store is out of its range.
+    /// One of the store's limits is out of range.
     BadLimits,
     /// Every pass of the store is in use.
     NoPass,
-    /// Another pass of the store is open, or another clone of it.
+    /// Another pass or another clone of the store is open.
     InUse,
     /// The witness belongs to a pass of another store.
     OtherStore,
     /// A batch is empty or has more than 64 operations.
     BadCount {
-        /// How many it has.
+        /// How many operations it has.
         count: usize,
     },
     /// The journal is longer than the write expects.
     Conflict {
-        /// The length that was expected.
+        /// The expected length.
         expected: u64,
-        /// The length that was found.
+        /// The actual length.
         found: u64,
     },
-    /// The index with this name takes another kind, so it wouldn't contain the value.
+    /// The index of this name is of another kind, so it wouldn't hold the value.
     KindMismatch {
         /// The name of the attribute and of the index.
         name: String,
-        /// The kind of the index.
+        /// The index's kind.
         index: Kind,
-        /// The kind of the value.
+        /// The value's kind.
         value: Kind,
     },
     /// The shelf has no such volume.
     NoVolume {
         /// The volume.
         volume: u32,
-        /// How many there are.
+        /// How many volumes there are.
         volumes: u32,
     },
-    /// An operation names a node that isn't in the volume that is written.
+    /// An operation refers to a node that isn't in the volume being written to.
     OtherVolume {
-        /// The volume that is written.
+        /// The volume being written to.
         volume: u32,
-        /// Which operation of the batch, from 0. In a change, the operation that was to be added.
+        /// Which operation of the batch, counting from 0. In a change, the operation that would have been added.
         operation: Option<u64>,
     },
-    /// An index of a shelf is made or removed in all volumes, by separate calls, and not in the volume of a batch.
+    /// A shelf's indices are created and removed in all volumes, by separate calls, not by a batch in one volume.
     PartialIndex {
-        /// Which operation of the batch, from 0.
+        /// Which operation of the batch, counting from 0.
         operation: u64,
     },
-    /// The next node of the store is too great for a volume of a shelf.
+    /// The number of the store's next node is too large for a shelf's volume.
     NodesSpent,
     /// An error from one volume of a shelf.
     InVolume {
         /// The volume.
         volume: u32,
-        /// The error in that volume.
+        /// The volume's error.
         error: Box<Error>,
     },
     /// Bytes that aren't a batch.
     BadBatch {
-        /// The offset of the first byte that isn't valid, or the length of the bytes if they end too soon.
+        /// The offset of the first invalid byte, or the number of bytes if they end too soon.
         offset: usize,
         /// What is wrong at that position.
         why: &'static str,
     },
     /// The handle was opened before this process was forked, and belongs to the parent.
     Forked,
-    /// The write was made in memory, but couldn't be saved. The store accepts no more writes.
+    /// The write was applied in memory but couldn't be saved. The store accepts no more writes.
     #[cfg(feature = "saved")]
     NotSaved(std::sync::Arc<crate::saved::Error>),
-    /// Nothing was written, because saving failed earlier, or because the file is closed.
+    /// Nothing was written, because saving had failed earlier or the file is closed.
     #[cfg(feature = "saved")]
     Stopped(std::sync::Arc<crate::saved::Error>),
-    /// The program's own error, made by [`Error::other`] in the closure of a change.
+    /// The program's own error, created with [`Error::other`] in a change's closure.
     Other(Box<dyn std::error::Error + Send + Sync>),
-    /// An error in the library that this crate doesn't know.
+    /// An error from the library that this crate doesn't know.
     Unexpected {
-        /// The error, as `bestore.h` lists it.
+        /// The error's number in `bestore.h`.
         code: u32,
         /// The number that comes with the error.
         carried: u64,
@@ -151,12 +151,12 @@ pub enum Error {
 }
 
 impl Error {
-    /// Makes an error of the program's own. A change's closure returns it to stop the change.
+    /// Creates an error of the program's own, which a change's closure can return to abandon the change.
     pub fn other(error: impl Into<Box<dyn std::error::Error + Send + Sync>>) -> Self {
         Error::Other(error.into())
     }
 
-    /// Returns the same error with this volume of a shelf, unless the error depends only on the call.
+    /// Returns the same error, attributed to this volume of a shelf unless the error depends only on the call.
     #[must_use]
     pub fn in_volume(self, volume: u32) -> Self {
         match self {
@@ -171,7 +171,7 @@ impl Error {
         }
     }
 
-    /// Returns the shelf volume that the error comes from, if it comes from one.
+    /// Returns the shelf's volume that the error comes from, if any.
     #[must_use]
     pub fn volume(&self) -> Option<u32> {
         match self {
@@ -189,7 +189,7 @@ impl Error {
         }
     }
 
-    /// Returns the number of this error in `bestore.h`, if it has one.
+    /// Returns this error's number in `bestore.h`, if it has one.
     #[must_use]
     pub fn code(&self) -> Option<u32> {
         Some(match self {
@@ -241,7 +241,7 @@ impl Error {
     }
 }
 
-/// Shows an operation in a batch, between what was wrong with it and what would be right.
+/// Formats an operation's index, between what was wrong with it and the hint on how to fix it.
 fn at_operation(f: &mut fmt::Formatter<'_>, operation: &Option<u64>) -> fmt::Result {
     match operation {
         Some(index) => write!(f, " (operation {index}, counted from 0)"),
@@ -249,7 +249,7 @@ fn at_operation(f: &mut fmt::Formatter<'_>, operation: &Option<u64>) -> fmt::Res
     }
 }
 
-/// Shows what was wrong, what is known about the position, and what would be right.
+/// Formats what was wrong, what is known about the position, and a hint on how to fix it.
 impl fmt::Display for Error {
     fn fmt(&self, f: &mut fmt::Formatter<'_>) -> fmt::Result {
         match self {
@@ -272,12 +272,12 @@ impl fmt::Display for Error {
     }
 }
 
-/// The library has one more pass.
+/// The library's store has one more pass.
 const BAD_LIMITS: &str =
     "a limit of the store is out of its range; it has 8 to 16,384 pages, 1 to 63 passes and 1 to 4,294,967,295 commits";
 
 impl Error {
-    /// Shows an error from the library.
+    /// Formats an error from the library.
     fn show_coded(&self, f: &mut fmt::Formatter<'_>, code: u32) -> fmt::Result {
         let meaning = Meaning::of(code);
         f.write_str(meaning.what)?;
@@ -295,7 +295,7 @@ impl Error {
         meaning.show_advice(f)
     }
 
-    /// Shows an error that this crate itself detects.
+    /// Formats an error that this crate itself detects.
     fn show_own(&self, f: &mut fmt::Formatter<'_>) -> fmt::Result {
         match self {
             Error::KindMismatch { name, index, value } => write!(
@@ -324,7 +324,7 @@ impl Error {
     }
 }
 
-/// Shows the names of the existing indices.
+/// Formats the names of the existing indices.
 fn listed(indices: &[String]) -> String {
     match indices {
         [] => "there are no indices".into(),
@@ -348,7 +348,7 @@ impl std::error::Error for Error {
     }
 }
 
-/// Why a query is refused.
+/// The reason why a query was refused.
 #[non_exhaustive]
 #[derive(Clone, Copy, Debug, PartialEq, Eq, Hash)]
 pub enum QueryFault {
@@ -358,11 +358,11 @@ pub enum QueryFault {
     BadPattern,
     /// The text has more than 4,096 bytes.
     TooLong,
-    /// The query is nested too deep.
+    /// The query is nested too deeply.
     TooDeep,
     /// The query has more than 256 comparisons.
     TooMany,
-    /// No index of the snapshot can answer the query.
+    /// None of the snapshot's indices can answer the query.
     NotCovered,
 }
 
@@ -376,7 +376,7 @@ impl QueryFault {
         QueryFault::NotCovered,
     ];
 
-    /// Returns the number of the error in `bestore.h`.
+    /// Returns the error's number in `bestore.h`.
     #[must_use]
     pub const fn code(self) -> u32 {
         match self {
@@ -395,14 +395,14 @@ impl QueryFault {
         Self::ALL.into_iter().find(|fault| fault.code() == code)
     }
 
-    /// Returns whether the library reports the byte in the text where the fault is.
+    /// Returns whether the library reports the byte offset of this fault in the text.
     #[must_use]
     pub const fn has_offset(self) -> bool {
         matches!(self, QueryFault::Syntax | QueryFault::BadPattern)
     }
 }
 
-/// Shows what was wrong, and what would be right.
+/// Formats what was wrong and a hint on how to fix it.
 impl fmt::Display for QueryFault {
     fn fmt(&self, f: &mut fmt::Formatter<'_>) -> fmt::Result {
         let meaning = Meaning::of(self.code());
@@ -411,7 +411,7 @@ impl fmt::Display for QueryFault {
     }
 }
 
-/// A refused query: its text, what is wrong with it, and where.
+/// A query that was refused: its text, what is wrong with it, and where.
 #[derive(Clone, Debug, PartialEq, Eq)]
 pub struct QueryError {
     text: String,
@@ -421,7 +421,7 @@ pub struct QueryError {
 }
 
 impl QueryError {
-    /// Makes an error that says what is wrong with this text, and at which byte if that is known.
+    /// Creates an error that says what is wrong with this text and, if known, at which byte.
     #[must_use]
     pub fn new(text: impl Into<String>, fault: QueryFault, offset: Option<usize>) -> Self {
         Self {
@@ -432,7 +432,7 @@ impl QueryError {
         }
     }
 
-    /// Returns the same error, because this name, which begins at this byte, has no index.
+    /// Returns the same error, with the name that has no index and the byte at which it begins.
     #[must_use]
     pub fn with_missing(self, name: String, offset: usize) -> Self {
         Self {
@@ -442,7 +442,7 @@ impl QueryError {
         }
     }
 
-    /// Returns the text of the query. For a prepared query this is the canonical text, and for a predicate the malformed pattern.
+    /// Returns the query's text. For a prepared query this is the canonical text, and for a predicate it is the malformed pattern.
     #[must_use]
     pub fn text(&self) -> &str {
         &self.text
@@ -454,27 +454,27 @@ impl QueryError {
         self.fault
     }
 
-    /// For [`QueryFault::NotCovered`]: returns the first name in the text that has no index. It isn't known if the canonical text has more
-    /// than 4,096 bytes, which is possible for a prepared query.
+    /// For [`QueryFault::NotCovered`], returns the first name in the text that has no index. If the canonical text has more than 4,096
+    /// bytes, as a prepared query's can, the name isn't known.
     #[must_use]
     pub fn missing(&self) -> Option<&str> {
         self.missing.as_deref()
     }
 
-    /// Returns the byte offset of the error in the text, from 0, if it is known. If an index is missing, its name begins there.
+    /// Returns the byte offset of the error in the text, counting from 0, if it is known. If an index is missing, its name begins there.
     #[must_use]
     pub fn offset(&self) -> Option<usize> {
         self.offset
     }
 
-    /// Returns the index of the character in the text where the error is, from 0, if it is known.
+    /// Returns the index of the character at which the error is, counting from 0, if it is known.
     #[must_use]
     pub fn column(&self) -> Option<usize> {
         self.offset.map(|offset| text::column_at(&self.text, offset))
     }
 }
 
-/// Shows what is wrong, the text, and a caret under the position of the error. If the text is long, only the part around that position is
+/// Formats what is wrong, the text, and a caret under the position of the error. If the text is long, only the part around that position is
 /// shown.
 impl fmt::Display for QueryError {
     fn fmt(&self, f: &mut fmt::Formatter<'_>) -> fmt::Result {

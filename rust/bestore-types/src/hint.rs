@@ -3,15 +3,15 @@
 use crate::Kind;
 use std::fmt;
 
-/// A comparison that is never true, because its name has an integer index and its value isn't an integer or is out of range, as in
+/// A comparison that is never true because its name has an integer index and its value isn't an integer or is out of range, as in
 /// `size>1.5`.
 #[derive(Clone, Debug, PartialEq, Eq)]
 pub struct Hint {
-    /// The name of the attribute.
+    /// The attribute's name.
     pub name: String,
-    /// The value to compare with.
+    /// The value that it is compared with.
     pub value: String,
-    /// The kind of the index.
+    /// The index's kind.
     pub kind: Kind,
     /// The byte offset in the query at which the comparison begins.
     pub offset: usize,

@@ -5,7 +5,7 @@ use std::fmt;
 
 macro_rules! kinds {
     ($($(#[$about:meta])* $kind:ident = $code:ident, $name:literal, $shown:literal, $indexable:literal, $number:literal;)*) => {
-        /// The kind of a value. An index takes values of only one kind.
+        /// The kind of a value. An index holds values of only one kind.
         #[derive(Clone, Copy, Debug, PartialEq, Eq, Hash, PartialOrd, Ord)]
         pub enum Kind {
             $($(#[$about])* $kind),*
@@ -23,7 +23,7 @@ macro_rules! kinds {
                 }
             }
 
-            /// Returns the four letters of the type code, which scripts and the journal's text use.
+            /// Returns the four letters of the type code, as used in scripts and in the journal's text.
             #[must_use]
             pub const fn name(self) -> &'static str {
                 match self {
@@ -48,7 +48,7 @@ macro_rules! kinds {
             }
         }
 
-        /// Shows the kind as its type in Rust, or `text`, `MIME type` and `raw bytes`.
+        /// Formats the kind as its Rust type, or as `text`, `MIME type` or `raw bytes`.
         impl fmt::Display for Kind {
             fn fmt(&self, f: &mut fmt::Formatter<'_>) -> fmt::Result {
                 f.write_str(match self {

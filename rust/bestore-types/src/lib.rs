@@ -1,7 +1,8 @@
-//! What stores and clients of bestore share: values and their kinds, batches, nodes, orders and cursors, and errors with their messages.
+//! The types that bestore's stores and clients share: values and their kinds, batches, nodes, orders and cursors, and errors with their
+//! messages.
 //!
-//! Nothing here opens a store or loads libbestore. The crate `bestore` has the store, and `bestore-client` the client of a server; both
-//! re-export what they use from this one.
+//! Nothing here opens a store or loads libbestore. The crate `bestore` contains the store, and `bestore-client` the client for a server;
+//! both re-export what they use from this one.
 //!
 //! ```
 //! use bestore_types::{Batch, Kind, Node};
@@ -14,7 +15,7 @@
 //!
 //! # Features
 //!
-//! - `saved`: the module `saved`, which reads and writes the file that keeps a store.
+//! - `saved`: adds the module `saved`, which reads and writes the file in which a store is kept.
 #![warn(missing_docs, missing_debug_implementations, rust_2018_idioms)]
 #![deny(unsafe_code)]
 

@@ -1,12 +1,12 @@
-//! How large a store may grow.
+//! A store's limits.
 
-/// The maximum number of passes that a store can have, not counting its own.
+/// The maximum number of passes in a store, not counting the store's own.
 pub const MOST_PASSES: u64 = 63;
 
 /// The maximum number of volumes in a shelf.
 pub const MOST_VOLUMES: u32 = 64;
 
-/// How large a store may grow.
+/// A store's limits.
 ///
 /// ```
 /// use bestore_types::Limits;
@@ -17,15 +17,15 @@ pub const MOST_VOLUMES: u32 = 64;
 pub struct Limits {
     /// Pages of 4 KiB, all allocated when the store is opened: 8 to 16,384.
     pub pages: u64,
-    /// Passes that are open at the same time: 1 to 63. The store itself has one more. Each takes 89 bytes, and adds 13 instructions
-    /// to a write's 12,000 or so; a pin and a query cost the same with 8 and with 63 (28 November 2026).
+    /// Passes that can be open at the same time: 1 to 63. The store itself has one more. Each takes 89 bytes, and adds 13 instructions to
+    /// the 12,000 or so of a write; a pin and a query cost the same with 8 passes as with 63 (28 November 2026).
     pub passes: u64,
-    /// Entries of the journal: 1 to 4,294,967,295.
+    /// Entries that the journal can have: 1 to 4,294,967,295.
     pub commits: u64,
 }
 
 impl Default for Limits {
-    /// Returns 4,096 pages, and as many passes and entries as possible.
+    /// Returns 4,096 pages, and the maximum numbers of passes and entries.
     fn default() -> Self {
         Self {
             pages: 4096,

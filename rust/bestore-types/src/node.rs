@@ -1,18 +1,18 @@
-//! The nodes of several volumes.
+//! Nodes in several volumes.
 
 use crate::{Batch, Error, Operation, Result};
 use std::fmt;
 
-/// How many node numbers a volume has. It is a power of ten, so that people can read the volume in a node's digits.
+/// How many node numbers a volume has. This is a power of ten, so that people can see the volume in a node's digits.
 const NUMBERS: u64 = 100_000_000_000_000;
 
-/// How many nodes a store can make: one for each operation of each entry of the longest journal.
+/// How many nodes a store can create: one for each operation in each entry of the longest journal.
 const MADE: u64 = 64 << 32;
 
-/// Where a node in a shelf is: its volume, and its number in that volume.
+/// A node's place in a shelf: its volume, and its number in that volume.
 ///
-/// A shelf's calls take and return a node as one integer, `volume` * 10^14 + `number`, so nodes of volume 0 have their own
-/// numbers. The integers ascend by volume, then by number, and are below 2^53, which JSON keeps exactly.
+/// A shelf's calls take and return a node as a single integer, `volume` * 10^14 + `number`, so nodes in volume 0 keep their own numbers.
+/// The integers are ordered by volume, then by number, and are below 2^53, so that JSON preserves them exactly.
 ///
 /// ```
 /// use bestore_types::Node;
@@ -22,7 +22,7 @@ const MADE: u64 = 64 << 32;
 /// ```
 #[derive(Clone, Copy, Debug, PartialEq, Eq, PartialOrd, Ord, Hash)]
 pub struct Node {
-    /// The volume, from 0.
+    /// The volume, counting from 0.
     pub volume: u32,
     /// The number within the volume: below 10^14.
     pub number: u64,
@@ -51,7 +51,7 @@ impl fmt::Display for Node {
     }
 }
 
-/// Adds a volume's nodes to a shelf's nodes.
+/// Appends a volume's nodes to a shelf's nodes.
 pub fn extend(nodes: &mut Vec<u64>, volume: u32, numbers: Vec<u64>) {
     let before = u64::from(volume) * NUMBERS;
     match nodes.is_empty() {
@@ -60,14 +60,14 @@ pub fn extend(nodes: &mut Vec<u64>, volume: u32, numbers: Vec<u64>) {
     }
 }
 
-/// Returns whether a store whose next node has this number can be a volume, no matter what it makes until it is opened again.
+/// Returns whether a store whose next node has this number can be a volume, no matter how many nodes it creates before it is opened again.
 #[must_use]
 pub fn fits(next: u64) -> bool {
     next <= NUMBERS - MADE
 }
 
 impl Batch {
-    /// Returns [`Error::PartialIndex`] if an operation would make or remove an index in only one of several volumes.
+    /// Returns [`Error::PartialIndex`] if an operation would create or remove an index in only one of several volumes.
     ///
     /// # Errors
     /// That error.
@@ -81,11 +81,11 @@ impl Batch {
         }
     }
 
-    /// Returns the volume that a shelf's batch is written to, and the batch with the nodes' numbers in that volume. The volume is the
-    /// `asked` one, otherwise the volume of the nodes that the operations name; `None` if they name no node.
+    /// Returns the volume to which a shelf's batch should be written, and the batch with the nodes' numbers in that volume. The volume is
+    /// `asked` if given, otherwise that of the nodes to which the operations refer, or `None` if they don't refer to any.
     ///
     /// # Errors
-    /// [`Error::OtherVolume`] with the first operation that names a node in another volume.
+    /// [`Error::OtherVolume`] with the first operation that refers to a node in another volume.
     pub fn to_volume(&self, asked: Option<u32>) -> Result<(Option<u32>, Batch)> {
         let mut within = self.clone();
         let mut found = asked;
@@ -103,8 +103,8 @@ impl Batch {
         Ok((found, within))
     }
 
-    /// Converts a volume's batch to a batch of its shelf. This is the inverse of [`to_volume`](Self::to_volume); nodes that were made get
-    /// their numbers in the shelf too.
+    /// Converts a volume's batch to a batch of its shelf. This is the inverse of [`to_volume`](Self::to_volume); nodes that were created
+    /// also get their numbers in the shelf.
     #[must_use]
     pub fn of_volume(mut self, volume: u32) -> Batch {
         let before = u64::from(volume) * NUMBERS;

@@ -1,23 +1,23 @@
-//! Pages of an answer in an order, and how an iterator reads them one after another.
+//! Pages of an ordered result, and how an iterator reads them one after another.
 
 use crate::Cursor;
 
-/// Some of the nodes that a query finds, in an order.
+/// Some of the nodes that a query finds, in a given order.
 #[derive(Clone, Debug, PartialEq, Eq)]
 pub struct Page {
     /// The nodes.
     pub nodes: Vec<u64>,
-    /// Whether there are nodes after these.
+    /// Whether more nodes follow these.
     pub more: bool,
-    /// The position of the last node, for the next page. If the page is empty, the position where it began.
+    /// The position of the last node, for the next page. If the page is empty, the position at which it began.
     pub cursor: Cursor,
 }
 
-/// How many nodes an iterator's first page has, and how many any page has at most.
+/// The sizes of an iterator's first page and of its largest page, in nodes.
 const FIRST_PAGE: usize = 64;
 const LARGEST_PAGE: usize = 4096;
 
-/// How far an iterator over an answer in an order has read. Each page is twice as long as the last one, and an error ends the iteration.
+/// How far an iterator over an ordered result has read. Each page is twice as long as the last one, and an error ends the iteration.
 #[derive(Clone, Debug)]
 pub struct Paging {
     after: Option<Cursor>,
@@ -38,7 +38,7 @@ impl Default for Paging {
 }
 
 impl Paging {
-    /// Returns the position after which the next page begins, if it isn't the beginning.
+    /// Returns the position after which the next page begins, or `None` at the beginning.
     #[must_use]
     pub fn position(&self) -> Option<&Cursor> {
         self.after.as_ref()
@@ -49,7 +49,7 @@ impl Paging {
         self.after = Some(cursor);
     }
 
-    /// Returns the next node. `page` returns the page after a cursor, with up to this many nodes.
+    /// Returns the next node. `page` is called to read the page after a cursor, with up to the given number of nodes.
     pub fn next<E>(&mut self, page: impl FnOnce(Option<&Cursor>, usize) -> Result<Page, E>) -> Option<Result<u64, E>> {
         if let Some(node) = self.read.next() {
             return Some(Ok(node));
@@ -76,7 +76,7 @@ mod tests {
     use super::*;
     use crate::{Order, Value};
 
-    /// Returns the nodes after a cursor up to a last one, sorted by number.
+    /// Returns a page of the nodes after a cursor, up to `last`, in ascending order.
     fn page(last: u64, after: Option<&Cursor>, most: usize) -> Page {
         let first = after.and_then(Cursor::node).unwrap_or(0) + 1;
         let nodes: Vec<u64> = (first..=last).take(most).collect();
@@ -86,7 +86,7 @@ mod tests {
         Page { nodes, more, cursor }
     }
 
-    /// Returns all nodes that are read, and the length of each page.
+    /// Returns all nodes that were read, and the length of each page.
     fn read(last: u64, mut paging: Paging) -> (Vec<u64>, Vec<usize>) {
         let (mut nodes, mut asked) = (Vec::new(), Vec::new());
         while let Some(node) = paging.next::<()>(|after, most| {

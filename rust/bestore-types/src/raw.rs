@@ -1,4 +1,4 @@
-//! What only the crate `bestore` needs: the forms in which the C library takes and returns data.
+//! Types that only the crate `bestore` needs, in the form in which the C library takes and returns data.
 
 pub use crate::batch::narrow;
 pub use crate::class::{Meaning, MEANINGS};
@@ -8,18 +8,18 @@ pub use crate::node::{extend, fits};
 /// The maximum number of operations in a batch.
 pub const OPERATIONS: usize = 64;
 
-/// An operation, as `bes_operation` in `bestore.h`: its name and the bytes of its value are among the bytes that come with all operations
-/// of a batch. The crate `bestore-sys` re-exports it from here.
+/// An operation, like `bes_operation` in `bestore.h`: its name and the bytes of its value are among the bytes that all operations in a
+/// batch share. The crate `bestore-sys` re-exports it from here.
 #[repr(C)]
 #[derive(Clone, Copy, Debug, Default, PartialEq, Eq)]
 pub struct RawOperation {
-    /// Which operation it is.
+    /// The kind of operation.
     pub kind: u32,
-    /// The type code of a value or an index.
+    /// The type code of the value or the index.
     pub code: u32,
     /// The node.
     pub node: u64,
-    /// The value, if it is an integer.
+    /// The value if it is an integer.
     pub number: u64,
     /// The byte offset at which the name begins.
     pub name_at: u32,

@@ -4,7 +4,7 @@ macro_rules! constants {
     ($($name:ident = $value:expr;)*) => {
         $(#[doc = concat!("`", stringify!($name), "` of `bestore.h`.")] pub const $name: u32 = $value;)*
 
-        /// Every number, by its name.
+        /// All of these numbers, by name.
         pub const CONSTANTS: &[(&str, u32)] = &[$((stringify!($name), $name)),*];
     };
 }

@@ -1,11 +1,10 @@
-//! Query texts: how to put a string into one, and how to show one.
+//! Query texts: how to insert strings into them, and how to display them.
 
 use crate::Kind;
 
 /// Returns the text with a backslash before each character that is special in a query or a pattern.
 ///
-/// The result means the text itself, both as a word in a query and between quotes. If the text is empty, the query needs the
-/// quotes.
+/// The result stands for the text itself, both as a word in a query and between quotes. Quotes are needed only if the text is empty.
 ///
 /// ```
 /// assert_eq!(bestore_types::escape("[draft].txt"), r"\[draft\]\.txt");
@@ -22,7 +21,7 @@ pub fn escape(text: &str) -> String {
     escaped
 }
 
-/// Returns the query for everything in the index with this name, which has this kind.
+/// Returns the query for everything in the index of this name, which is of this kind.
 ///
 /// ```
 /// use bestore_types::{all_in, Kind};
@@ -37,7 +36,7 @@ pub fn all_in(name: &str, kind: Kind) -> String {
     }
 }
 
-/// Returns the text on one line, and on the next line a caret under the character at this byte. If the text is long, only the part around
+/// Returns the text on one line and, on the next line, a caret under the character at this byte. If the text is long, only the part around
 /// that character is shown.
 ///
 /// ```
@@ -56,7 +55,7 @@ pub(crate) fn column_at(text: &str, offset: usize) -> usize {
 /// How many characters of a text are shown before and after the position of the error.
 pub(crate) const SHOWN: usize = 60;
 
-/// Returns the text on one line, and a caret under its character with this index, if there is one. If the text is long, only the part
+/// Returns the text on one line and, if an index is given, a caret under the character with that index. If the text is long, only the part
 /// around that character is shown.
 pub(crate) fn with_caret(text: &str, column: Option<usize>) -> String {
     let first = column.unwrap_or(0).saturating_sub(SHOWN);

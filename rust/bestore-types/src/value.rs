@@ -3,7 +3,7 @@
 use crate::Kind;
 use std::fmt;
 
-/// A value of an attribute. `into` makes a value from a string, from an integer with 32 or 64 bits, or from bytes.
+/// A value of an attribute. `into` converts a string, a 32-bit or 64-bit integer, or bytes to a value.
 ///
 /// ```
 /// use bestore_types::{Kind, Value};
@@ -62,7 +62,7 @@ impl Value {
         }
     }
 
-    /// Returns an integer of any kind, if it fits.
+    /// Returns an integer of any kind if it fits.
     #[must_use]
     pub fn as_i64(&self) -> Option<i64> {
         match *self {
@@ -74,7 +74,7 @@ impl Value {
         }
     }
 
-    /// Returns an integer of any kind, if it fits.
+    /// Returns an integer of any kind if it fits.
     #[must_use]
     pub fn as_u64(&self) -> Option<u64> {
         match *self {
@@ -83,7 +83,7 @@ impl Value {
         }
     }
 
-    /// Returns an integer in the form that the C library takes, or 0 for other values.
+    /// Returns an integer in the form that the C library takes, or 0 for any other value.
     #[must_use]
     pub fn number(&self) -> u64 {
         match *self {
@@ -95,7 +95,7 @@ impl Value {
         }
     }
 
-    /// Returns the integer of this kind that the decimal digits in the text stand for, or `None` if the kind can't hold it or isn't an
+    /// Returns the integer of this kind that is written in decimal digits in the text, or `None` if the kind can't hold it or isn't an
     /// integer kind.
     #[must_use]
     pub fn integer(kind: Kind, text: &str) -> Option<Value> {
@@ -107,7 +107,7 @@ impl Value {
             .then(|| Value::of_parts(kind, number as u64, &[]))
     }
 
-    /// Makes a value from parts that the library has written. They are valid: a string is UTF-8, and a number fits its kind.
+    /// Assembles a value from parts that the library has written. They are valid: strings are UTF-8, and numbers fit their kinds.
     #[must_use]
     pub fn of_parts(kind: Kind, number: u64, bytes: &[u8]) -> Value {
         let text = || String::from_utf8_lossy(bytes).into_owned();
@@ -123,7 +123,7 @@ impl Value {
     }
 }
 
-/// Shows a string in quotes, a number, or bytes in hexadecimal digits.
+/// Formats a string in quotes, a number, or bytes as hexadecimal digits.
 impl fmt::Display for Value {
     fn fmt(&self, f: &mut fmt::Formatter<'_>) -> fmt::Result {
         match self {

@@ -1,5 +1,5 @@
-//! A first program: files a letter, queries letters by sender, and prints the nodes
-//! found.
+//! A first program: files a letter, queries the letters by sender, and prints the
+//! nodes that it finds.
 
 use bestore::{Kind, Limits, Store};
 

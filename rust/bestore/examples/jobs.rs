@@ -1,4 +1,4 @@
-//! A queue: workers claim one job at a time with a change, until none is left. No two workers claim
+//! A queue: workers use changes to claim one job at a time until none are left. No two workers claim
 //! the same job.
 
 use bestore::{Batch, Kind, Limits, Order, Pass, Prepared, Result, Store};
@@ -9,7 +9,7 @@ const JOBS: i64 = 200;
 const WORKERS: usize = 4;
 
 /// Claims the most urgent waiting job, or nothing if there is none. A claimed job loses its
-/// urgency, so that the next claim doesn't pass it on its way to a waiting one.
+/// urgency, so that later claims don't have to step over it to reach a waiting one.
 fn claim(pass: &mut Pass, waiting: &Prepared, urgent_first: &Order) -> Result<Option<u64>> {
     pass.change(|change| {
         let page = change.snapshot().page(waiting, urgent_first, None, 1)?;
@@ -22,7 +22,7 @@ fn claim(pass: &mut Pass, waiting: &Prepared, urgent_first: &Order) -> Result<Op
     })
 }
 
-/// Claims jobs until none is left.
+/// Claims jobs until none are left.
 fn work(store: &Store) -> Result<Vec<u64>> {
     let mut pass = store.pass()?;
     let waiting = Prepared::new("job:state==waiting")?;

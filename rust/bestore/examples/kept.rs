@@ -1,4 +1,4 @@
-//! A kept store: counts in a file how many times the program has run. Needs the feature `saved`.
+//! A kept store that counts how many times the program has been run. Needs the feature `saved`.
 
 use bestore::{attribute, saved, Kind};
 use std::error::Error;

@@ -1,7 +1,7 @@
 //! Measures how fast a kept store writes, compared with rusqlite, and how fast it opens. Needs the feature `saved`.
 //!
-//! `cargo run --release -p bestore --features saved --example kept_rate -- FOLDER [ROUNDS]`. The folder has to be on a disk,
-//! since in memory no commit would have to wait. The cases take turns for several rounds; the table has the medians.
+//! `cargo run --release -p bestore --features saved --example kept_rate -- FOLDER [ROUNDS]`. The folder must be on a disk, because in
+//! memory no commit would have to wait. The cases take turns for several rounds, and the table shows the medians.
 
 use bestore::{saved, Batch, Kind, Limits};
 use rusqlite::Connection;
@@ -19,7 +19,7 @@ const ROUNDS: usize = 7;
 type Outcome<T> = Result<T, Box<dyn Error>>;
 type Write<'a> = Box<dyn FnMut(i64) + Send + 'a>;
 
-/// Measures how many writes a second these threads make.
+/// Measures how many writes per second these threads perform.
 fn rate(writes: Vec<Write<'_>>) -> f64 {
     let start = Barrier::new(writes.len());
     let begin = |mut write: Write<'_>| {
@@ -78,14 +78,14 @@ fn insert(connection: &Connection) {
     inserted.expect("a row is inserted");
 }
 
-/// All threads share one connection, and wait for its lock.
+/// All threads share one connection and wait for its lock.
 fn shared(path: &Path, writers: usize, is_exclusive: bool) -> Outcome<f64> {
     let connection = Mutex::new(connected(path, is_exclusive)?);
     let write = || -> Write<'_> { Box::new(|_| insert(&connection.lock().expect("no writer panics"))) };
     Ok(rate((0..writers).map(|_| write()).collect()))
 }
 
-/// Each thread has its own connection, and waits while another writes.
+/// Each thread has its own connection and waits while another one is writing.
 fn each(path: &Path, writers: usize) -> Outcome<f64> {
     let mut writes: Vec<Write<'_>> = Vec::new();
     for _ in 0..writers {
@@ -102,7 +102,7 @@ struct Case {
     found: Vec<f64>,
 }
 
-/// The cases. The kept store comes before the ones it is compared with.
+/// The cases. The kept store comes before those with which it is compared.
 fn cases() -> Vec<Case> {
     let case = |name, writers, run| Case {
         name,
@@ -159,7 +159,7 @@ fn measure(folder: &Path, rounds: usize) -> Outcome<()> {
     Ok(())
 }
 
-/// Makes ten files with five attributes each, as nodes from this number on.
+/// Creates ten files with five attributes each, as nodes with this number and the following ones.
 fn file_batch(first: u64) -> Batch {
     let mut batch = Batch::new();
     for node in first..first + 10 {

@@ -1,4 +1,4 @@
-//! Two threads that share a store: one files letters, the other follows the unread ones with a live query.
+//! Two threads that share a store: one files letters, and the other follows the unread ones with a live query.
 
 use bestore::{Kind, Limits, Live, Pass, Result, Store};
 use std::sync::atomic::{AtomicBool, Ordering};
@@ -7,7 +7,7 @@ use std::time::Duration;
 
 const SENDERS: [&str; 3] = ["ada", "bob", "carla"];
 
-/// Files letters, and counts them by sender. A letter and its count are written in one transaction.
+/// Files letters and counts them by sender. Each letter and its sender's count are written in one transaction.
 fn file(pass: &mut Pass, letters: usize) -> Result<()> {
     for (number, sender) in (0..letters).zip(SENDERS.iter().cycle()) {
         pass.change(|change| {
@@ -30,7 +30,7 @@ fn file(pass: &mut Pass, letters: usize) -> Result<()> {
     Ok(())
 }
 
-/// Marks each new letter as read, until all are filed and none is new. Returns how many letters it has seen.
+/// Marks each new letter as read until all letters are filed and none is new. Returns how many letters it has seen.
 fn follow(pass: &mut Pass, is_filed: &AtomicBool) -> Result<usize> {
     let mut unread = Live::new("MAIL:status==New")?;
     let mut seen = 0;

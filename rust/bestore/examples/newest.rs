@@ -1,9 +1,9 @@
-//! Prints the newest 20 letters of a mailbox, and then the next 20. A letter that arrives in between doesn't move any to another
-//! page.
+//! Prints the newest 20 letters in a mailbox, and then the next 20. A letter that arrives in between doesn't move any other letter to
+//! another page.
 
 use bestore::{Cursor, Kind, Limits, Order, Page, Pass, Prepared, Store};
 
-/// Files letters to ann and bob in turn, one a minute.
+/// Files letters to ann and bob alternately, one per minute.
 fn file_letters(pass: &mut Pass, minutes: std::ops::Range<i64>) -> bestore::Result<()> {
     for minute in minutes {
         pass.change(|change| {
@@ -17,7 +17,7 @@ fn file_letters(pass: &mut Pass, minutes: std::ops::Range<i64>) -> bestore::Resu
     Ok(())
 }
 
-/// Prints a page, and returns where the next one begins.
+/// Prints a page, and returns the position at which the next one begins.
 fn show_page(pass: &mut Pass, letters: &Prepared, after: Option<&Cursor>) -> bestore::Result<Cursor> {
     let newest_first = Order::by("MAIL:when").descending();
     let snapshot = pass.pin()?;

@@ -1,4 +1,5 @@
-//! Four stores that one query searches. Prints the number of files, and the last file's volume.
+//! Four stores that are searched with a single query. Prints the number of files and the last
+//! file's volume.
 
 use bestore::{Kind, Limits, Node, Shelf};
 

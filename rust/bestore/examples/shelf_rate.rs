@@ -1,15 +1,15 @@
-//! Measures how many queries a second shelves of 1, 2 and 4 volumes with the same nodes can answer, and how full the volumes are.
+//! Measures how many queries per second shelves of 1, 2 and 4 volumes with the same nodes can answer, and how full their volumes are.
 //!
 //! `cargo run --release -p bestore --example shelf_rate -- [NODES] [ROUNDS]`. The defaults are 15,000 nodes, which fit into one
-//! volume, and 5 rounds. Nodes have five attributes, three of them indexed. One thread queries the shelves in turn; each figure
-//! is the best of its rounds. If the nodes don't fit into one or two volumes, those rows are left out.
+//! volume, and 5 rounds. Nodes have five attributes, three of them indexed. A single thread queries the shelves in turn, and each figure is
+//! the best of all rounds. If the nodes don't fit into one or two volumes, those rows are left out.
 
 use bestore::{Batch, Kind, Limits, Node, Prepared, Result, Shelf, ShelfPass};
 use std::time::{Duration, Instant};
 
 const TIME: Duration = Duration::from_millis(500);
 
-/// How many nodes a batch makes.
+/// How many nodes each batch creates.
 const EACH: u64 = 10;
 
 /// About how many nodes with five attributes fit into a volume.
@@ -39,7 +39,7 @@ fn fill(pass: &mut ShelfPass, nodes: u64) -> Result<()> {
     Ok(())
 }
 
-/// Measures how many times a second the call can be made.
+/// Measures how many times per second the call can be made.
 fn rate(mut call: impl FnMut(u64) -> Result<()>) -> Result<f64> {
     let (begin, mut count) = (Instant::now(), 0);
     while begin.elapsed() < TIME {
@@ -51,7 +51,7 @@ fn rate(mut call: impl FnMut(u64) -> Result<()>) -> Result<f64> {
     Ok(count as f64 / begin.elapsed().as_secs_f64())
 }
 
-/// Per second: queries for one node and for 100 as text, prepared queries for 100, and counts of all nodes.
+/// Rates per second: of queries for one node and for 100 as text, of prepared queries for 100, and of counts of all nodes.
 fn rates(pass: &mut ShelfPass, nodes: u64) -> Result<[f64; 4]> {
     let hundreds = nodes / 100;
     let check = |found: Vec<u64>, expected: usize| assert_eq!(found.len(), expected, "the query finds other nodes");

@@ -1,4 +1,4 @@
-//! Changes: reading and writing as one.
+//! Changes: atomic reads and writes.
 
 use crate::pass::Waits;
 use crate::raw::{Parts, RawDraft, Refused};
@@ -6,20 +6,20 @@ use crate::refused::of_write;
 use crate::{Batch, Error, Kind, Pass, Result, Snapshot, Value};
 use bestore_sys as sys;
 
-/// A change in progress. The closure of [`Pass::change`] reads the store through it, and collects up to 64 operations in it.
+/// A change in progress. Through it, the closure of [`Pass::change`] reads the store and collects up to 64 operations.
 ///
-/// [`get`](Self::get) reads the snapshot with the operations so far applied. [`snapshot`](Self::snapshot) returns the snapshot on which
-/// they are based.
+/// [`get`](Self::get) reads the snapshot with the operations so far applied. [`snapshot`](Self::snapshot) returns the snapshot without
+/// them.
 #[derive(Debug)]
 pub struct Change<'a> {
     snapshot: &'a Snapshot<'a>,
     draft: RawDraft,
     /// The operations in the draft.
     batch: Batch,
-    /// The numbers of the nodes that the change makes. The next node's number is `next`.
+    /// The numbers of the nodes that the change creates. The next one will get the number `next`.
     nodes: Vec<u64>,
     next: u64,
-    /// The error from an operation that wasn't collected, if its call didn't return the error. The change then fails with it.
+    /// The error from an operation that wasn't collected, if its call couldn't return the error. The change fails with this error.
     refused: Option<Error>,
 }
 
@@ -54,7 +54,7 @@ impl<'a> Change<'a> {
         &self.batch
     }
 
-    /// Returns an attribute as the operations so far leave it, or `None` if the node or the attribute doesn't exist then.
+    /// Returns an attribute as it is after the operations so far, or `None` if the node or the attribute doesn't exist then.
     ///
     /// # Errors
     /// The same as [`Snapshot::get`].
@@ -68,16 +68,16 @@ impl<'a> Change<'a> {
         crate::snapshot::value_read(answer, &bytes)
     }
 
-    /// Accepts values of any kind from now on. Until this call, setting a value whose kind differs from its index's kind is an error, since
-    /// no query would find the value.
+    /// Accepts values of any kind from now on. Before this call, setting a value whose kind differs from that of its index is an error,
+    /// because no query would find the value.
     pub fn any_kind(&mut self) -> &mut Self {
         // Fails only in a forked child, where every other call does too.
         let _ = self.draft.any_kind();
         self
     }
 
-    /// Makes a node, and returns the number that it will have. If this call or one of the calls below adds a 65th operation, the change
-    /// fails with [`Error::BadCount`].
+    /// Creates a node and returns the number that it will have. If this call or one of those below adds a 65th operation, the change fails
+    /// with [`Error::BadCount`].
     pub fn new_node(&mut self) -> u64 {
         let node = self.next;
         self.next += 1;
@@ -99,9 +99,9 @@ impl<'a> Change<'a> {
     /// Sets the attribute.
     ///
     /// # Errors
-    /// [`Error::KindMismatch`] if an index with this name takes values of another kind: the attribute would be set, but no query would find
-    /// it. [`Error::NameLength`], [`Error::DataLength`], [`Error::HasNul`], [`Error::BadCount`], [`Error::OutOfMemory`]. If there is an
-    /// error, nothing is collected.
+    /// [`Error::KindMismatch`] if an index of this name holds values of another kind: the attribute would be set, but no query would find
+    /// it. [`Error::NameLength`], [`Error::DataLength`], [`Error::HasNul`], [`Error::BadCount`], [`Error::OutOfMemory`]. After an error,
+    /// nothing has been collected.
     pub fn set(&mut self, node: u64, name: &str, value: impl Into<Value>) -> Result<&mut Self> {
         let value = value.into();
         let bytes = value.as_bytes().unwrap_or_default();
@@ -117,8 +117,8 @@ impl<'a> Change<'a> {
         Ok(self)
     }
 
-    /// Sets this attribute of each node to the value that it already has, if the value is of this kind. Returns how many attributes were
-    /// set.
+    /// Sets each node's attribute of this name to the value that it already has, if the value is of this kind. Returns how many attributes
+    /// were set.
     pub(crate) fn set_again(&mut self, nodes: &[u64], name: &str, kind: Kind) -> Result<u64> {
         let mut count = 0;
         for node in nodes {
@@ -141,10 +141,10 @@ impl<'a> Change<'a> {
         self
     }
 
-    /// Makes an index with this name for values of this kind.
+    /// Creates an index with this name for values of this kind.
     ///
     /// # Errors
-    /// [`Error::NameLength`], [`Error::HasNul`], [`Error::BadCount`], [`Error::OutOfMemory`]. If there is an error, nothing is collected.
+    /// [`Error::NameLength`], [`Error::HasNul`], [`Error::BadCount`], [`Error::OutOfMemory`]. After an error, nothing has been collected.
     pub fn make_index(&mut self, name: &str, kind: Kind) -> Result<&mut Self> {
         self.collect(&of_index(sys::BES_MAKE_INDEX, name, kind.code()))?;
         self.batch.make_index(name, kind);
@@ -182,8 +182,8 @@ impl<'a> Change<'a> {
         Err(of_write(at_operation, index + 1, None))
     }
 
-    /// Adds an operation without a value, and returns whether it was added. The first operation that can't be added ends the change with
-    /// its error, so nothing is added after it.
+    /// Adds an operation without a value, and returns whether it was added. Once an operation can't be added, the change will fail with its
+    /// error, so no more are added.
     fn collect_or_keep_error(&mut self, kind: u32, node: u64, name: &str) -> bool {
         if self.refused.is_some() {
             return false;
@@ -207,13 +207,13 @@ impl<'a> Change<'a> {
         }
     }
 
-    /// Writes the operations if nothing else has been written since the snapshot. Returns the number to pass to `end_write`.
+    /// Writes the operations if nothing else has been written since the snapshot. Returns the number for `end_write`.
     pub(crate) fn end(self) -> Result<u64> {
         let pass = self.snapshot.pass();
         pass.end_change(&self.draft, self.snapshot.number(), &self.batch, self.nodes)
     }
 
-    /// Runs the closure on one snapshot after another, until its operations are written on the snapshot that it has read.
+    /// Runs the closure on newer and newer snapshots until its operations have been written on top of the one that it read.
     pub(crate) fn run<T>(pass: &mut Pass, closure: &mut impl FnMut(&mut Change<'_>) -> Result<T>) -> Result<T> {
         let mut waits = Waits::of(pass);
         loop {
@@ -233,7 +233,7 @@ impl<'a> Change<'a> {
     }
 }
 
-/// Returns the parts of an operation that has no value and names no node.
+/// Returns the parts of an operation that has neither a value nor a node.
 fn of_index(kind: u32, name: &str, code: u32) -> Parts<'_> {
     Parts {
         kind,

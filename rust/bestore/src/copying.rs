@@ -1,36 +1,36 @@
-//! Copies of a store's state, for tasks that would otherwise hold a snapshot for a long time.
+//! Copying of a store's state, for tasks that would otherwise hold a snapshot for a long time.
 //!
-//! A pinned snapshot keeps pages that writes may need. So a copy gives its snapshot back as soon as a write has found no free page, and is
-//! started again after a rest. In a store that is nearly full and constantly written to, no copy would ever be complete. So the last try
+//! A pinned snapshot keeps pages that writes may need. So copying unpins its snapshot as soon as a write has found no free page, and starts
+//! over after a pause. In a store that is nearly full and constantly written to, no copy would ever be completed this way. So the last try
 //! makes writes wait at the gate, where they need no pages.
 
 use crate::{Batch, Result, Snapshot, Store};
 use std::thread;
 use std::time::Duration;
 
-/// How many tries give way to writes before the last one.
+/// How many tries yield to writes before the last one.
 const TRIES: u32 = 6;
 
-/// How long to rest after the first try. Each later rest is twice as long as the one before.
+/// How long to pause after the first try. Each later pause is twice as long as the one before.
 const REST: Duration = Duration::from_millis(10);
 
-/// A store's contents in one snapshot, from [`Store::copy_state`].
+/// A store's contents in one snapshot, returned by [`Store::copy_state`].
 #[derive(Clone, Debug, PartialEq, Eq)]
 pub struct StateCopy {
-    /// The number of the snapshot.
+    /// The snapshot's number.
     pub number: u64,
-    /// The number of the next node.
+    /// The next node's number.
     pub next: u64,
-    /// The batches that rebuild the snapshot on an empty store, as [`Snapshot::state`] returns them.
+    /// The batches that rebuild the snapshot in an empty store, as returned by [`Snapshot::state`].
     pub batches: Vec<Batch>,
 }
 
-/// A step of copying.
+/// A step of the copying.
 #[derive(Clone, Copy, Debug, PartialEq, Eq)]
 enum Step {
-    /// A batch was read from the snapshot, which is still pinned.
+    /// A batch has been read from the snapshot, which is still pinned.
     Read,
-    /// A write needed pages, so nothing is pinned for this long.
+    /// A write needed pages, so no snapshot is pinned for this long.
     Rest(Duration),
 }
 
@@ -52,7 +52,7 @@ fn copy_by_steps(store: &Store, take: &mut impl FnMut(Step)) -> Result<StateCopy
     }
 }
 
-/// Copies the current snapshot. Returns `None` if a write needed its pages. During the last try no write is made.
+/// Copies the current snapshot. Returns `None` if a write needed its pages. During the last try, writes wait.
 fn try_to_copy(store: &Store, is_last: bool, take: &mut impl FnMut(Step)) -> Result<Option<StateCopy>> {
     let succession = store.succession();
     let mut pass = store.spare()?;
@@ -65,7 +65,7 @@ fn try_to_copy(store: &Store, is_last: bool, take: &mut impl FnMut(Step)) -> Res
     })
 }
 
-/// Copies the snapshot, unless `goes_on` says that the snapshot has to be given back.
+/// Copies the snapshot. Stops and returns `None` if `goes_on` returns `false`, because the snapshot must then be unpinned.
 fn read(snapshot: &Snapshot<'_>, mut goes_on: impl FnMut() -> bool) -> Result<Option<StateCopy>> {
     let mut batches = Vec::new();
     for batch in snapshot.state() {
@@ -86,7 +86,7 @@ mod tests {
     use super::*;
     use crate::{Error, Limits, Pass, Retry};
 
-    /// How many nodes the store has. Their state takes several batches, and few pages are left.
+    /// How many nodes the store has. Their state takes several batches and leaves few pages.
     const NODES: u64 = 100;
 
     fn nearly_full() -> Store {
@@ -156,7 +156,7 @@ mod tests {
             Step::Read if store.succession().is_closed() => last += 1,
             Step::Read => fill(&writer),
             Step::Rest(time) => {
-                // The pages have been given back.
+                // The pages are free again.
                 write(&writer).unwrap();
                 rests.push(time.as_millis());
             }

@@ -5,7 +5,7 @@ use crate::refused::of_query;
 use crate::{Hint, Kind, Result};
 use bestore_sys::{self as sys, bes_compared};
 
-/// The form of the value in a comparison.
+/// The form of a comparison's value.
 #[derive(Clone, Copy, Debug, PartialEq, Eq)]
 pub enum Form {
     /// A whole number from -2^63 to 2^64 - 1.
@@ -16,28 +16,28 @@ pub enum Form {
     Pattern,
 }
 
-/// A comparison in a query, as [`compared`] returns it.
+/// A comparison in a query, as returned by [`compared`].
 #[derive(Clone, Debug, PartialEq, Eq)]
 pub struct Compared {
-    /// The name of the attribute.
+    /// The attribute's name.
     pub name: String,
     /// `==`, `!=`, `<`, `<=`, `>` or `>=`, as written in the text.
     pub operator: &'static str,
     /// The value to compare with: a string without backslashes, or a pattern in its canonical form.
     pub value: String,
-    /// The form of that value.
+    /// The form of the value.
     pub form: Form,
     /// The byte offset in the query at which the comparison begins.
     pub offset: usize,
     /// The length of the comparison in bytes.
     pub length: usize,
-    /// Whether a `!` negates it.
+    /// Whether the comparison is negated by a `!`.
     pub is_negated: bool,
     /// The kinds of indices for which the comparison is never true, such as the integer kinds for `size>1.5`.
     pub never: Vec<Kind>,
 }
 
-/// Returns the comparisons in a query, from left to right. No store is read.
+/// Returns the comparisons in a query, from left to right, without reading any store.
 ///
 /// ```
 /// use bestore::{compared, Form, Kind};
@@ -48,7 +48,7 @@ pub struct Compared {
 /// ```
 ///
 /// # Errors
-/// [`Error::Query`](crate::Error::Query): the text isn't a query. [`Error::OutOfMemory`](crate::Error::OutOfMemory).
+/// [`Error::Query`](crate::Error::Query) if the text isn't a query. [`Error::OutOfMemory`](crate::Error::OutOfMemory).
 pub fn compared(query: &str) -> Result<Vec<Compared>> {
     let found = comparisons(query).map_err(|refused| of_query(refused, || query.into()))?;
     Ok(found.list.iter().map(|one| read(&found, one)).collect())
@@ -95,8 +95,8 @@ const fn is_never(one: &bes_compared, kind: Kind) -> bool {
     }
 }
 
-/// Returns the comparisons in a query that are never true, given the kinds of the indices: `kind_of` returns the kind of the index with
-/// that name.
+/// Returns the comparisons in a query that are never true, given the kinds of the indices. `kind_of` returns the kind of the index with a
+/// given name.
 ///
 /// ```
 /// use bestore::{hints, Kind};
@@ -126,7 +126,7 @@ pub fn hints(query: &str, kind_of: impl Fn(&str) -> Option<Kind>) -> Result<Vec<
 mod tests {
     use super::*;
 
-    /// Returns the offsets of the comparisons that are never true. There is a text index `t`, and integer indices `i`, `l`, `u` and `w`.
+    /// Returns the offsets of the comparisons that are never true, given a text index `t` and integer indices `i`, `l`, `u` and `w`.
     fn offsets(query: &str) -> Vec<usize> {
         let kind_of = |name: &str| match name {
             "t" => Some(Kind::Text),

@@ -1,22 +1,22 @@
-//! The journal: the accepted transactions of a store, in order.
+//! The journal: a store's committed transactions, in order.
 
 use crate::{Batch, Pass, Result};
 
-/// An entry of the journal: an accepted transaction.
+/// An entry of the journal: a committed transaction.
 #[derive(Clone, Debug, PartialEq, Eq)]
 pub struct Entry {
-    /// The commit number. The first entry has 1.
+    /// The commit number. The first entry has number 1.
     pub number: u64,
     /// The number of the pass that wrote it.
     pub pass: u64,
-    /// The operations with their outcomes: the number of each new node is filled in.
+    /// The operations with their outcomes: each new node's number is filled in.
     pub batch: Batch,
 }
 
-/// An iterator over the entries of a journal from a given entry on, returned by [`Pass::journal_from`].
+/// An iterator over a journal's entries from a given entry on, returned by [`Pass::journal_from`].
 ///
-/// It returns `None` at the end of the journal, and can be called again once the journal has grown. Each entry is read separately, and
-/// other passes can't write while one is read. After an error, the next call reads the same entry again.
+/// It returns `None` at the end of the journal, and can be called again once the journal has grown. Entries are read one at a time, and
+/// other passes can't write while one is being read. After an error, the next call reads the same entry again.
 #[derive(Debug)]
 pub struct Entries<'a> {
     pass: &'a Pass,

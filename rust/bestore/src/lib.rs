@@ -1,8 +1,8 @@
-//! A shared, multi-version attribute store in memory, with the attributes, indices and query language of BeOS.
+//! A shared, multi-version, in-memory attribute store with the attributes, indices and query language of BeOS.
 //!
-//! A [`Store`] has numbered nodes with typed attributes. A [`Pass`] is one thread's handle to it: it writes transactions, and pins a
-//! [`Snapshot`], in which it reads and runs queries. Readers take no lock, and a snapshot doesn't change while others write. The store is
-//! the library libbestore, whose functions are proved to do what their contracts say.
+//! A [`Store`] holds numbered nodes with typed attributes. A [`Pass`] is one thread's handle to it: it writes transactions, and pins a
+//! [`Snapshot`] in which to read and run queries. Readers take no locks, and a snapshot doesn't change while others write. This crate is
+//! built on the library libbestore, whose functions are proved to do what their contracts say.
 //!
 //! ```
 //! use bestore::{Kind, Limits, Store};
@@ -21,12 +21,12 @@
 //! # Ok::<(), bestore::Error>(())
 //! ```
 //!
-//! An index takes only attributes that are set after it was made, so make the indices first.
+//! An index holds only attributes that are set after it was created, so create your indices first.
 //!
 //! # What is promised
 //!
-//! Writes are serializable in one order, the journal. A snapshot is a prefix of that order, which includes everything that its
-//! pass has written or seen. A write with [`Pass::change`] is made on exactly the snapshot that its closure has read.
+//! Writes are serializable in a single order, that of the journal. A snapshot is a prefix of that order, and includes everything that its
+//! pass has written or seen. A write with [`Pass::change`] is applied to exactly the snapshot that its closure has read.
 //!
 //! # Threads and processes
 //!
@@ -51,15 +51,15 @@
 //! shared(bestore::Store::open(bestore::Limits::default()).unwrap().pass().unwrap());
 //! ```
 //!
-//! In a forked child each of the parent's handles is dead: its calls return [`Error::Forked`], and dropping it does nothing.
+//! In a forked child all of the parent's handles are dead: their calls return [`Error::Forked`], and dropping them does nothing.
 //!
 //! # More than one store
 //!
-//! A [`Shelf`] has several stores, which one query searches. See the module [`shelf`].
+//! A [`Shelf`] is a group of stores that a single query can search. See the module [`shelf`].
 //!
 //! # Features
 //!
-//! - `saved`: the module `saved`, a store whose writes are kept in an SQLite file.
+//! - `saved`: adds the module `saved`, for a store whose writes are kept in an SQLite file.
 #![warn(missing_docs, missing_debug_implementations, rust_2018_idioms)]
 #![deny(unsafe_code)]
 

@@ -1,4 +1,4 @@
-//! Parts of an answer: pages in the order of an index, the first nodes by number, or any nodes up to a limit.
+//! Parts of a result: pages in the order of an index, the first nodes by number, or any nodes up to a limit.
 
 use crate::raw::{cursor_of, of_cursor, Refused};
 use crate::refused::no_order;
@@ -7,7 +7,7 @@ use bestore_sys as sys;
 use bestore_types::Paging;
 
 impl Snapshot<'_> {
-    /// Returns an iterator over the nodes that the query finds, in an order. The iterator reads page after page.
+    /// Returns an iterator over the nodes that the query finds, in the given order. The iterator reads one page after another.
     ///
     /// ```
     /// # use bestore::{Kind, Limits, Order, Store};
@@ -30,21 +30,21 @@ impl Snapshot<'_> {
         Ok(Ordered::new(Source::One(self), Prepared::new(text)?, order))
     }
 
-    /// Returns a page: up to `most` of the nodes that the query finds, in the given order, and after the cursor if one is given. Nodes
+    /// Returns a page: up to `most` of the nodes that the query finds, in the given order, starting after the cursor if one is given. Nodes
     /// without a value in the order's index are left out.
     ///
     /// A page from a later snapshot continues where the last page ended, whatever was written in between.
     ///
     /// # Errors
-    /// [`Error::NoOrder`]: there is no such index. [`Error::BadCursor`]: the cursor belongs to another order or query, or the index has
-    /// another kind now. [`Error::NoRoom`]: `most` is 0. Otherwise the same as [`query`](Self::query).
+    /// [`Error::NoOrder`] if there is no such index. [`Error::BadCursor`] if the cursor belongs to another order or query, or if the index
+    /// now has another kind. [`Error::NoRoom`] if `most` is 0. Otherwise the same as [`query`](Self::query).
     pub fn page(&self, prepared: &Prepared, order: &Order, after: Option<&Cursor>, most: usize) -> Result<Page> {
         let check = prepared.check()?;
         let after = begin(order, check, after, most)?;
         self.page_after(prepared, &after, most)
     }
 
-    /// Returns the page after a cursor from this query.
+    /// Returns the page after a cursor of this query.
     pub(crate) fn page_after(&self, prepared: &Prepared, after: &Cursor, most: usize) -> Result<Page> {
         let mut raw = cursor_of(after);
         let order = after.order();
@@ -76,10 +76,10 @@ impl Snapshot<'_> {
         }
     }
 
-    /// Returns the first `most` nodes that the query finds, in ascending order, starting at the number `from`.
+    /// Returns the first `most` nodes that the query finds, in ascending order from the number `from` on.
     ///
     /// # Errors
-    /// [`Error::NoRoom`]: `most` is 0. Otherwise the same as [`query`](Self::query).
+    /// [`Error::NoRoom`] if `most` is 0. Otherwise the same as [`query`](Self::query).
     pub fn first(&self, text: &str, from: u64, most: usize) -> Result<Vec<u64>> {
         let prepared = Prepared::new(text)?;
         let answer = self.pass().raw().first(prepared.raw(), from, most);
@@ -95,11 +95,11 @@ impl Snapshot<'_> {
         answer.map_err(|refused| self.query_error(refused, || prepared.text_or_empty()))
     }
 
-    /// Returns any `most` of the nodes that the query finds, or all of them if there are fewer, in no particular order. If the answer is
+    /// Returns any `most` of the nodes that the query finds, or all of them if there are fewer, in no particular order. If the result is
     /// large, this takes less time than finding all of it.
     ///
     /// # Errors
-    /// [`Error::NoRoom`]: `most` is 0. Otherwise the same as [`query`](Self::query).
+    /// [`Error::NoRoom`] if `most` is 0. Otherwise the same as [`query`](Self::query).
     pub fn any(&self, text: &str, most: usize) -> Result<Vec<u64>> {
         let prepared = Prepared::new(text)?;
         let answer = self.pass().raw().any(prepared.raw(), most);
@@ -116,7 +116,7 @@ impl Snapshot<'_> {
     }
 }
 
-/// Returns the cursor after which a page begins. It's an error if the cursor belongs to another order or query, or if `most` is 0.
+/// Returns the cursor after which a page begins. A cursor that belongs to another order or query is an error, and so is a `most` of 0.
 pub(crate) fn begin(order: &Order, check: u32, after: Option<&Cursor>, most: usize) -> Result<Cursor> {
     if most == 0 {
         return Err(Error::NoRoom);
@@ -133,7 +133,7 @@ enum Source<'a> {
     Shelf(&'a ShelfSnapshot<'a>),
 }
 
-/// An iterator over the nodes that a query finds in an order, returned by [`Snapshot::ordered`] or [`ShelfSnapshot::ordered`]. Each page is
+/// An iterator over the nodes that a query finds, in order, returned by [`Snapshot::ordered`] or [`ShelfSnapshot::ordered`]. Each page is
 /// twice as long as the last one. An error ends the iteration.
 #[derive(Debug)]
 pub struct Ordered<'a> {
@@ -157,7 +157,7 @@ impl<'a> Ordered<'a> {
         Self::new(Source::Shelf(shelf), prepared, order)
     }
 
-    /// Continues after this cursor, which must come from a page of the same query and order.
+    /// Continues after this cursor, which must be from a page of the same query and order.
     #[must_use]
     pub fn after(mut self, cursor: Cursor) -> Self {
         self.paging.set_after(cursor);

@@ -1,4 +1,4 @@
-//! Passes: one thread's handle to a store.
+//! Passes, each of which is one thread's handle to a store.
 
 use crate::raw::{Answer, RawDraft, RawPass, RawWitness};
 use crate::refused::of_write;
@@ -13,15 +13,16 @@ use std::sync::Arc;
 use std::thread;
 use std::time::Duration;
 
-/// How many times to retry a call before its error is returned. [`Pass::change`] runs its closure again each time.
+/// How many times to retry a call before returning its error. On each retry, [`Pass::change`] runs its closure again.
 #[derive(Clone, Copy, Debug, PartialEq, Eq)]
 pub struct Retry {
-    /// Retries while another pass is writing. Between two attempts it yields to other threads, twice as often each time, up to 1,024 times.
+    /// Retries while another pass is writing. Before each retry, the call yields to other threads: once at first, then twice as often each
+    /// time, up to 1,024 times.
     pub busy: u32,
-    /// Retries while the store is full and another pass holds an older snapshot, or did. Between two attempts it waits 1 to 64
-    /// milliseconds.
+    /// Retries while the store is full and another pass holds, or has just held, an older snapshot. Before each retry, the call waits for 1
+    /// to 64 milliseconds.
     pub full: u32,
-    /// Retries by [`Pass::change`] after a conflict with another write. Between two attempts it yields to other threads, as for `busy`.
+    /// Retries by [`Pass::change`] after a conflict with another write. Before each retry, it yields to other threads, as for `busy`.
     pub conflict: u32,
 }
 
@@ -35,8 +36,8 @@ impl Retry {
 }
 
 impl Default for Retry {
-    /// Retries 10,000 times if busy or after a conflict, which takes a few seconds, and 40 times if the store is full, which takes about 2
-    /// seconds.
+    /// Retries 10,000 times if the store is busy or after a conflict, which takes a few seconds, and 40 times if the store is full, which
+    /// takes about 2 seconds.
     fn default() -> Self {
         Self {
             busy: 10_000,
@@ -54,7 +55,7 @@ pub(crate) struct Waits {
 }
 
 impl Waits {
-    /// If a snapshot is held, a conflict is final, since each attempt would read the same snapshot.
+    /// If a snapshot is held, a conflict is final, because every attempt would read the same snapshot.
     pub(crate) fn of(pass: &Pass) -> Self {
         let mut left = pass.retry();
         if pass.held().is_some() {
@@ -89,12 +90,12 @@ impl Waits {
     }
 }
 
-/// Waits for free pages, after this many earlier pauses.
+/// Waits for free pages, given the number of pauses so far.
 fn pause_at_full(pauses: u32) {
     thread::sleep(Duration::from_millis(1 << pauses.min(6)));
 }
 
-/// Yields to other threads between two attempts, twice as often each time.
+/// Yields to other threads before a retry, twice as often each time.
 pub(crate) struct StandBack(u32);
 
 impl StandBack {
@@ -112,8 +113,8 @@ impl StandBack {
     }
 }
 
-/// What a pass has seen of its store, to be passed to a pass of the same store in another thread. [`Pass::witness`] makes a witness, and
-/// [`Pass::join`] joins it. It can move to another thread, but can't be shared.
+/// A record of what a pass has seen of its store, for a pass of the same store in another thread. [`Pass::witness`] creates a witness, and
+/// [`Pass::join`] joins it. A witness can be moved to another thread but not shared between threads.
 ///
 /// ```
 /// use bestore::{Batch, Limits, Store};
@@ -137,26 +138,26 @@ pub struct Witness {
     succession: Arc<Succession>,
 }
 
-/// How full a store is.
+/// A store's usage.
 #[derive(Clone, Copy, Debug, PartialEq, Eq)]
 pub struct Status {
     /// The number of pages in the store.
     pub pages: u64,
     /// The pages that a write can use.
     pub free: u64,
-    /// The pages of older snapshots, kept because a pass may read them.
+    /// The pages of older snapshots, kept because a pass may still read them.
     pub retired: u64,
     /// How many entries the journal has.
     pub entries: u64,
     /// How many entries the journal can have.
     pub commits: u64,
-    /// The oldest active reader, if there is one.
+    /// The oldest active reader, if any.
     pub oldest: Option<Oldest>,
 }
 
 impl Status {
-    /// Returns whether a write may find pages when it is retried, because another pass has kept pages for a snapshot, or still does. The
-    /// write came from the pass with the number `own`, and was refused as [`Error::Full`] with this `oldest`.
+    /// Returns whether a write may find free pages when it is retried, because another pass keeps, or has kept, pages for a snapshot. The
+    /// write came from pass number `own`, and was refused with [`Error::Full`] and this `oldest`.
     #[must_use]
     pub fn may_free_pages(&self, own: u64, oldest: u64) -> bool {
         oldest < self.entries && self.oldest.map_or(true, |reader| reader.pass != own)
@@ -166,21 +167,21 @@ impl Status {
 /// The oldest active reader of a store.
 #[derive(Clone, Copy, Debug, PartialEq, Eq)]
 pub struct Oldest {
-    /// The pass reads the snapshot with this number or a later one.
+    /// The reader has the snapshot with this number, or a later one, pinned.
     pub snapshot: u64,
     /// The number of the pass.
     pub pass: u64,
 }
 
-/// A session with the store, for one thread at a time.
+/// A session with the store, used by one thread at a time.
 ///
-/// It writes, and pins the snapshots that it reads. It can move to another thread, but can't be shared. Calls on different passes run at
-/// the same time.
+/// A pass writes, and pins the snapshots that it reads. It can be moved to another thread but not shared between threads. Calls on
+/// different passes run concurrently.
 #[derive(Debug)]
 pub struct Pass {
-    /// The generation that is read. Writes go there too, unless there is a newer generation.
+    /// The generation from which the pass reads. It also writes there, unless there is a newer generation.
     seat: Seat,
-    /// The seat in the newer generation, while a snapshot of the earlier one is read.
+    /// The seat in the newer generation while the pass reads a snapshot of the earlier one.
     ahead: RefCell<Option<Seat>>,
     succession: Arc<Succession>,
     /// `None` for the store's own pass.
@@ -192,29 +193,30 @@ pub struct Pass {
     _place: Option<Place>,
 }
 
-/// Makes a write in memory, when a [`Keeper`] calls it.
+/// A function that applies a write in memory when a [`Keeper`] calls it.
 pub type MakeWrite<'a> = &'a mut dyn FnMut() -> Result<Written>;
 
-/// Keeps a store's writes somewhere else too, such as in a log. [`Pass::kept_by`] sends a pass's writes through a keeper.
+/// Keeps a store's writes in a second place, such as a log. [`Pass::kept_by`] sends a pass's writes through a keeper.
 ///
-/// `keep` makes a write in memory, and the call that writes returns after `wait`. So a snapshot may show a write that isn't kept yet.
+/// `keep` applies a write in memory, and the call that writes returns only after `wait`. So a snapshot may show a write that hasn't been
+/// kept yet.
 pub trait Keeper: Send + Sync + fmt::Debug {
-    /// Makes a write of the batch by the pass with this number. It calls `write` once, while no other write is made, and returns its
-    /// result, with a number for [`wait`](Self::wait). These calls come in the order of the journal.
+    /// Writes the batch for the pass with this number. It calls `write` once, while no other write is in progress, and returns its result
+    /// together with a number for [`wait`](Self::wait). The calls are made in the order of the journal.
     ///
     /// # Errors
-    /// The errors of `write`, and the keeper's own errors as [`Error::Other`], either before or after `write` is called.
+    /// The errors of `write`, and the keeper's own errors as [`Error::Other`], which can occur before or after the call to `write`.
     fn keep(&self, pass: u64, batch: &Batch, write: MakeWrite<'_>) -> Result<(Written, u64)>;
 
-    /// Returns once the write with this number is kept.
+    /// Returns once the write with this number has been kept.
     ///
     /// # Errors
-    /// The keeper's own errors as [`Error::Other`]: the write was made in memory, and may or may not be kept.
+    /// The keeper's own errors as [`Error::Other`]: the write was applied in memory, and may or may not have been kept.
     fn wait(&self, number: u64) -> Result<()>;
 }
 
 impl Pass {
-    /// Opens a store, and returns the store's own pass.
+    /// Opens a store and returns the store's own pass.
     pub(crate) fn open(limits: Limits) -> Result<Self> {
         Ok(Self {
             seat: Seat::open(limits)?,
@@ -228,7 +230,7 @@ impl Pass {
         })
     }
 
-    /// Makes a pass of this store.
+    /// Creates a pass of this store.
     pub(crate) fn new(seat: Seat, store: Arc<Shared>, place: Place) -> Self {
         Self {
             seat,
@@ -242,7 +244,7 @@ impl Pass {
         }
     }
 
-    /// Returns the pass, whose writes go through the keeper from now on. All passes that write must have the same keeper.
+    /// Returns the pass with a keeper, through which all its writes go from now on. All passes that write must have the same keeper.
     ///
     /// ```
     /// use bestore::{Batch, Keeper, Limits, MakeWrite, Result, Store, Written};
@@ -277,7 +279,7 @@ impl Pass {
         self
     }
 
-    /// Returns the library's pass through which snapshots are read.
+    /// Returns the library's pass that reads snapshots.
     pub(crate) fn raw(&self) -> &RawPass {
         self.seat.raw()
     }
@@ -290,7 +292,7 @@ impl Pass {
         &self.succession
     }
 
-    /// Changes the seat of the store's own pass. Returns the previous seat.
+    /// Replaces the seat of the store's own pass, and returns the previous one.
     pub(crate) fn change_seat(&mut self, seat: Seat) -> Seat {
         std::mem::replace(&mut self.seat, seat)
     }
@@ -326,7 +328,7 @@ impl Pass {
         }
     }
 
-    /// Writes with a seat in the newest generation, which stays the newest meanwhile. Returns a commit number.
+    /// Writes with a seat in the newest generation, which can't be superseded while this call runs. Returns a commit number.
     fn write_on_newest(&self, batch: &Batch, mut write: impl FnMut(&Seat) -> Answer<u64>) -> Answer<u64> {
         loop {
             let open = self.succession.enter()?;
@@ -341,15 +343,15 @@ impl Pass {
                 }
                 return written;
             }
-            // The seat is taken before that, since the thread that closes the gate has the store's own pass.
+            // Drop this before taking a seat: the thread that closes the gate has the store's own pass locked.
             drop(open);
             self.go_ahead()?;
         }
     }
 
-    /// Gives up what [`Store::carry_on`](crate::Store::carry_on) has carried on, so that its memory can be freed, unless a snapshot of it
-    /// is held. [`pin`](Self::pin) does the same, so this call is for a pass that is idle or only writes. Returns whether there was
-    /// anything to give up. The pass may have another [`number`](Self::number) afterwards.
+    /// Releases the old memory after [`Store::carry_on`](crate::Store::carry_on), so that it can be freed, unless a snapshot in it is held.
+    /// [`pin`](Self::pin) does the same, so this call is meant for a pass that is idle or only writes. Returns whether there was anything
+    /// to release. The pass's [`number`](Self::number) may be different afterwards.
     ///
     /// # Errors
     /// [`Error::OutOfMemory`], [`Error::Forked`].
@@ -368,19 +370,19 @@ impl Pass {
         self.retry
     }
 
-    /// Sets how many times this pass retries its calls.
+    /// Sets how many times this pass retries a call.
     pub fn set_retry(&mut self, retry: Retry) {
         self.retry = retry;
     }
 
-    /// Returns how many times the store had been [carried on](crate::Store::carry_on) when the pass last gave up the earlier memory. While that
-    /// is less than [`Store::generation`](crate::Store::generation), the pass keeps the earlier memory.
+    /// Returns how many times the store had been [carried on](crate::Store::carry_on) when the pass last released old memory. While that is
+    /// less than [`Store::generation`](crate::Store::generation), the pass keeps old memory from being freed.
     #[must_use]
     pub fn generation(&self) -> u64 {
         self.seat.generation()
     }
 
-    /// Returns the number of this pass, which the journal and [`Error::Busy`] use.
+    /// Returns this pass's number, by which the journal and [`Error::Busy`] refer to it.
     ///
     /// # Errors
     /// [`Error::Forked`].
@@ -388,9 +390,9 @@ impl Pass {
         Ok(self.on_newest(|seat| seat.raw().number())?)
     }
 
-    /// Pins the current snapshot, which can be read until it is dropped. It takes constant time.
+    /// Pins the current snapshot, which can be read until it is dropped. This takes constant time.
     ///
-    /// You can still write, through [`Snapshot::pass`]; the snapshot doesn't change.
+    /// You can still write through [`Snapshot::pass`], but the snapshot doesn't change.
     ///
     /// # Errors
     /// [`Error::Forked`].
@@ -398,8 +400,9 @@ impl Pass {
         Snapshot::pin(self)
     }
 
-    /// Pins the current snapshot, and holds it until [`release`](Self::release): each [`pin`](Self::pin) in between returns this snapshot.
-    /// So a session can keep a snapshot without a borrow. If a snapshot is already held, it stays held. Returns the number of the snapshot.
+    /// Pins the current snapshot and holds it until [`release`](Self::release): until then, each [`pin`](Self::pin) returns this snapshot.
+    /// This way a session can keep a snapshot without borrowing the pass. If a snapshot is already held, it stays held. Returns the
+    /// snapshot's number.
     ///
     /// ```
     /// # use bestore::{Limits, Store};
@@ -422,7 +425,7 @@ impl Pass {
         Ok(number)
     }
 
-    /// Unpins the held snapshot, if there is one.
+    /// Unpins the held snapshot, if any.
     pub fn release(&mut self) {
         if self.held.take().is_some() {
             // Fails only in a forked child, where nothing is pinned.
@@ -430,27 +433,27 @@ impl Pass {
         }
     }
 
-    /// Returns the number of the held snapshot.
+    /// Returns the held snapshot's number.
     #[must_use]
     pub fn held(&self) -> Option<u64> {
         self.held
     }
 
-    /// Writes all operations of the batch or none.
+    /// Writes either all of the batch's operations or none.
     ///
     /// # Errors
-    /// [`Error::Busy`] and [`Error::Full`] after as many tries as [`Retry`] says. [`Error::BadCount`], [`Error::NameLength`],
+    /// [`Error::Busy`] and [`Error::Full`] once the retries set by [`Retry`] are used up. [`Error::BadCount`], [`Error::NameLength`],
     /// [`Error::DataLength`], [`Error::HasNul`]: an operation isn't valid. [`Error::NoNode`] to [`Error::NotIndexable`]: the store refuses
     /// an operation. [`Error::CommitsSpent`], [`Error::OutOfMemory`], [`Error::Forked`].
     pub fn apply(&self, batch: &Batch) -> Result<Written> {
         self.write(None, batch)
     }
 
-    /// Writes like [`apply`](Self::apply), but only if the journal has exactly `expected` entries. So everything read in the snapshot with
-    /// that number is still true.
+    /// Writes like [`apply`](Self::apply), but only if the journal has exactly `expected` entries. So everything that was read in the
+    /// snapshot with that number is still current.
     ///
     /// # Errors
-    /// [`Error::Conflict`] if the journal has another length; otherwise the same as `apply`.
+    /// [`Error::Conflict`] if the journal's length differs; otherwise the same as `apply`.
     pub fn apply_if(&self, expected: u64, batch: &Batch) -> Result<Written> {
         self.write(Some(expected), batch)
     }
@@ -459,11 +462,11 @@ impl Pass {
         self.apply_with(expected, batch, |_| ())
     }
 
-    /// Writes like [`apply`](Self::apply), or with `expected` like [`apply_if`](Self::apply_if). Calls `made` with the result once the
-    /// write is in memory, before a [`Keeper`] has kept it.
+    /// Writes like [`apply`](Self::apply) or, if `expected` is given, like [`apply_if`](Self::apply_if). Calls `made` with the result once
+    /// the write is in memory, before a [`Keeper`] has kept it.
     ///
     /// # Errors
-    /// The same as those calls.
+    /// The same as for those calls.
     pub fn apply_with(&self, expected: Option<u64>, batch: &Batch, made: impl FnOnce(&Written)) -> Result<Written> {
         let (written, number) = self.begin_write(expected, batch)?;
         made(&written);
@@ -471,7 +474,7 @@ impl Pass {
         Ok(written)
     }
 
-    /// Writes in memory. Returns the number to pass to `end_write`.
+    /// Writes a batch in memory. Returns the number to pass to `end_write`.
     pub(crate) fn begin_write(&self, expected: Option<u64>, batch: &Batch) -> Result<(Written, u64)> {
         let mut full = 0;
         loop {
@@ -490,7 +493,7 @@ impl Pass {
         }
     }
 
-    /// Writes the draft of a change in memory. Its operations are those in the batch, and make these nodes. It is tried only once. Returns
+    /// Writes a change's draft in memory, trying only once. The draft's operations are those in the batch, and create these nodes. Returns
     /// the number to pass to `end_write`.
     pub(crate) fn end_change(&self, draft: &RawDraft, expected: u64, batch: &Batch, nodes: Vec<u64>) -> Result<u64> {
         let mut write = || match self.write_draft(draft, expected, batch) {
@@ -506,8 +509,8 @@ impl Pass {
         }
     }
 
-    /// Writes the draft if nothing else has been written since. If the draft belongs to an earlier generation, writes the same operations
-    /// instead.
+    /// Writes the draft if nothing else has been written since its snapshot. If the draft belongs to an earlier generation, writes its
+    /// operations as a batch instead.
     fn write_draft(&self, draft: &RawDraft, expected: u64, batch: &Batch) -> Answer<u64> {
         let (own, mut made) = (self.raw().store(), vec![0; batch.len()]);
         self.write_on_newest(batch, |seat| match seat.raw().store() == own {
@@ -516,7 +519,7 @@ impl Pass {
         })
     }
 
-    /// If this pass's writes are kept, waits until this write is kept.
+    /// If this pass has a keeper, waits until this write has been kept.
     pub(crate) fn end_write(&self, number: u64) -> Result<()> {
         self.keeper.as_ref().map_or(Ok(()), |keeper| keeper.wait(number))
     }
@@ -536,7 +539,7 @@ impl Pass {
         }
     }
 
-    /// Writes a batch that has outcomes. Returns whether it makes the same nodes.
+    /// Replays a batch whose outcomes are known. Returns whether it creates the same nodes again.
     pub(crate) fn repeat(&self, batch: &Batch) -> Result<bool> {
         let written = self.apply(batch)?;
         let mut repeated = batch.clone();
@@ -559,9 +562,9 @@ impl Pass {
         call()
     }
 
-    /// Reads and writes atomically: runs the closure on the current snapshot, and writes the operations that it collects if there was no
-    /// other write in between. Otherwise it runs the closure again on the next snapshot. It also does so if another pass is writing, or if
-    /// no page is free while another pass holds an older snapshot.
+    /// Reads and writes atomically: runs the closure on the current snapshot, and writes the operations that it collects if there has been
+    /// no other write in the meantime. If there has been one, it runs the closure again on a newer snapshot. It also does so if another
+    /// pass is writing, or if no page is free while another pass holds an older snapshot.
     ///
     /// ```
     /// # use bestore::{Limits, Store, Kind};
@@ -579,20 +582,20 @@ impl Pass {
     /// # Ok::<(), bestore::Error>(())
     /// ```
     ///
-    /// While a snapshot is [held](Self::hold), the closure reads the held snapshot. A conflict is then an error. If another pass is
-    /// writing, or no page is free, the closure runs again on the same snapshot.
+    /// If a snapshot is [held](Self::hold), the closure reads that snapshot, and a conflict is an error. If another pass is writing or no
+    /// page is free, the closure runs again on the same snapshot.
     ///
-    /// A closure that collects no operations writes nothing. If the closure returns an error, the change stops and nothing is written.
+    /// If the closure collects no operations, nothing is written. If it returns an error, the change is abandoned and nothing is written.
     /// [`Error::other`] turns any error into an [`Error`].
     ///
     /// # Errors
-    /// The closure's errors; [`Error::Conflict`], [`Error::Busy`] and [`Error::Full`] after as many tries as [`Retry`] says; otherwise the
-    /// same as [`apply`](Self::apply).
+    /// The closure's errors; [`Error::Conflict`], [`Error::Busy`] and [`Error::Full`] once the retries set by [`Retry`] are used up;
+    /// otherwise the same as [`apply`](Self::apply).
     pub fn change<T>(&mut self, mut change: impl FnMut(&mut Change<'_>) -> Result<T>) -> Result<T> {
         Change::run(self, &mut change)
     }
 
-    /// Makes a node, and returns its number. This call and the next five write like [`apply`](Self::apply).
+    /// Creates a node and returns its number. This call and the next five write like [`apply`](Self::apply).
     ///
     /// # Errors
     /// The same as `apply`.
@@ -624,8 +627,8 @@ impl Pass {
         self.apply(Batch::new().unset(node, name)).map(drop)
     }
 
-    /// Makes an index, which takes attributes with this name and kind that are set from then on. [`reindex`](Self::reindex) sets the earlier
-    /// ones again.
+    /// Creates an index. It holds attributes of this name and kind that are set from then on; use [`reindex`](Self::reindex) to add earlier
+    /// ones.
     ///
     /// # Errors
     /// The same as [`apply`](Self::apply).
@@ -641,8 +644,9 @@ impl Pass {
         self.apply(Batch::new().remove_index(name)).map(drop)
     }
 
-    /// Sets attributes that the index with this name lacks, because they were set before it was made, to the same values again. Each change
-    /// sets up to 64 attributes, so no newer value is lost. Returns how many were set. It reads each node, and writes each such attribute.
+    /// Adds to the index of this name the attributes that it lacks because they were set before it was created, by setting them to the same
+    /// values again. It uses changes of up to 64 attributes each, so no newer value is lost. Returns how many attributes were set. The cost
+    /// is to read every node and to write each of these attributes.
     ///
     /// ```
     /// # use bestore::{Kind, Limits, Store};
@@ -669,8 +673,7 @@ impl Pass {
         Ok(set)
     }
 
-    /// Returns how many entries the journal no longer has, because the store was [carried on](crate::Store::carry_on), or 0 if it never
-    /// was.
+    /// Returns how many entries the journal no longer has because the store was [carried on](crate::Store::carry_on), or 0 if it never was.
     ///
     /// # Errors
     /// [`Error::OutOfMemory`], [`Error::Forked`].
@@ -678,14 +681,14 @@ impl Pass {
         Ok(self.on_newest(|seat| Ok(seat.state()))?)
     }
 
-    /// Returns the journal's entries after the first `from`: those with commit numbers from `from + 1` on. Entries that the journal [no
-    /// longer has](Self::journal_begin) are left out; the number of the first entry shows it.
+    /// Returns the journal's entries after the first `from`, that is, from commit number `from + 1` on. Entries that the journal [no longer
+    /// has](Self::journal_begin) are left out; you can tell by the first entry's number.
     pub fn journal_from(&self, from: u64) -> Entries<'_> {
         Entries::new(self, from)
     }
 
-    /// Returns the journal as text, one line per entry. Other passes can't write while the text is made. If the store was [carried
-    /// on](crate::Store::carry_on), the text begins with the state.
+    /// Returns the journal as text, one line per entry. Other passes can't write while this call runs. If the store was [carried
+    /// on](crate::Store::carry_on), the text begins with the state at that time.
     ///
     /// # Errors
     /// [`Error::Busy`], [`Error::OutOfMemory`], [`Error::Forked`].
@@ -694,7 +697,7 @@ impl Pass {
         Ok(String::from_utf8_lossy(&bytes).into_owned())
     }
 
-    /// Returns how full the store is, and which snapshot keeps pages. Other passes can't write meanwhile.
+    /// Returns how full the store is and which snapshot keeps pages from being reused. Other passes can't write while this call runs.
     ///
     /// # Errors
     /// [`Error::Busy`], [`Error::Forked`].
@@ -718,16 +721,16 @@ impl Pass {
         Ok(status?)
     }
 
-    /// Meets a dropped pass: afterwards each has seen what either had seen. Returns how many journal entries both have seen.
+    /// Meets a pass that was dropped: afterwards both have seen what either had seen. Returns how many journal entries both have now seen.
     ///
     /// # Errors
-    /// [`Error::NoPass`]: there is no pass to meet, or another thread is meeting it. [`Error::Forked`].
+    /// [`Error::NoPass`] if there is no pass to meet, or another thread is meeting it; [`Error::Forked`].
     pub fn meet(&self) -> Result<u64> {
         Ok(self.on_newest(|seat| seat.raw().meet().map(|seen| seat.outside(seen)))?)
     }
 
-    /// Makes a witness of all journal entries that the pass has seen so far, including its own. Send the witness to another thread, whose
-    /// pass joins it.
+    /// Creates a witness that records all journal entries that the pass has seen so far, including its own. Send the witness to another
+    /// thread, whose pass joins it.
     ///
     /// # Errors
     /// [`Error::OutOfMemory`], [`Error::Forked`].
@@ -739,8 +742,8 @@ impl Pass {
     }
 
     /// Joins a witness: afterwards the pass and the witness have both seen what either had seen. So each later snapshot of the pass
-    /// includes everything that the witness's pass had seen, and each later commit number of the pass is greater than those entries'
-    /// numbers. Returns how many journal entries both have seen.
+    /// includes everything that the witness had seen, and each transaction that the pass commits later has a higher number than all of
+    /// those entries. Returns how many journal entries both have now seen.
     ///
     /// # Errors
     /// [`Error::OtherStore`] if the witness belongs to another store; [`Error::Forked`].
@@ -748,7 +751,7 @@ impl Pass {
         let is_of_store = Arc::ptr_eq(&self.succession, &witness.succession);
         let seen = self.on_newest(|seat| match seat.raw().join(&mut witness.raw)? {
             Some(seen) => Ok(Some(seat.outside(seen))),
-            // Whatever was seen in an earlier generation is in this generation from the beginning.
+            // Whatever was seen in an earlier generation has been part of this one from its beginning.
             None => Ok(is_of_store.then_some(seat.begin())),
         });
         seen?.ok_or(Error::OtherStore)

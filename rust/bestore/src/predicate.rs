@@ -7,7 +7,7 @@ use bestore_types::raw::narrow;
 use std::ops::{BitAnd, BitOr, Not};
 use sys::bes_item;
 
-/// A query that is built from comparisons with `&`, `|` and `!`. Strings need no quotes or backslashes.
+/// A query built from comparisons with `&`, `|` and `!`. Strings need no quotes or backslashes.
 ///
 /// ```
 /// use bestore::attribute;
@@ -37,7 +37,7 @@ pub enum Operand {
     Uint64(u64),
 }
 
-/// Returns the attribute with this name, to be compared.
+/// Returns the attribute with this name, ready to be compared.
 #[must_use]
 pub fn attribute(name: &str) -> Attribute {
     let mut predicate = Predicate {
@@ -62,7 +62,7 @@ impl Attribute {
     comparisons! {
         /// The attribute matches the pattern.
         eq by BES_ITEM_EQ;
-        /// The attribute exists, and doesn't match the pattern.
+        /// The attribute exists but doesn't match the pattern.
         ne by BES_ITEM_NE;
         /// The attribute is less than the value.
         lt by BES_ITEM_LT;
@@ -72,15 +72,15 @@ impl Attribute {
         gt by BES_ITEM_GT;
         /// The attribute is greater than or equal to the value.
         ge by BES_ITEM_GE;
-        /// The attribute contains the text, which isn't a pattern.
+        /// The attribute contains the text, which isn't read as a pattern.
         contains by BES_ITEM_CONTAINS;
-        /// The attribute begins with the text, which isn't a pattern.
+        /// The attribute begins with the text, which isn't read as a pattern.
         begins_with by BES_ITEM_BEGINS_WITH;
-        /// The attribute ends with the text, which isn't a pattern.
+        /// The attribute ends with the text, which isn't read as a pattern.
         ends_with by BES_ITEM_ENDS_WITH;
     }
 
-    /// Matches nodes whose attribute is in the index with this name. `kind` is the kind of that index.
+    /// Matches the nodes whose attribute is in the index of its name. `kind` is the kind of that index.
     #[must_use]
     pub fn any(self, kind: Kind) -> Predicate {
         match kind.least() {
@@ -128,10 +128,10 @@ impl Predicate {
         self.with(operator)
     }
 
-    /// Makes the query.
+    /// Builds the query.
     ///
     /// # Errors
-    /// [`Error::Query`] with the text of a pattern if the pattern is malformed, or if the query is too large. [`Error::NameLength`],
+    /// [`Error::Query`] if a pattern is malformed, with the pattern's text, or if the query is too large. [`Error::NameLength`],
     /// [`Error::HasNul`], [`Error::OutOfMemory`].
     pub fn prepare(&self) -> Result<Prepared> {
         let answer = crate::raw::RawPrepared::build(&self.items, &self.bytes);
@@ -141,7 +141,7 @@ impl Predicate {
         })
     }
 
-    /// Returns the text before the item with this index. If the item is a comparison, that text is its value.
+    /// Returns the text of the item before the one with this index. If that one is a comparison, the text is its value.
     fn pattern_before(&self, item: u64) -> String {
         let index = usize::try_from(item).unwrap_or(usize::MAX).checked_sub(1);
         let value = index.and_then(|index| self.items.get(index));

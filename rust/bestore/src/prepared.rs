@@ -7,7 +7,7 @@ use bestore_types::raw::crc32;
 use std::cell::Cell;
 use std::fmt;
 
-/// A query that was parsed once, or built by [`Predicate::prepare`](crate::Predicate::prepare). It belongs to no store, and can be run in
+/// A query that was parsed once, or built by [`Predicate::prepare`](crate::Predicate::prepare). It isn't tied to a store, and can be run in
 /// any snapshot.
 ///
 /// ```
@@ -19,7 +19,7 @@ use std::fmt;
 #[derive(Debug)]
 pub struct Prepared {
     raw: RawPrepared,
-    /// The CRC-32 of the canonical text, once something has asked for it.
+    /// The CRC-32 of the canonical text, computed on first use.
     check: Cell<Option<u32>>,
 }
 
@@ -42,7 +42,7 @@ impl Prepared {
         }
     }
 
-    /// Returns the canonical text of the query.
+    /// Returns the query's canonical text.
     ///
     /// # Errors
     /// [`Error::OutOfMemory`], [`Error::Forked`].
@@ -54,7 +54,7 @@ impl Prepared {
         self.text().unwrap_or_default()
     }
 
-    /// Returns what this query's cursors remember about the query.
+    /// Returns the checksum by which this query's cursors identify the query.
     pub(crate) fn check(&self) -> Result<u32> {
         match self.check.get() {
             Some(check) => Ok(check),
@@ -92,16 +92,16 @@ impl fmt::Display for Prepared {
     }
 }
 
-/// The changes in the answer to a live query. Both lists are in ascending order.
+/// The changes in a live query's result. Both lists are in ascending order.
 #[derive(Clone, Debug, Default, PartialEq, Eq)]
 pub struct Updates {
-    /// The nodes that joined the answer.
+    /// The nodes that the result has gained.
     pub created: Vec<u64>,
-    /// The nodes that left the answer.
+    /// The nodes that the result has lost.
     pub removed: Vec<u64>,
 }
 
-/// A live query: each refresh returns what changed since the last one. The first refresh returns all nodes of the answer.
+/// A live query: each refresh returns what has changed since the last one. The first refresh returns all nodes in the result.
 ///
 /// ```
 /// # use bestore::{Kind, Limits, Live, Store};
@@ -118,7 +118,7 @@ pub struct Updates {
 #[derive(Debug)]
 pub struct Live {
     prepared: Prepared,
-    /// The store of the last refresh, as the number that its passes have.
+    /// The store of the last refresh, identified by the number that its passes have.
     store: Option<u64>,
 }
 
@@ -131,24 +131,24 @@ impl Live {
         Prepared::new(text).map(Self::from)
     }
 
-    /// Runs the query, and compares the answer with the answer at the last refresh. Use snapshots of one store, or of another store to
-    /// which its state was carried on: nodes are compared by their numbers. It runs the whole query and takes no lock, so it never causes
-    /// [`Error::Busy`] in another pass's write.
+    /// Runs the query, and compares the result with that of the last refresh. Always use snapshots of the same store, or of another store
+    /// into which its state was copied, because nodes are compared by number. This call runs the whole query and takes no lock, so it never
+    /// makes another pass's write return [`Error::Busy`].
     ///
     /// # Errors
-    /// The same as [`Snapshot::query`]. The query is unchanged then.
+    /// The same as [`Snapshot::query`]. After an error, the query is unchanged.
     pub fn refresh(&mut self, snapshot: &Snapshot<'_>) -> Result<Updates> {
         self.refresh_by(snapshot, RawPass::refresh)
     }
 
-    /// Returns what [`refresh`](Self::refresh) does. It checks only the nodes that were written since the last refresh, and takes less time
-    /// if the answer has 96 nodes or more and few nodes were written. It reads the journal's entries since then, and other passes get
-    /// [`Error::Busy`] meanwhile. Otherwise, or if the last refresh was in another store, it runs the whole query.
+    /// Returns the same as [`refresh`](Self::refresh), but checks only the nodes that were written since the last refresh, which takes less
+    /// time if the result has 96 nodes or more and few nodes were written. It reads the journal's entries since then, during which other
+    /// passes get [`Error::Busy`]. Otherwise, or if the last refresh was in another store, it runs the whole query.
     ///
     /// # Errors
     /// The same as `refresh`.
     pub fn refresh_changed(&mut self, snapshot: &Snapshot<'_>) -> Result<Updates> {
-        // The library requires that the last refresh was in this store, since it reads the store's entries.
+        // The library requires the last refresh to have been in this store, because it reads this store's entries.
         match self.store == Some(snapshot.pass().raw().store()) {
             true => self.refresh_by(snapshot, RawPass::refresh_changed),
             false => self.refresh(snapshot),
@@ -170,7 +170,7 @@ impl Live {
         }
     }
 
-    /// Returns the query, so that you can run it without a refresh.
+    /// Returns the query, so that you can run it without refreshing.
     #[must_use]
     pub fn prepared(&self) -> &Prepared {
         &self.prepared

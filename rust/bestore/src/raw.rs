@@ -1,10 +1,10 @@
-//! The library's calls on handles that close themselves. All unsafe code of the crate is in this module.
+//! The library's calls on handles that close themselves. All of the crate's unsafe code is in this module.
 //!
-//! What each block rests on:
-//! - a pointer to a handle is one of `Handle`, which keeps the handle at one address until it closes it;
-//! - a handle takes one call at a time: `Handle` isn't `Sync`, and no call of the library calls back;
-//! - a slice has a pointer that isn't null, even with a length of 0;
-//! - the library writes as many items of a list as it counts, up to the capacity that it is given.
+//! Every block relies on the following:
+//! - a pointer to a handle comes from a `Handle`, which keeps the handle at one address until it closes it;
+//! - a handle is used by one call at a time: `Handle` isn't `Sync`, and the library never calls back;
+//! - a slice's pointer isn't null, even if its length is 0;
+//! - the library writes the number of items that it reports, up to the capacity that it is given.
 #![allow(unsafe_code)]
 #![deny(unsafe_op_in_unsafe_fn)]
 
@@ -26,7 +26,7 @@ use sys::{
     bes_witness,
 };
 
-/// The code returned by a call in a forked child. No call of the library returns it.
+/// The code that a call returns in a forked child. The library itself never returns it.
 pub(crate) const FORKED: u32 = u32::MAX;
 
 /// The maximum number of bytes in the names and values of a batch.
@@ -41,7 +41,7 @@ pub(crate) struct Refused {
 
 pub(crate) type Answer<T> = Result<T, Refused>;
 
-/// The nodes that joined the answer and the nodes that left it.
+/// The nodes that the result has gained and those that it has lost.
 pub(crate) type RawUpdates = Answer<(Vec<u64>, Vec<u64>)>;
 
 fn check(code: u32, carried: u64) -> Answer<()> {
@@ -52,8 +52,8 @@ fn check(code: u32, carried: u64) -> Answer<()> {
     }
 }
 
-/// Returns the whole result of a call that counts all items and writes as many as fit. If they don't all fit, it calls again with a larger
-/// buffer.
+/// Returns the whole result of a function that counts all items and writes as many as fit. If they don't all fit, calls it again with a
+/// larger buffer.
 fn whole<T>(mut room: usize, mut call: impl FnMut(*mut T, usize, &mut u64) -> u32) -> Answer<Vec<T>>
 where
     T: Copy,
@@ -79,12 +79,12 @@ pub(crate) fn checked_name(name: &str) -> Answer<sys::bes_name> {
         length: 0,
         bytes: [0; 64],
     };
-    // SAFETY: as the module says.
+    // SAFETY: see the top of this module.
     let code = unsafe { sys::bes_check_name(name.as_ptr(), name.len(), &mut checked) };
     check(code, 0).map(|()| checked)
 }
 
-/// Returns a list of operations from a call. If the list doesn't fit, it calls again with a larger buffer.
+/// Returns a list of operations from a function. If the list doesn't fit, calls it again with a larger buffer.
 fn listed(
     room: (usize, usize),
     mut call: impl FnMut(&mut bes_counts, *mut bes_operation, usize, *mut u8, usize) -> Answer<()>,
@@ -101,7 +101,7 @@ fn listed(
         call(&mut counts, operations, operations_room, bytes, bytes_room)?;
         let (operations, bytes) = (counts.operations as usize, counts.bytes as usize);
         if operations <= operations_room && bytes <= bytes_room {
-            // SAFETY: the library has written as many operations and bytes as it counted.
+            // SAFETY: the library has written the numbers of operations and bytes that it counted.
             unsafe {
                 list.operations.set_len(operations);
                 list.bytes.set_len(bytes);
@@ -112,7 +112,7 @@ fn listed(
     }
 }
 
-/// Calls `bes_apply`, or `bes_apply_if` if a length is expected.
+/// Calls `bes_apply` or, if a length is expected, `bes_apply_if`.
 ///
 /// # Safety
 /// `pass` points to a handle that no other call uses.
@@ -120,7 +120,7 @@ unsafe fn apply(pass: *mut bes_pass, expected: Option<u64>, list: &List, made: &
     let (operations, count) = (list.operations.as_ptr(), list.operations.len());
     let (bytes, length) = (list.bytes.as_ptr(), list.bytes.len());
     let (nodes, room) = (made.as_mut_ptr(), made.len());
-    // SAFETY: these are three different slices, and they outlive the call.
+    // SAFETY: these are three separate slices, and they outlive the call.
     unsafe {
         match expected {
             None => sys::bes_apply(pass, operations, count, bytes, length, nodes, room, number),
@@ -129,10 +129,11 @@ unsafe fn apply(pass: *mut bes_pass, expected: Option<u64>, list: &List, made: &
     }
 }
 
-/// How many nodes the buffer holds at the first query.
+/// The buffer's capacity for the first query, in nodes.
 const NODES: usize = 256;
 
-/// Returns the nodes that a query finds. The buffer holds a few more nodes than the last query found, so that few queries are run twice.
+/// Returns the nodes that a query finds. The buffer has room for a few more nodes than the last query found, so that few queries have to be
+/// run twice.
 fn found(room: &Cell<usize>, call: impl FnMut(*mut u64, usize, &mut u64) -> u32) -> Answer<Vec<u64>> {
     let mut nodes = whole(room.get(), call)?;
     room.set((nodes.len() + nodes.len() / 4).max(NODES));
@@ -142,10 +143,10 @@ fn found(room: &Cell<usize>, call: impl FnMut(*mut u64, usize, &mut u64) -> u32)
     Ok(nodes)
 }
 
-/// Returns up to `most` nodes from a call that counts all nodes and writes as many as fit. The buffer holds at most `all` nodes, since
-/// there can't be more.
+/// Returns up to `most` nodes from a call that counts all nodes and writes as many as fit. The buffer has room for at most `all` nodes,
+/// because there can't be more.
 fn some(all: u64, most: usize, call: impl FnOnce(*mut u64, usize, &mut u64) -> u32) -> Answer<Vec<u64>> {
-    // The buffer holds at least one node, so that a page from a store without nodes is empty, and not an error.
+    // The buffer has room for at least one node, so that a page from a store without nodes is empty and not an error.
     let room = usize::try_from(all).unwrap_or(usize::MAX).max(1).min(most);
     let mut nodes = Vec::with_capacity(room);
     let mut count = 0;
@@ -156,7 +157,7 @@ fn some(all: u64, most: usize, call: impl FnOnce(*mut u64, usize, &mut u64) -> u
     Ok(nodes)
 }
 
-/// Returns an attribute that a call reads, and puts its bytes into `bytes`.
+/// Returns the attribute that a call reads, and stores its bytes in `bytes`.
 fn attribute(
     bytes: &mut [u8; 255],
     call: impl FnOnce(&mut bes_attribute, *mut u8, usize) -> u32,
@@ -186,21 +187,21 @@ impl RawPass {
         }
     }
 
-    /// Returns the number of the store, which no other store of this process has.
+    /// Returns the store's number, which is unique within this process.
     pub(crate) fn store(&self) -> u64 {
         self.store
     }
 
     pub(crate) fn open(pages: u64, passes: u64, commits: u64) -> Answer<Self> {
         let pass = Self::new(STORES.fetch_add(1, Ordering::Relaxed));
-        // SAFETY: as the module says.
+        // SAFETY: see the top of this module.
         let code = unsafe { sys::bes_open(pages, passes, commits, pass.handle.get()?) };
         check(code, 0).map(|()| pass)
     }
 
     pub(crate) fn another(&self) -> Answer<Self> {
         let other = Self::new(self.store);
-        // SAFETY: as the module says; these are two different handles.
+        // SAFETY: see the top of this module; these are two different handles.
         let code = unsafe { sys::bes_another(self.handle.get()?, other.handle.get()?) };
         check(code, 0).map(|()| other)
     }
@@ -208,7 +209,7 @@ impl RawPass {
     /// Returns a number from a call that takes only the pass.
     fn number_by(&self, call: unsafe extern "C" fn(*mut bes_pass, *mut u64) -> u32) -> Answer<u64> {
         let mut number = 0;
-        // SAFETY: as the module says, and `number` outlives the call.
+        // SAFETY: see the top of this module; `number` outlives the call.
         let code = unsafe { call(self.handle.get()?, &mut number) };
         check(code, number).map(|()| number)
     }
@@ -226,18 +227,18 @@ impl RawPass {
             handle: Handle::new(),
             store: self.store,
         };
-        // SAFETY: as the module says.
+        // SAFETY: see the top of this module.
         let code = unsafe { sys::bes_witness_of(self.handle.get()?, witness.handle.get()?) };
         check(code, 0).map(|()| witness)
     }
 
-    /// Joins a witness, if it belongs to the same store.
+    /// Joins a witness if it belongs to the same store.
     pub(crate) fn join(&self, witness: &mut RawWitness) -> Answer<Option<u64>> {
         let mut seen = 0;
         if witness.store != self.store {
             return Ok(None);
         }
-        // SAFETY: as the module says, and `seen` outlives the call.
+        // SAFETY: see the top of this module; `seen` outlives the call.
         let code = unsafe { sys::bes_join(self.handle.get()?, witness.handle.get()?, &mut seen) };
         check(code, 0).map(|()| Some(seen))
     }
@@ -251,36 +252,36 @@ impl RawPass {
     }
 
     pub(crate) fn unpin(&self) -> Answer<()> {
-        // SAFETY: as the module says.
+        // SAFETY: see the top of this module.
         check(unsafe { sys::bes_unpin(self.handle.get()?) }, 0)
     }
 
     /// Writes the list. If a length is expected, writes only if the journal has that length. Returns the commit number.
     pub(crate) fn apply(&self, expected: Option<u64>, list: &List, made: &mut [u64]) -> Answer<u64> {
         let mut number = 0;
-        // SAFETY: as the module says.
+        // SAFETY: see the top of this module.
         let code = unsafe { apply(self.handle.get()?, expected, list, made, &mut number) };
         check(code, number).map(|()| number)
     }
 
-    /// Begins a change on the snapshot that the pass has pinned. Returns its draft, and the number that the first new node gets.
+    /// Begins a change on the snapshot that the pass has pinned. Returns its draft, and the number that the first new node will get.
     pub(crate) fn begin_change(&self) -> Answer<(RawDraft, u64)> {
         let draft = RawDraft(Handle::new());
         let (mut number, mut next) = (0, 0);
-        // SAFETY: as the module says; these are two different handles.
+        // SAFETY: see the top of this module; these are two different handles.
         let code = unsafe { sys::bes_begin_change(self.handle.get()?, draft.0.get()?, &mut number, &mut next) };
         check(code, 0).map(|()| (draft, next))
     }
 
-    /// Writes the draft, and closes it, even after an error.
+    /// Writes the draft and closes it, even after an error.
     pub(crate) fn end_change(&self, draft: &RawDraft) -> Answer<u64> {
         let mut number = 0;
-        // SAFETY: as the module says; the draft belongs to this pass, since a change has both.
+        // SAFETY: see the top of this module; the draft belongs to this pass, because a change has both.
         let code = unsafe { sys::bes_end_change(self.handle.get()?, draft.0.get()?, &mut number) };
         check(code, number).map(|()| number)
     }
 
-    /// Returns an attribute as the draft's operations leave it, and puts its bytes into `bytes`.
+    /// Returns an attribute as it is after the draft's operations, and stores its bytes in `bytes`.
     pub(crate) fn change_get(
         &self,
         draft: &RawDraft,
@@ -290,7 +291,7 @@ impl RawPass {
     ) -> Answer<bes_attribute> {
         let (pass, draft) = (self.handle.get()?, draft.0.get()?);
         attribute(bytes, |attribute, bytes, room| {
-            // SAFETY: as the module says; the draft belongs to this pass, since a change has both.
+            // SAFETY: see the top of this module; the draft belongs to this pass, because a change has both.
             unsafe { sys::bes_change_get(pass, draft, node, name.as_ptr(), name.len(), attribute, bytes, room) }
         })
     }
@@ -298,7 +299,7 @@ impl RawPass {
     pub(crate) fn query(&self, text: &str) -> Answer<Vec<u64>> {
         let pass = self.handle.get()?;
         found(&self.room, |nodes, room, count| {
-            // SAFETY: as the module says.
+            // SAFETY: see the top of this module.
             unsafe { sys::bes_query(pass, text.as_ptr(), text.len(), nodes, room, count) }
         })
     }
@@ -307,7 +308,7 @@ impl RawPass {
         let (pass, prepared) = (self.handle.get()?, prepared.0.get()?);
         let mut is_asked = false;
         found(&self.room, |nodes, room, count| {
-            // SAFETY: as the module says.
+            // SAFETY: see the top of this module.
             unsafe {
                 if is_asked {
                     return sys::bes_found(prepared, 0, nodes, room, count);
@@ -321,7 +322,7 @@ impl RawPass {
     /// Returns how many nodes the query finds.
     pub(crate) fn count(&self, text: &str) -> Answer<u64> {
         let (pass, mut count) = (self.handle.get()?, 0);
-        // SAFETY: as the module says; the capacity is 0, so only the count is written.
+        // SAFETY: see the top of this module; the capacity is 0, so only the count is written.
         let code = unsafe {
             sys::bes_query(
                 pass,
@@ -337,12 +338,12 @@ impl RawPass {
 
     pub(crate) fn count_prepared(&self, prepared: &RawPrepared) -> Answer<u64> {
         let (pass, prepared, mut count) = (self.handle.get()?, prepared.0.get()?, 0);
-        // SAFETY: as the module says; the capacity is 0, so only the count is written.
+        // SAFETY: see the top of this module; the capacity is 0, so only the count is written.
         let code = unsafe { sys::bes_query_prepared(pass, prepared, NonNull::dangling().as_ptr(), 0, &mut count) };
         check(code, count).map(|()| count)
     }
 
-    /// Returns the next page in an order, and whether there are more nodes. Moves the cursor to the end of the page.
+    /// Returns the next page in an order and whether more nodes follow it. Moves the cursor to the end of the page.
     pub(crate) fn ordered(
         &self,
         prepared: &RawPrepared,
@@ -354,26 +355,26 @@ impl RawPass {
         let by = checked_name(order.name())?;
         let (descending, mut more) = (u32::from(order.is_descending()), 0);
         let nodes = some(self.next()?, most, |nodes, room, count| {
-            // SAFETY: as the module says; the name and the cursor outlive the call.
+            // SAFETY: see the top of this module; the name and the cursor outlive the call.
             unsafe { sys::bes_ordered(pass, prepared, &by, descending, cursor, nodes, room, count, &mut more) }
         })?;
         Ok((nodes, more != 0))
     }
 
-    /// Returns the first nodes that a query finds, starting at a number.
+    /// Returns the first nodes that a query finds from a given number on.
     pub(crate) fn first(&self, prepared: &RawPrepared, from: u64, most: usize) -> Answer<Vec<u64>> {
         let (pass, prepared) = (self.handle.get()?, prepared.0.get()?);
         some(self.next()?, most, |nodes, room, count| {
-            // SAFETY: as the module says.
+            // SAFETY: see the top of this module.
             unsafe { sys::bes_first(pass, prepared, from, nodes, room, count) }
         })
     }
 
-    /// Returns any nodes that a query finds.
+    /// Returns arbitrary nodes that a query finds.
     pub(crate) fn any(&self, prepared: &RawPrepared, most: usize) -> Answer<Vec<u64>> {
         let (pass, prepared) = (self.handle.get()?, prepared.0.get()?);
         some(self.next()?, most, |nodes, room, count| {
-            // SAFETY: as the module says.
+            // SAFETY: see the top of this module.
             unsafe { sys::bes_any(pass, prepared, nodes, room, count) }
         })
     }
@@ -393,12 +394,12 @@ impl RawPass {
     ) -> RawUpdates {
         let prepared = prepared.0.get()?;
         let mut updates = bes_updates::default();
-        // SAFETY: as the module says.
+        // SAFETY: see the top of this module.
         check(unsafe { call(self.handle.get()?, prepared, &mut updates) }, 0)?;
         let rooms = (updates.created as usize, updates.removed as usize);
         let mut created = Vec::with_capacity(rooms.0);
         let mut removed = Vec::with_capacity(rooms.1);
-        // SAFETY: as the module says; the buffers hold as many nodes as the refresh counted, and all are written.
+        // SAFETY: see the top of this module; the buffers hold as many nodes as the refresh counted, and all are written.
         unsafe {
             let code = sys::bes_changes(prepared, created.as_mut_ptr(), rooms.0, removed.as_mut_ptr(), rooms.1);
             check(code, 0)?;
@@ -411,16 +412,16 @@ impl RawPass {
     pub(crate) fn explain(&self, text: &str) -> Answer<Vec<u8>> {
         let pass = self.handle.get()?;
         whole(256, |bytes, room, count| {
-            // SAFETY: as the module says.
+            // SAFETY: see the top of this module.
             unsafe { sys::bes_explain(pass, text.as_ptr(), text.len(), bytes, room, count) }
         })
     }
 
-    /// Returns up to `room` nodes, starting at a number.
+    /// Returns up to `room` nodes from a given number on.
     pub(crate) fn nodes(&self, from: u64, room: usize) -> Answer<Vec<u64>> {
         let mut nodes = Vec::with_capacity(room);
         let mut count = 0;
-        // SAFETY: as the module says; the count is at most the capacity.
+        // SAFETY: see the top of this module; the count is at most the capacity.
         unsafe {
             let code = sys::bes_nodes(self.handle.get()?, from, nodes.as_mut_ptr(), room, &mut count);
             check(code, count)?;
@@ -429,21 +430,21 @@ impl RawPass {
         Ok(nodes)
     }
 
-    /// Returns an attribute, and puts its bytes into `bytes`.
+    /// Returns an attribute, and stores its bytes in `bytes`.
     pub(crate) fn get(&self, node: u64, name: &str, bytes: &mut [u8; 255]) -> Answer<bes_attribute> {
         let pass = self.handle.get()?;
         attribute(bytes, |attribute, bytes, room| {
-            // SAFETY: as the module says.
+            // SAFETY: see the top of this module.
             unsafe { sys::bes_get(pass, node, name.as_ptr(), name.len(), attribute, bytes, room) }
         })
     }
 
-    /// Returns the cells of all nodes for all names, node by node, and the bytes that the cells refer to.
+    /// Returns the cells for all nodes and names, node by node, and the bytes that they refer to.
     pub(crate) fn columns(&self, nodes: &[u64], names: &[sys::bes_name]) -> Answer<(Vec<sys::bes_cell>, Vec<u8>)> {
         let pass = self.handle.get()?;
         let mut cells = vec![sys::bes_cell::default(); nodes.len().saturating_mul(names.len())];
         let bytes = whole(32 * cells.len(), |bytes, room, count| {
-            // SAFETY: as the module says.
+            // SAFETY: see the top of this module.
             unsafe {
                 sys::bes_columns(
                     pass,
@@ -465,7 +466,7 @@ impl RawPass {
     pub(crate) fn attributes(&self, node: u64) -> Answer<List> {
         let pass = self.handle.get()?;
         listed((16, 1024), |counts, operations, room, bytes, bytes_room| {
-            // SAFETY: as the module says.
+            // SAFETY: see the top of this module.
             let code = unsafe { sys::bes_attributes(pass, node, counts, operations, room, bytes, bytes_room) };
             check(code, 0)
         })
@@ -474,7 +475,7 @@ impl RawPass {
     pub(crate) fn indices(&self) -> Answer<List> {
         let pass = self.handle.get()?;
         listed((32, 32 * 63), |counts, operations, room, bytes, bytes_room| {
-            // SAFETY: as the module says.
+            // SAFETY: see the top of this module.
             let code = unsafe { sys::bes_indices(pass, counts, operations, room, bytes, bytes_room) };
             check(code, 0)
         })
@@ -484,7 +485,7 @@ impl RawPass {
     pub(crate) fn state(&self, place: &RawPlace) -> Answer<List> {
         let (pass, place) = (self.handle.get()?, place.0.get()?);
         listed((OPERATIONS, BYTES), |counts, operations, room, bytes, bytes_room| {
-            // SAFETY: as the module says.
+            // SAFETY: see the top of this module.
             let code = unsafe { sys::bes_state(pass, place, counts, operations, room, bytes, bytes_room) };
             check(code, 0)
         })
@@ -493,7 +494,7 @@ impl RawPass {
     pub(crate) fn journal(&self) -> Answer<Vec<u8>> {
         let pass = self.handle.get()?;
         whole(1 << 16, |bytes, room, count| {
-            // SAFETY: as the module says.
+            // SAFETY: see the top of this module.
             unsafe { sys::bes_journal(pass, bytes, room, count) }
         })
     }
@@ -502,17 +503,17 @@ impl RawPass {
     pub(crate) fn finish(&self) -> Answer<Vec<u8>> {
         let pass = self.handle.get()?;
         whole(1 << 16, |bytes, room, count| {
-            // SAFETY: as the module says.
+            // SAFETY: see the top of this module.
             unsafe { sys::bes_finish(pass, bytes, room, count) }
         })
     }
 
-    /// Returns the entry with this index, and the pass that wrote it. The entry has no operations if the journal is shorter.
+    /// Returns the entry at this index and the pass that wrote it. If the journal is shorter, the entry has no operations.
     pub(crate) fn entry(&self, from: u64) -> Answer<(u64, List)> {
         let pass = self.handle.get()?;
         let (mut by, mut number) = (0, 0);
         let list = listed((OPERATIONS, BYTES), |counts, operations, room, bytes, bytes_room| {
-            // SAFETY: as the module says.
+            // SAFETY: see the top of this module.
             let code = unsafe {
                 sys::bes_journal_from(
                     pass,
@@ -534,7 +535,7 @@ impl RawPass {
     pub(crate) fn status(&self) -> Answer<sys::bes_usage> {
         let mut usage = sys::bes_usage::default();
         let mut number = 0;
-        // SAFETY: as the module says.
+        // SAFETY: see the top of this module.
         let code = unsafe { sys::bes_status(self.handle.get()?, &mut usage, &mut number) };
         check(code, number).map(|()| usage)
     }
@@ -548,7 +549,7 @@ impl RawPrepared {
     pub(crate) fn parse(text: &str) -> Answer<Self> {
         let prepared = Self(Handle::new());
         let mut place = 0;
-        // SAFETY: as the module says.
+        // SAFETY: see the top of this module.
         let code = unsafe { sys::bes_prepare(text.as_ptr(), text.len(), prepared.0.get()?, &mut place) };
         check(code, place).map(|()| prepared)
     }
@@ -556,7 +557,7 @@ impl RawPrepared {
     pub(crate) fn build(items: &[sys::bes_item], bytes: &[u8]) -> Answer<Self> {
         let prepared = Self(Handle::new());
         let mut place = 0;
-        // SAFETY: as the module says.
+        // SAFETY: see the top of this module.
         let code = unsafe {
             sys::bes_prepare_items(
                 items.as_ptr(),
@@ -573,7 +574,7 @@ impl RawPrepared {
     pub(crate) fn text(&self) -> Answer<Vec<u8>> {
         let prepared = self.0.get()?;
         whole(256, |bytes, room, count| {
-            // SAFETY: as the module says.
+            // SAFETY: see the top of this module.
             unsafe { sys::bes_prepared_text(prepared, bytes, room, count) }
         })
     }
@@ -583,7 +584,7 @@ impl RawPrepared {
 #[derive(Debug)]
 pub(crate) struct RawDraft(Handle<bes_draft>);
 
-/// An operation, in parts.
+/// The parts of an operation.
 pub(crate) struct Parts<'a> {
     pub(crate) kind: u32,
     pub(crate) node: u64,
@@ -596,12 +597,12 @@ pub(crate) struct Parts<'a> {
 impl RawDraft {
     /// Accepts values of any kind from now on.
     pub(crate) fn any_kind(&self) -> Answer<()> {
-        // SAFETY: as the module says.
+        // SAFETY: see the top of this module.
         check(unsafe { sys::bes_change_any_kind(self.0.get()?) }, 0)
     }
 
-    /// Adds an operation. Returns the node that it makes, or 0. If an index doesn't take the value, the error comes with the type code of
-    /// that index.
+    /// Adds an operation. Returns the node that it creates, or 0. If the value's kind differs from that of its index, the error comes with
+    /// the index's type code.
     pub(crate) fn add(&self, parts: &Parts<'_>) -> Answer<u64> {
         let (mut short, long);
         let (name, value) = (parts.name.as_bytes(), parts.value);
@@ -626,25 +627,25 @@ impl RawDraft {
             value_length: length_of(value),
         };
         let mut made = 0;
-        // SAFETY: as the module says; the operation and the bytes outlive the call.
+        // SAFETY: see the top of this module; the operation and the bytes outlive the call.
         let code = unsafe { sys::bes_change_add(self.0.get()?, &operation, bytes.as_ptr(), bytes.len(), &mut made) };
         check(code, made).map(|()| made)
     }
 }
 
-/// Returns a length in the form that the library takes. The library refuses anything longer.
+/// Converts a length to the type that the library takes. The library refuses anything longer.
 fn length_of(bytes: &[u8]) -> u32 {
     u32::try_from(bytes.len()).unwrap_or(u32::MAX)
 }
 
-/// What a pass has seen.
+/// A record of what a pass has seen.
 #[derive(Debug)]
 pub(crate) struct RawWitness {
     handle: Handle<bes_witness>,
     store: u64,
 }
 
-/// A position in the operations that rebuild a snapshot.
+/// A position in the list of operations that rebuild a snapshot.
 #[derive(Debug)]
 pub(crate) struct RawPlace(Handle<bes_place>);
 
@@ -671,9 +672,9 @@ pub(crate) fn of_cursor(order: &Order, check: u32, raw: &bes_cursor) -> Cursor {
     Cursor::of_key(order.clone(), check, Kind::from_code(raw.kind), key)
 }
 
-/// Returns the version of the running library, like `BES_VERSION_NUMBER` in its header.
+/// Returns the version of the running library, in the form of `BES_VERSION_NUMBER` in its header.
 pub(crate) fn version() -> u32 {
-    // SAFETY: the call takes nothing.
+    // SAFETY: the call takes no arguments.
     unsafe { sys::bes_version() }
 }
 

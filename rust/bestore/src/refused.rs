@@ -1,10 +1,10 @@
-//! Turns the library's refusals into errors with details.
+//! Conversion of the library's errors to errors with details.
 
 use crate::raw::{comparisons, Refused, FORKED};
 use crate::{CursorFault, Error, Kind, QueryError, QueryFault};
 use bestore_sys as sys;
 
-/// Returns the error for an order by a name that has no index. `indices` are the indices that exist.
+/// Returns the error for ordering by a name that has no index. `indices` are the existing indices.
 pub(crate) fn no_order(name: &str, indices: Vec<(String, Kind)>) -> Error {
     Error::NoOrder {
         name: name.into(),
@@ -24,7 +24,7 @@ pub(crate) fn of_query(refused: Refused, text: impl FnOnce() -> String) -> Error
     }
 }
 
-/// Returns the same error without its offset. For errors whose number isn't a byte offset in the text.
+/// Returns the same error without its offset, for errors whose number isn't a byte offset in the text.
 pub(crate) fn without_offset(error: Error) -> Error {
     match error {
         Error::Query(error) => Error::Query(QueryError::new(error.text(), error.fault(), None)),
@@ -32,7 +32,7 @@ pub(crate) fn without_offset(error: Error) -> Error {
     }
 }
 
-/// Returns the same error. If an index is missing, adds the first one that the query lacks.
+/// Returns the same error. If the query lacks an index, adds the first one that is missing.
 pub(crate) fn with_missing(error: Error, has_index: impl Fn(&str) -> bool) -> Error {
     match error {
         Error::Query(error) if error.fault() == QueryFault::NotCovered => {
@@ -46,14 +46,14 @@ pub(crate) fn with_missing(error: Error, has_index: impl Fn(&str) -> bool) -> Er
     }
 }
 
-/// Returns the first name in a query that has no index, and its position.
+/// Returns the first name in a query that has no index, and its offset.
 fn first_missing(query: &str, has_index: impl Fn(&str) -> bool) -> Option<(String, usize)> {
     let found = comparisons(query).ok()?;
     let mut names = found.list.iter().map(|one| (found.name(one), one.at as usize));
     names.find(|(name, _)| !has_index(name))
 }
 
-/// Returns the error for a write of `count` operations, on a journal of the expected length if one was given.
+/// Returns the error for a write of `count` operations, with the expected length of the journal if one was given.
 pub(crate) fn of_write(refused: Refused, count: usize, expected: Option<u64>) -> Error {
     let operation = Some(refused.carried);
     match (refused.code, expected) {
@@ -121,7 +121,7 @@ mod tests {
                 _ => of_write(refused(*code, 7), 65, Some(6)),
             };
             assert_eq!((error.code(), error.class()), (Some(*code), *class), "{what}");
-            // The error for a cursor says why the cursor doesn't fit.
+            // A cursor error says why the cursor doesn't fit.
             assert!(
                 *code == sys::BES_BAD_CURSOR || error.to_string().starts_with(what),
                 "{error}"

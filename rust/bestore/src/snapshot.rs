@@ -7,9 +7,9 @@ use bestore_sys as sys;
 use bestore_types::raw::{List, RawOperation};
 use std::collections::BTreeMap;
 
-/// A pinned snapshot: the store after the first [`number`](Self::number) entries of its journal, whatever is written afterwards.
+/// A pinned snapshot: the store as it was after the first [`number`](Self::number) entries of its journal, whatever has been written since.
 ///
-/// Dropping the snapshot unpins it. Until then its pages can't be reused, so drop it soon.
+/// Dropping the snapshot unpins it. Until then its pages can't be reused, so drop it as soon as you can.
 #[derive(Debug)]
 pub struct Snapshot<'a> {
     pass: &'a mut Pass,
@@ -23,7 +23,7 @@ impl<'a> Snapshot<'a> {
         }
         pass.follow()?;
         let number = match pass.raw().pin() {
-            // The last snapshot was leaked by `mem::forget`, since nothing else can have borrowed the pass.
+            // The last snapshot was leaked with `mem::forget`; nothing else could have let go of the borrowed pass.
             Err(refused) if refused.code == sys::BES_PINNED => {
                 pass.raw().unpin()?;
                 pass.raw().pin()?
@@ -76,7 +76,7 @@ impl<'a> Snapshot<'a> {
         answer.map_err(|refused| self.query_error(refused, || prepared.text_or_empty()))
     }
 
-    /// Returns how many nodes the query finds. It costs as much as the query, except for the list.
+    /// Returns how many nodes the query finds. This costs as much as running the query, except for the list.
     ///
     /// # Errors
     /// The same as [`query`](Self::query).
@@ -94,7 +94,7 @@ impl<'a> Snapshot<'a> {
         answer.map_err(|refused| self.query_error(refused, || prepared.text_or_empty()))
     }
 
-    /// Returns how many pairs of a value and a node the index with this name has. It takes the time to read the whole index.
+    /// Returns how many entries the index of this name has, each a value and a node. This reads the whole index.
     ///
     /// # Errors
     /// [`Error::NoIndex`]; otherwise the same as [`query`](Self::query).
@@ -109,7 +109,7 @@ impl<'a> Snapshot<'a> {
         found.map(|(_, kind)| kind).ok_or(Error::NoIndex)
     }
 
-    /// Returns the comparisons in a query that are never true in a store with these indices, such as `size>1.5`.
+    /// Returns the comparisons in a query that are never true given this snapshot's indices, such as `size>1.5`.
     ///
     /// # Errors
     /// The same as [`hints`](crate::hints()); [`Error::Forked`].
@@ -118,7 +118,7 @@ impl<'a> Snapshot<'a> {
         hints(text, |name| indices.get(name).copied())
     }
 
-    /// Returns the nodes that have an attribute with this name and kind but aren't in the index with this name.
+    /// Returns the nodes that have an attribute of this name and kind but aren't in the index of this name.
     pub(crate) fn not_indexed(&self, name: &str, kind: Kind) -> Result<Vec<u64>> {
         let held = self.query_prepared(&attribute(name).any(kind).prepare()?)?;
         let mut lacking = Vec::new();
@@ -131,7 +131,7 @@ impl<'a> Snapshot<'a> {
         Ok(lacking)
     }
 
-    /// Returns the error for a query, with the first missing index.
+    /// Returns a query's error, with the first missing index.
     pub(crate) fn query_error(&self, refused: Refused, text: impl FnOnce() -> String) -> Error {
         let error = of_query(refused, text);
         if refused.code != sys::BES_NOT_COVERED {
@@ -143,7 +143,7 @@ impl<'a> Snapshot<'a> {
         }
     }
 
-    /// Returns the indices chosen for the query, as comparisons joined by ` || `, and the cost, such as `"size"<"0" score 3`.
+    /// Returns the indices chosen for the query, as comparisons joined by ` || `, and its cost, such as `"size"<"0" score 3`.
     ///
     /// # Errors
     /// The same as [`query`](Self::query).
@@ -153,7 +153,7 @@ impl<'a> Snapshot<'a> {
         Ok(String::from_utf8_lossy(&bytes).into_owned())
     }
 
-    /// Returns all nodes in ascending order, whatever attributes they have.
+    /// Returns all nodes in ascending order, whether or not they have attributes.
     pub fn nodes(&self) -> Nodes<'_> {
         self.nodes_from(0)
     }
@@ -175,7 +175,7 @@ impl<'a> Snapshot<'a> {
         Ok(self.pass.raw().nodes(node, 1)?.first() == Some(&node))
     }
 
-    /// Returns the number that the next node will have, if it is made on this snapshot.
+    /// Returns the number that the next node will have if it is created on this snapshot.
     ///
     /// # Errors
     /// [`Error::Forked`].
@@ -201,9 +201,9 @@ impl<'a> Snapshot<'a> {
         Ok(self.columns(nodes, &[name])?.pop().unwrap_or_default())
     }
 
-    /// Reads several attributes of many nodes. For each name it returns a list with each node's value, or `None` if the node has no such
-    /// attribute. If a node's attributes with these names are next to each other, it takes one search in a tree for that node, and less
-    /// time than a [`Snapshot::get`] for each.
+    /// Reads several attributes of many nodes. For each name, returns a list with each node's value, or `None` if the node has no such
+    /// attribute. If a node's attributes with these names are adjacent, the node takes one tree search, which is faster than a
+    /// [`Snapshot::get`] for each.
     ///
     /// # Errors
     /// [`Error::NameLength`], [`Error::HasNul`], [`Error::BadCount`] if there are more than 2^32 values, [`Error::Forked`].
@@ -224,7 +224,7 @@ impl<'a> Snapshot<'a> {
         Ok(columns)
     }
 
-    /// Returns the attributes of a node, sorted by name.
+    /// Returns a node's attributes, sorted by name.
     ///
     /// # Errors
     /// [`Error::NoNode`], [`Error::OutOfMemory`], [`Error::Forked`].
@@ -244,8 +244,8 @@ impl<'a> Snapshot<'a> {
         }))
     }
 
-    /// Returns the batches that rebuild the snapshot on an empty store: its next node number, its nodes with their attributes, and its
-    /// indices with their contents.
+    /// Returns the batches that rebuild the snapshot in an empty store: its next node number, its nodes with their attributes, and its
+    /// indices with their entries.
     ///
     /// ```
     /// # use bestore::{Limits, Store};
@@ -274,7 +274,7 @@ impl Drop for Snapshot<'_> {
     }
 }
 
-/// Returns the value of an attribute that was read, if there is one. Its bytes are at the start of `bytes`.
+/// Returns the value of an attribute that has been read, if any. Its bytes are at the start of `bytes`.
 pub(crate) fn value_read(answer: Answer<sys::bes_attribute>, bytes: &[u8; 255]) -> Result<Option<Value>> {
     match answer {
         Ok(attribute) => {
@@ -294,7 +294,7 @@ fn named<T>(list: &List, read: impl Fn(&RawOperation) -> T) -> Vec<(String, T)> 
         .collect()
 }
 
-/// Returns the value in a cell. Its bytes are a part of `bytes`.
+/// Returns the value in a cell. Its bytes are part of `bytes`.
 fn value_of(cell: &sys::bes_cell, bytes: &[u8]) -> Option<Value> {
     if cell.error != sys::BES_OK {
         return None;
@@ -361,7 +361,7 @@ impl Iterator for State<'_> {
         }
         match self.snapshot.pass.raw().state(&self.place) {
             Ok(mut list) if !list.operations.is_empty() => {
-                // The list has the capacity for the longest batch, and many lists are kept at the same time.
+                // The list has capacity for the longest batch, and many lists may be kept at the same time.
                 list.operations.shrink_to_fit();
                 list.bytes.shrink_to_fit();
                 Some(Ok(list.into()))

@@ -7,23 +7,23 @@ use bestore_types::MOST_PASSES;
 use std::ops::{Deref, DerefMut};
 use std::sync::{Arc, Mutex, MutexGuard, PoisonError};
 
-/// A store in memory. Clones share the same store; each thread can make its pass from a clone.
+/// An in-memory store. Clones share the same store; each thread can take its pass from a clone.
 ///
-/// The memory of the store is freed with the last clone and the last pass.
+/// The store's memory is freed when the last clone and the last pass have been dropped.
 #[derive(Clone, Debug)]
 pub struct Store(Arc<Shared>);
 
-/// What the clones and the passes of a store share.
+/// The state that a store's clones and passes share.
 #[derive(Debug)]
 pub(crate) struct Shared {
     own: Mutex<Pass>,
     succession: Arc<Succession>,
-    /// Held by a task of the store itself.
+    /// Locked by an internal task of the store.
     task: Mutex<()>,
 }
 
 impl Shared {
-    /// The store's own pass, from which the others are made. Used only in the process that opened the store.
+    /// The store's own pass, from which all others are created. Used only in the process that opened the store.
     fn own(&self) -> MutexGuard<'_, Pass> {
         lock(&self.own)
     }
@@ -39,7 +39,7 @@ impl Shared {
     }
 }
 
-/// A pass for a task of the store itself: one of the passes meant for users, or the store's own pass if all of those are taken.
+/// A pass for an internal task of the store: one of those meant for users or, if all of them are taken, the store's own pass.
 pub(crate) struct Spare<'a> {
     taken: Taken<'a>,
     _task: MutexGuard<'a, ()>,
@@ -104,12 +104,12 @@ impl Store {
     /// Takes a pass. The pass goes back to the store when it is dropped.
     ///
     /// # Errors
-    /// [`Error::NoPass`] if as many passes are open as [`Limits::passes`] allows; [`Error::OutOfMemory`]; [`Error::Forked`].
+    /// [`Error::NoPass`] if all passes allowed by [`Limits::passes`] are open; [`Error::OutOfMemory`]; [`Error::Forked`].
     pub fn pass(&self) -> Result<Pass> {
         self.check()?;
         match self.another() {
             Err(Error::NoPass) => {
-                // A task of the store may have had the last pass. While the lock is held, no other task takes it.
+                // An internal task may have had the last pass. While this lock is held, no other task can take it.
                 let _no_task = lock(&self.0.task);
                 self.another()
             }
@@ -122,13 +122,13 @@ impl Store {
         Ok(Pass::new(self.0.seat()?, self.0.clone(), place))
     }
 
-    /// Closes the store with its last clone, when no pass is open, and returns the whole journal as text, one line per entry. For each pass
-    /// the journal has exactly the writes that its calls have committed, at their commit numbers. If the store was [carried
-    /// on](Self::carry_on), the text begins with the state.
+    /// Closes the store through its last clone, when no pass is open, and returns the whole journal as text, one line per entry. For each
+    /// pass, the journal has exactly the writes that calls on that pass have committed, at their commit numbers. If the store was [carried
+    /// on](Self::carry_on), the text begins with the state at that time.
     ///
     /// # Errors
-    /// [`Error::InUse`]: another clone or a pass is open. [`Error::OutOfMemory`], [`Error::Forked`]. The store is returned unchanged with
-    /// the error.
+    /// [`Error::InUse`] if another clone or a pass is open; [`Error::OutOfMemory`]; [`Error::Forked`]. The unchanged store is returned
+    /// along with the error.
     pub fn finish(self) -> std::result::Result<String, (Self, Error)> {
         let Shared { own, succession, task } = match Arc::try_unwrap(self.0) {
             Ok(shared) => shared,
@@ -144,12 +144,12 @@ impl Store {
         }
     }
 
-    /// Frees the memory of the journal so far, which would otherwise grow forever. It makes another store of the library from the current
-    /// snapshot, adds the writes made meanwhile, and continues there. At the end, writers wait for a moment. Pinned snapshots don't change;
-    /// commit numbers and node numbers continue, and [`Pass::journal_from`] has the entries since then.
+    /// Frees the memory of the journal so far, which would otherwise grow forever. It copies the current snapshot into a new store of the
+    /// underlying library, adds the writes made in the meantime, and switches to it. During the switch, writers wait for a moment. Pinned
+    /// snapshots don't change, commit numbers and node numbers continue, and [`Pass::journal_from`] returns the entries since then.
     ///
-    /// It takes the memory of all pages once more, and the time to [copy](Self::copy_state) and write the state. The earlier memory is
-    /// freed once each pass has called [`Pass::pin`] or [`Pass::follow`].
+    /// This needs memory for all pages a second time, and the time to [copy](Self::copy_state) and write the state. The old memory is freed
+    /// once every pass has called [`Pass::pin`] or [`Pass::follow`].
     ///
     /// ```
     /// # use bestore::{Limits, Store};
@@ -166,21 +166,22 @@ impl Store {
     /// ```
     ///
     /// # Errors
-    /// After an error, the store continues as before. [`Error::InUse`]: a pass hasn't given up what was carried on the last time.
+    /// After an error, the store continues as before. [`Error::InUse`]: a pass hasn't yet released the memory from the last time.
     /// [`Error::OutOfMemory`], [`Error::Full`], [`Error::Busy`], [`Error::Forked`].
     pub fn carry_on(&self) -> Result<()> {
         self.check()?;
         succession::carry_on(self)
     }
 
-    /// Returns whether it is time to carry on the store: the entries since [`carry_on`](Self::carry_on), or since the store was opened,
-    /// take more than half the memory of its pages and 1 MiB. After a failed `carry_on`, the entries have to grow by as much again.
+    /// Returns whether it is time to carry on the store: whether the entries since [`carry_on`](Self::carry_on), or since the store was
+    /// opened, take more memory than half of the pages do, and more than 1 MiB. After a failed `carry_on`, the entries must grow by the
+    /// same amount again.
     #[must_use]
     pub fn is_due(&self) -> bool {
         self.0.succession.is_due()
     }
 
-    /// Makes the store [due](Self::is_due) once the entries from now on take about this many bytes.
+    /// Makes the store [due](Self::is_due) once its new entries take about this many bytes.
     pub fn set_due_after(&self, bytes: u64) {
         self.0.succession.set_due_after(bytes);
     }
@@ -191,8 +192,8 @@ impl Store {
         self.0.succession.generation()
     }
 
-    /// Copies the current snapshot for a slow reader, which then keeps no pages from writes. If a write finds no free page meanwhile, the
-    /// copy is started again a little later. After six such starts, writes wait until the copy is done.
+    /// Copies the current snapshot for a slow reader, so that the reader doesn't keep pages from writers. If a write finds no free page
+    /// while the copy is being made, the copy starts over a little later. After six such starts, writes wait until the copy is done.
     ///
     /// # Errors
     /// [`Error::OutOfMemory`], [`Error::Forked`].
@@ -200,7 +201,7 @@ impl Store {
         copying::copy(self)
     }
 
-    /// Returns whether a pass still holds what was carried on the last time.
+    /// Returns whether a pass still holds memory from before the last [`carry_on`](Self::carry_on).
     #[must_use]
     pub fn is_read_before(&self) -> bool {
         self.0.succession.is_read_before()
@@ -215,13 +216,13 @@ impl Store {
         &self.0.succession
     }
 
-    /// Returns the store's own pass, from which the others are made.
+    /// Returns the store's own pass, from which all others are created.
     pub(crate) fn own(&self) -> Result<MutexGuard<'_, Pass>> {
         self.check()?;
         Ok(self.0.own())
     }
 
-    /// Returns a pass for a task of the store itself. It waits until another task is done.
+    /// Returns a pass for an internal task of the store. If another task is running, it first waits for that one.
     pub(crate) fn spare(&self) -> Result<Spare<'_>> {
         self.check()?;
         let task = lock(&self.0.task);

@@ -1,9 +1,9 @@
-//! How a store is carried on in another store of the library, which frees the memory of its journal.
+//! Carrying on a store in another store of the library, which frees the memory of its journal.
 //!
-//! The library keeps a store's whole journal. So a second store of the library is made from a snapshot and the entries since then, and
+//! The library keeps a store's whole journal. So a second store of the library is built from a snapshot and the entries since then, and
 //! replaces the first: one *generation* follows another. Each pass takes a seat in the new generation when it next writes or pins. A pass
-//! that reads a snapshot keeps it, and the memory of the first store is freed with the last seat in it. Commit numbers continue: each
-//! generation knows what to add to the numbers of its store of the library.
+//! that is reading a snapshot keeps it, and the first store's memory is freed with the last seat in it. Commit numbers continue: each
+//! generation knows what to add to the numbers that its own store of the library uses.
 
 use crate::raw::{Answer, Birthplace, RawPass, Refused};
 use crate::store::Store;
@@ -12,37 +12,38 @@ use bestore_sys as sys;
 use std::sync::atomic::{AtomicU64, Ordering};
 use std::sync::{Arc, Mutex, MutexGuard, PoisonError, RwLock, RwLockReadGuard, RwLockWriteGuard, Weak};
 
-/// How many bytes the entries may take by default: half as many as all pages, and in a small store this many.
+/// How many bytes the entries may take by default: half the size of all pages, but at least `LEAST`.
 const FOR_PAGE: u64 = 2048;
 const LEAST: u64 = 1 << 20;
 
-/// About how many bytes a journal entry takes in addition to its names and texts: per entry, and per operation.
+/// About how many bytes a journal entry takes in addition to its names and values: per entry, and per operation.
 const ENTRY: usize = 8;
 const OPERATION: usize = 8;
 
-/// If no more entries than this are left, they are repeated while writers wait, unless the writers are as fast as the repeating.
+/// Once no more entries than this are left to replay, they are replayed while writers wait. That also happens earlier if writers are as
+/// fast as the replay.
 const FEW: u64 = 256;
 
-/// One of the stores of the library that have held the store's contents.
+/// One of the library's stores that have successively held the store's contents.
 #[derive(Debug)]
 pub(crate) struct Generation {
     number: u64,
-    /// What to add to a commit number of the library's store. It may be negative.
+    /// What to add to a commit number in the library's store. It may be negative.
     shift: u64,
-    /// The commit number of the state that the generation began with. Its journal has the entries after that number.
+    /// The commit number of the state with which the generation began. Its journal has the entries after that number.
     state: u64,
-    /// The commit number from which this generation has replaced the one before.
+    /// The commit number at which this generation replaced the one before.
     begin: u64,
 }
 
 impl Generation {
-    /// Returns the commit number for this number of the library's store.
+    /// Returns the commit number for this number in the library's store.
     fn outside(&self, number: u64) -> u64 {
         number.wrapping_add(self.shift)
     }
 
-    /// Returns the number of the library's store for this commit number. If the library's store never had such a number, the result is
-    /// greater than any that it has.
+    /// Returns the number in the library's store for this commit number. If the library's store has never had such a number, the result is
+    /// greater than any of its numbers.
     fn within(&self, commit: u64) -> u64 {
         match commit >= self.state {
             true => commit.wrapping_sub(self.shift),
@@ -59,7 +60,7 @@ pub(crate) struct Seat {
 }
 
 impl Seat {
-    /// Returns the library's pass that has opened a store.
+    /// Opens a store, and returns the library's pass that opened it.
     pub(crate) fn open(limits: Limits) -> Result<Self> {
         let generation = Generation {
             number: 0,
@@ -84,27 +85,27 @@ impl Seat {
         &self.raw
     }
 
-    /// Returns the commit number for this number of the library's store.
+    /// Returns the commit number for this number in the library's store.
     pub(crate) fn outside(&self, number: u64) -> u64 {
         self.generation.outside(number)
     }
 
-    /// Returns the number of the library's store for this commit number.
+    /// Returns the number in the library's store for this commit number.
     pub(crate) fn within(&self, commit: u64) -> u64 {
         self.generation.within(commit)
     }
 
-    /// Returns the commit number from which the journal has entries.
+    /// Returns the commit number after which the journal has entries.
     pub(crate) fn state(&self) -> u64 {
         self.generation.state
     }
 
-    /// Returns the number of its generation.
+    /// Returns its generation's number.
     pub(crate) fn generation(&self) -> u64 {
         self.generation.number
     }
 
-    /// Returns the commit number up to which a pass has seen all entries when it takes this seat.
+    /// Returns the commit number up to which a pass has seen every entry when it takes this seat.
     pub(crate) fn begin(&self) -> u64 {
         self.generation.begin
     }
@@ -121,29 +122,29 @@ impl Seat {
     }
 }
 
-/// What all passes of a store know about its generations.
+/// What all of a store's passes know about its generations.
 #[derive(Debug)]
 pub(crate) struct Succession {
     pub(crate) limits: Limits,
     birthplace: Birthplace,
     /// The number of the newest generation.
     newest: AtomicU64,
-    /// Locked for reading by each write in memory, and for writing while no write may be made.
+    /// Locked for reading by each write in memory, and for writing while no write may take place.
     gate: RwLock<()>,
     /// How many writes found no free page.
     full_writes: AtomicU64,
-    /// About how many bytes the journal of the newest generation takes, and at how many bytes the next generation is due.
+    /// About how many bytes the newest generation's journal takes, and the number of bytes at which the next generation is due.
     journal_bytes: AtomicU64,
     due_bytes: AtomicU64,
-    /// After how many bytes of entries the next generation is due.
+    /// The number of bytes of entries after which the next generation is due.
     due_after: AtomicU64,
-    /// The generation before the newest one. Whoever carries on the store holds it.
+    /// The generation before the newest one. It is locked while the store is being carried on.
     before: Mutex<Weak<Generation>>,
     /// How many passes are open.
     passes: AtomicU64,
 }
 
-/// A pass's place among the passes that a store can have.
+/// A pass's place among those that a store can have.
 #[derive(Debug)]
 pub(crate) struct Place(Arc<Succession>);
 
@@ -174,7 +175,7 @@ impl Succession {
         })
     }
 
-    /// Takes the place of one more pass.
+    /// Takes a place for one more pass.
     pub(crate) fn place(self: &Arc<Self>) -> Result<Place> {
         let most = self.limits.passes;
         let take = |passes| (passes < most).then_some(passes + 1);
@@ -193,23 +194,23 @@ impl Succession {
         seat.generation() == self.generation()
     }
 
-    /// Refuses calls in a forked child of the process that opened the store.
+    /// Returns an error in a forked child of the process that opened the store.
     pub(crate) fn check(&self) -> Answer<()> {
         self.birthplace.check()
     }
 
-    /// Lets a write be made: while the guard is held, the newest generation stays the newest.
+    /// Admits a write: while the guard is held, the newest generation stays the newest.
     pub(crate) fn enter(&self) -> Answer<RwLockReadGuard<'_, ()>> {
         self.check()?;
         Ok(self.gate.read().unwrap_or_else(PoisonError::into_inner))
     }
 
-    /// Waits for the writes in progress, and lets no other write begin while the guard is held.
+    /// Waits for the writes in progress, and admits no other write while the guard is held.
     pub(crate) fn close(&self) -> RwLockWriteGuard<'_, ()> {
         self.gate.write().unwrap_or_else(PoisonError::into_inner)
     }
 
-    /// Returns whether writes are prevented from beginning now.
+    /// Returns whether new writes are currently kept waiting.
     #[cfg(test)]
     pub(crate) fn is_closed(&self) -> bool {
         self.gate.try_read().is_err()
@@ -227,14 +228,14 @@ impl Succession {
         }
     }
 
-    /// Records that a batch was written.
+    /// Records that a batch has been written.
     pub(crate) fn written(&self, batch: &Batch) {
         let bytes = ENTRY + OPERATION * batch.len() + batch.raw().bytes.len();
         self.journal_bytes.fetch_add(bytes as u64, Ordering::Relaxed);
     }
 
-    /// Returns whether the entries since the newest generation began, or since a generation couldn't be made, take more bytes than they
-    /// should.
+    /// Returns whether the entries since the newest generation began, or since the last failed attempt to create one, take more bytes than
+    /// they should.
     pub(crate) fn is_due(&self) -> bool {
         self.journal_bytes.load(Ordering::Relaxed) > self.due_bytes.load(Ordering::Relaxed)
     }
@@ -258,7 +259,7 @@ impl Succession {
     }
 }
 
-/// Makes the next generation of the store, and replaces the newest one with it.
+/// Creates the store's next generation, and replaces the newest one with it.
 pub(crate) fn carry_on(store: &Store) -> Result<()> {
     let succession = store.succession();
     let mut before = lock(&succession.before);
@@ -276,10 +277,10 @@ pub(crate) fn carry_on(store: &Store) -> Result<()> {
     carried
 }
 
-/// A generation that is being made.
+/// A generation that is being built.
 struct Next {
     pass: Pass,
-    /// The commit number of the state that the generation begins with, and how many batches made that state.
+    /// The commit number of the state with which the generation begins, and the number of batches that rebuilt that state.
     state: u64,
     batches: u64,
     /// The commit number of the last entry that it has.
@@ -287,7 +288,7 @@ struct Next {
 }
 
 impl Next {
-    /// Makes a generation that has the current state of the store.
+    /// Builds a generation from the store's current state.
     fn make(store: &Store) -> Result<Self> {
         let StateCopy { number, batches, .. } = store.copy_state()?;
         let next = Self {
@@ -302,7 +303,7 @@ impl Next {
         Ok(next)
     }
 
-    /// Repeats the entries that the generation lacks, up to this many.
+    /// Replays the entries that the generation lacks, up to this many.
     fn repeat_entries(&mut self, pass: &Pass, most: u64) -> Result<()> {
         for entry in pass.journal_from(self.commit).take(most as usize) {
             let entry = entry?;
@@ -314,8 +315,8 @@ impl Next {
         Ok(())
     }
 
-    /// Repeats the entries that the generation lacks in rounds, until few are left, or until a round leaves no fewer than the one before.
-    /// `repeated` gets the number of entries in each round.
+    /// Replays the entries that the generation lacks, in rounds, until few are left or until a round leaves no fewer than the one before.
+    /// `repeated` is called with the number of entries in each round.
     fn catch_up(&mut self, pass: &Pass, mut repeated: impl FnMut(u64)) -> Result<()> {
         let mut before = u64::MAX;
         loop {
@@ -329,7 +330,7 @@ impl Next {
         }
     }
 
-    /// Repeats the entries that the generation lacks, the last ones while no write is made, and replaces the newest generation. Returns the
+    /// Replays the entries that the generation lacks, the last of them while writers wait, and replaces the newest generation. Returns the
     /// seat of the store's own pass in that generation.
     fn take_place(mut self, store: &Store) -> Result<Seat> {
         let succession = store.succession();
@@ -362,7 +363,7 @@ mod tests {
     use super::*;
     use std::thread;
 
-    /// Returns how many entries each round repeats, if there are `first` entries at the start and `more` come during a round.
+    /// Returns how many entries each round replays if there are `first` entries at the start and `more` arrive during a round.
     fn rounds(first: u64, more: impl Fn(u64) -> u64) -> Vec<u64> {
         let store = Store::open(Limits::default()).unwrap();
         let pass = store.pass().unwrap();
@@ -385,7 +386,7 @@ mod tests {
         assert_eq!(rounds(FEW + 1, |_| 0), [FEW + 1]);
         assert_eq!(rounds(4 * FEW, |repeated| repeated / 2), [4 * FEW, 2 * FEW]);
         assert_eq!(rounds(FEW + 3, |repeated| repeated - 1), [FEW + 3, FEW + 2, FEW + 1]);
-        // If writers are as fast as the repeating, or faster, it doesn't catch up.
+        // If writers are as fast as the replay or faster, it doesn't catch up.
         assert_eq!(rounds(2 * FEW, |repeated| repeated), [2 * FEW]);
         assert_eq!(rounds(2 * FEW, |repeated| 2 * repeated), [2 * FEW]);
     }
@@ -397,7 +398,7 @@ mod tests {
         let entered = succession.enter().unwrap();
         thread::scope(|scope| {
             let carrying = scope.spawn(|| store.carry_on().unwrap());
-            // Nobody else can enter once the gate is about to be closed.
+            // Once a thread is waiting to close the gate, no other can enter.
             while !succession.is_closed() {
                 assert!(!carrying.is_finished());
                 thread::yield_now();

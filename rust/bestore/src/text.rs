@@ -1,15 +1,16 @@
-//! Patterns that match a string in any case.
+//! Patterns that match a string regardless of case.
 
 use crate::raw;
 
-/// Returns a pattern that matches the text in upper and lower case, by Unicode's simple case folding. Every other character matches itself.
+/// Returns a pattern that matches the text in upper or lower case, under Unicode simple case folding. All other characters match
+/// themselves.
 ///
 /// ```
 /// assert_eq!(bestore::any_case("Ab*"), r"[aA][bB]\*");
 /// ```
 ///
 /// # Panics
-/// If memory runs out.
+/// This function panics if memory runs out.
 #[must_use]
 pub fn any_case(text: &str) -> String {
     let pattern = raw::any_case(text).expect("memory runs out");

@@ -1,4 +1,4 @@
-//! Tests of stores that are carried on, so that their journals' memory is freed.
+//! Tests of carrying on a store, which frees its journal's memory.
 
 mod common;
 
@@ -7,14 +7,14 @@ use common::{shared, sized, store, ten};
 use std::sync::atomic::{AtomicBool, Ordering};
 use std::thread;
 
-/// Makes a node of this size.
+/// Creates a node with this size.
 fn of_size(pass: &Pass, size: i64) -> u64 {
     let node = pass.new_node().unwrap();
     pass.set(node, "size", size).unwrap();
     node
 }
 
-/// Adds 1 to node 1's count with a change.
+/// Increments node 1's count with a change.
 fn add(pass: &mut Pass) {
     let added = pass.change(|change| {
         let count = change.get(1, "count")?.and_then(|value| value.as_i64()).unwrap_or(0);
@@ -23,7 +23,7 @@ fn add(pass: &mut Pass) {
     added.unwrap();
 }
 
-/// Reads node 1's count, and the number of the snapshot it was read in.
+/// Returns node 1's count, and the number of the snapshot in which it was read.
 fn count(pass: &mut Pass) -> (i64, u64) {
     let snapshot = pass.pin().unwrap();
     let count = snapshot.get(1, "count").unwrap().and_then(|value| value.as_i64());
@@ -59,7 +59,7 @@ fn a_pinned_snapshot_stays_and_its_pass_writes_ahead() {
     store.carry_on().unwrap();
     assert!(store.is_read_before());
     assert!(matches!(store.carry_on(), Err(Error::InUse)));
-    // Nothing was written in between.
+    // Nothing has been written in between.
     let number = snapshot.number();
     assert_eq!(
         snapshot
@@ -80,7 +80,7 @@ fn a_pinned_snapshot_stays_and_its_pass_writes_ahead() {
     );
     assert_eq!((store.generation(), snapshot.pass().generation()), (1, 0));
     drop(snapshot);
-    // A pass that has only written still uses the earlier store.
+    // A pass that has only written still uses the old store.
     assert_eq!(pass.pin().unwrap().get(1, "size").unwrap(), Some(7_i64.into()));
     assert!(store.is_read_before());
     assert!(other.follow().unwrap());
@@ -187,7 +187,7 @@ fn live_queries_and_witnesses_go_on() {
 fn there_are_as_many_passes_as_before() {
     let store = shared(2);
     let mut passes = vec![store.pass().unwrap(), store.pass().unwrap()];
-    // No pass is left for the task, so it uses the store's own.
+    // No pass is left for the task, so it uses the store's own pass.
     for _ in 0..3 {
         passes[0].new_node().unwrap();
         store.carry_on().unwrap();
@@ -204,7 +204,7 @@ fn there_are_as_many_passes_as_before() {
     assert_eq!(text.lines().count(), 2, "{text}");
 }
 
-/// Now and then the task has the only pass, and a caller that wants one waits for it.
+/// Now and then the task has the only pass, and a caller that needs one waits for it.
 #[test]
 fn a_pass_is_there_while_the_store_is_carried_on() {
     let store = shared(1);
@@ -245,7 +245,7 @@ fn it_is_due_after_some_entries() {
         assert_eq!(store.is_due(), is_due);
     }
     store.set_due_after(10_000);
-    // If a task fails, it isn't tried again soon.
+    // After a task has failed, it isn't retried soon.
     let snapshot = pass.pin().unwrap();
     store.carry_on().unwrap();
     while !store.is_due() {
@@ -254,7 +254,7 @@ fn it_is_due_after_some_entries() {
     assert!(matches!(store.carry_on(), Err(Error::InUse)));
 }
 
-/// Each write adds 1 to a count, so a snapshot's number determines the count.
+/// Each write increments a count, so a snapshot's number determines its count.
 #[test]
 fn writers_and_readers_go_on_while_it_is_carried_on() {
     const WRITERS: i64 = 4;
@@ -282,7 +282,7 @@ fn writers_and_readers_go_on_while_it_is_carried_on() {
             }
         });
         let carrier = scope.spawn(|| {
-            // Run at least once, even if the writers ended before this thread began.
+            // Run at least once, even if the writers finish before this thread starts.
             while store.generation() == 0 || !is_over.load(Ordering::Relaxed) {
                 match store.carry_on() {
                     Ok(()) => {}
@@ -292,7 +292,7 @@ fn writers_and_readers_go_on_while_it_is_carried_on() {
             }
         });
         let written: Vec<_> = writers.into_iter().map(|writer| writer.join()).collect();
-        // The other threads end too if a writer has failed.
+        // If a writer has failed, stop the other threads too.
         is_over.store(true, Ordering::Relaxed);
         written.into_iter().for_each(Result::unwrap);
         reader.join().unwrap();
@@ -301,7 +301,7 @@ fn writers_and_readers_go_on_while_it_is_carried_on() {
     assert_eq!(count(&mut pass), (WRITERS * WRITES, 1 + (WRITERS * WRITES) as u64));
 }
 
-/// Carries the store on as soon as nobody keeps the older one.
+/// Carries the store on as soon as the older one is no longer in use.
 fn carry_on(store: &Store) -> Result<(), Error> {
     loop {
         match store.carry_on() {
@@ -311,7 +311,7 @@ fn carry_on(store: &Store) -> Result<(), Error> {
     }
 }
 
-/// The writers always need a page that a kept snapshot would hold. None of their writes fails.
+/// The writers always need pages that a pinned snapshot would hold, and yet none of their writes fails.
 #[test]
 fn a_store_without_room_for_a_snapshot_is_carried_on() {
     let store = sized(96);

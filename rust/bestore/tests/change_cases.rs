@@ -1,4 +1,4 @@
-//! Runs the cases of tests/changes.txt, which specify what a change does in each language.
+//! Runs the cases in tests/changes.txt, which specify what a change does in every language.
 
 use bestore::{Change, Error, Kind, Limits, Pass, Result, Store, Value};
 use std::path::Path;
@@ -18,7 +18,7 @@ fn kind_named(name: &str) -> Kind {
     }
 }
 
-/// Decodes `LONG64` to a text of 64 bytes, and leaves any other word as it is.
+/// Expands `LONG64` to a string of 64 bytes, and returns any other word unchanged.
 fn text_of(word: &str) -> String {
     match word.strip_prefix("LONG") {
         Some(length) => "x".repeat(length.parse().unwrap()),
@@ -51,7 +51,7 @@ fn name_of(error: &Error) -> &'static str {
     found.unwrap().0.strip_prefix("BES_").unwrap()
 }
 
-/// Writes an operation through a pass.
+/// Writes one operation through a pass.
 fn write(pass: &Pass, words: &[&str]) {
     match words {
         ["new", node] => assert_eq!(pass.new_node().unwrap(), number(node)),
@@ -75,7 +75,7 @@ fn collect(change: &mut Change<'_>, words: &[&str]) -> Result<()> {
     Ok(())
 }
 
-/// Checks that an operation is refused, and that the change doesn't keep it.
+/// Checks that an operation is refused and isn't added to the change.
 fn refused(change: &mut Change<'_>, words: &[&str], expected: &[&str]) {
     let before = change.batch().clone();
     match (collect(change, words).unwrap_err(), expected) {
@@ -91,7 +91,7 @@ fn refused(change: &mut Change<'_>, words: &[&str], expected: &[&str]) {
     assert_eq!(*change.batch(), before);
 }
 
-/// Runs one line inside a change.
+/// Runs a line inside a change.
 fn step(change: &mut Change<'_>, other: &Pass, words: &[&str]) -> Result<()> {
     let mark = words.iter().position(|word| *word == "!");
     match (words, mark) {
@@ -116,7 +116,7 @@ fn step(change: &mut Change<'_>, other: &Pass, words: &[&str]) -> Result<()> {
     Ok(())
 }
 
-/// Runs the lines in a change, with one attempt.
+/// Runs the lines in one change, with a single attempt.
 fn change_by(pass: &mut Pass, other: &Pass, lines: &[Words<'_>], end: &[&str]) {
     pass.hold().unwrap(); // so that the function runs only once
     let ended = pass.change(|change| {

@@ -1,4 +1,4 @@
-//! Tests of kept files with changed or missing parts: each is refused, or has every acknowledged write.
+//! Tests of kept files with changed or missing parts: each file is either refused or has every acknowledged write.
 #![cfg(feature = "saved")]
 
 mod common;
@@ -11,19 +11,19 @@ use std::collections::BTreeMap;
 use std::fs;
 use std::path::PathBuf;
 
-/// How many entries a file has after its state.
+/// The number of entries after a file's state.
 const ENTRIES: u64 = 150;
 
-/// How many bytes are changed, each in its own copy of the file. `BESTORE_CHANGES` overrides it.
+/// How many bytes to change, each in its own copy of the file. `BESTORE_CHANGES` overrides this.
 const CHANGES: u64 = 300;
 
 impl Folder {
-    /// A file that belongs to that one.
+    /// A file that goes with the store's file.
     fn beside(&self, ending: &str) -> PathBuf {
         self.0.join(format!("test.bestore{ending}"))
     }
 
-    /// The contents of the files, by their suffixes.
+    /// The contents of the files, by suffix.
     fn image(&self) -> Image {
         let endings = ["", "-wal", "-last"].into_iter();
         let read = |ending: &'static str| Some((ending, fs::read(self.beside(ending)).ok()?));
@@ -44,7 +44,7 @@ impl Folder {
     }
 }
 
-/// The files of a store at one time.
+/// A store's files at one moment.
 #[derive(Clone, PartialEq, Eq)]
 struct Image(BTreeMap<&'static str, Vec<u8>>);
 
@@ -71,7 +71,7 @@ fn options() -> Options {
     options
 }
 
-/// Writes entries that make a node or change the last one.
+/// Writes entries that each create a node or change the last one.
 fn write(saved: &Saved, count: u64) {
     let pass = saved.pass().unwrap();
     for number in 0..count {
@@ -82,7 +82,7 @@ fn write(saved: &Saved, count: u64) {
     }
 }
 
-/// A file with this many entries, as `kill -9` would leave it.
+/// Files with this many entries, as `kill -9` would leave them.
 fn killed(name: &str, entries: u64) -> (Folder, Image) {
     let folder = Folder::in_memory(&format!("damaged-{name}"));
     let saved = folder.open().unwrap();
@@ -93,7 +93,7 @@ fn killed(name: &str, entries: u64) -> (Folder, Image) {
     (folder, image)
 }
 
-/// The whole content of the store.
+/// The store's entire contents.
 fn shown(saved: &Saved) -> Vec<u8> {
     let mut pass = saved.pass().unwrap();
     let snapshot = pass.pin().unwrap();
@@ -101,7 +101,7 @@ fn shown(saved: &Saved) -> Vec<u8> {
     batches.flatten().collect()
 }
 
-/// Reads a file without a state up to an entry. Returns how many entries the store has then.
+/// Reads a file that has no state up to an entry. Returns how many entries the store then has.
 fn read_until(folder: &Folder, entry: u64) -> saved::Result<u64> {
     let shelf = options().until(0, entry).load(folder.file())?;
     let pass = shelf.pass()?;
@@ -115,7 +115,7 @@ fn next_random(state: &mut u64, below: u64) -> u64 {
     (*state >> 33) % below
 }
 
-/// Checks a file with one changed byte. Returns the error if the file is refused.
+/// Checks a file in which one byte has been changed. Returns the error if the file is refused.
 fn check(folder: &Folder, whole: &[u8], what: &str) -> Option<&'static str> {
     let refused = match folder.open() {
         Ok(saved) => {
@@ -142,7 +142,7 @@ fn check(folder: &Folder, whole: &[u8], what: &str) -> Option<&'static str> {
     }
 }
 
-/// The files of a closed store, and those of the same store after it was reopened and killed.
+/// The files of a closed store, and those of the same store after it has been reopened and killed.
 fn images() -> (Folder, [Image; 2]) {
     let (folder, _) = killed("changed", ENTRIES);
     let closed = folder.image();
@@ -212,7 +212,7 @@ fn a_damaged_entry_is_named_and_the_part_before_it_can_be_read() {
         ),
         "{refused}"
     );
-    // These reads changed nothing in the file.
+    // These reads have changed nothing in the file.
     assert!(matches!(
         folder.refusal(),
         SavedError::Damaged {
@@ -254,8 +254,8 @@ fn each_part_of_a_row_is_checked() {
     }
 }
 
-/// Checks that the file can't be read up to this entry. `possible` is the range of the file's last entry; `said` is how the error
-/// ends.
+/// Checks that the file can't be read up to this entry. `possible` is the range of entries up to which the error says it can be read;
+/// `said` is the end of the error's message.
 fn check_not_within(folder: &Folder, entry: u64, possible: (u64, u64), said: &str) {
     let refused = read_until(folder, entry).unwrap_err();
     match &refused {
@@ -303,7 +303,7 @@ fn a_file_without_its_wal_is_refused_and_stays() {
     assert!(folder.image() == image);
     assert_eq!(read_until(&folder, last).unwrap(), last);
 
-    // Remove the remaining copy of the number.
+    // Remove the other copy of the number.
     fs::remove_file(folder.beside("-last")).unwrap();
     let saved = folder.open().unwrap();
     assert_eq!(saved.pass().unwrap().status().unwrap().entries, last);
@@ -320,7 +320,7 @@ fn another_file_in_the_place_of_one_that_was_killed_is_opened() {
     assert_eq!(saved.number_in_file(saved.pass().unwrap().status().unwrap().entries), 3);
 }
 
-/// Converts the file to the first format.
+/// Converts the file to the original format.
 fn remove_checksums(folder: &Folder) {
     for table in ["about", "state", "entry", "token"] {
         folder.sql(&format!("ALTER TABLE {table} DROP COLUMN checksum"));

@@ -1,12 +1,12 @@
-//! In a forked child, the parent's handles are dead. Only one test runs at a time, since a fork copies only one thread.
+//! In a forked child, the parent's handles are dead. The tests run one at a time, because a fork copies only one thread.
 
 mod common;
 
 use bestore::{Error, Limits, Live, Prepared, Store};
 
-/// Runs the closure in a child, and returns the child's exit status.
+/// Runs the closure in a forked child, and returns the child's exit status.
 fn in_a_child(closure: impl FnOnce() -> bool) -> i32 {
-    // SAFETY: the child only calls the closure, and leaves by `_exit`.
+    // SAFETY: the child only calls the closure, and exits with `_exit`.
     unsafe {
         let child = libc::fork();
         if child == 0 {

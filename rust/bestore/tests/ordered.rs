@@ -1,4 +1,4 @@
-//! Pages in an index's order agree with the whole answer, sorted and cut, in one store and in a shelf.
+//! Tests that pages in an index's order agree with the whole result, sorted and cut into pages, in one store and in a shelf.
 
 use bestore::{attribute, Cursor, CursorFault, Error, Kind, Limits, Live, Order, Page, Prepared, Result, Shelf};
 use bestore::{ShelfLive, ShelfPass, ShelfSnapshot, Store, Value};
@@ -23,7 +23,7 @@ const QUERIES: [&str; 8] = [
     "u64>=0",
 ];
 
-/// Pseudo-random numbers from a seed.
+/// A generator of pseudo-random numbers from a seed.
 struct Chance(u64);
 
 impl Chance {
@@ -49,7 +49,7 @@ impl Chance {
 fn shelf(volumes: u32) -> ShelfPass {
     let mut pass = Shelf::open(volumes, Limits::default()).unwrap().pass().unwrap();
     for volume in 0..volumes {
-        // The attribute is set before the index is made, so the index lacks it.
+        // The attribute is set before the index is created, so the index doesn't hold it.
         pass.change_in(volume, |change| {
             let node = change.new_node()?;
             change.set(node, "other", 1_i64).map(drop)
@@ -63,7 +63,7 @@ fn shelf(volumes: u32) -> ShelfPass {
     pass
 }
 
-/// Makes some writes: makes and removes nodes, and changes values.
+/// Performs random writes: creates and removes nodes, and changes values.
 fn write(pass: &mut ShelfPass, chance: &mut Chance, volumes: u64, count: usize) {
     for _ in 0..count {
         let volume = chance.below(volumes) as u32;
@@ -91,7 +91,7 @@ fn write(pass: &mut ShelfPass, chance: &mut Chance, volumes: u64, count: usize) 
     }
 }
 
-/// A sort key that orders values as Rust orders its own types.
+/// A sort key that orders values in the same way as Rust's own types.
 fn rank(value: &Value) -> (i128, Vec<u8>) {
     match value {
         Value::Uint64(number) => ((*number).into(), Vec::new()),
@@ -102,7 +102,7 @@ fn rank(value: &Value) -> (i128, Vec<u8>) {
     }
 }
 
-/// The whole answer in this order, each node with its value.
+/// The whole result in this order, each node with its value.
 fn plain(snapshot: &ShelfSnapshot<'_>, query: &Prepared, order: &Order, kind: Kind) -> Vec<(Value, u64)> {
     let pairs = attribute(order.name()).any(kind).prepare().unwrap();
     let indexed = snapshot.query_prepared(&pairs).unwrap();
@@ -118,7 +118,7 @@ fn plain(snapshot: &ShelfSnapshot<'_>, query: &Prepared, order: &Order, kind: Ki
     found
 }
 
-/// Cuts the page after a cursor out of the whole answer.
+/// Returns the page after a cursor, taken from the whole result.
 fn cut(all: &[(Value, u64)], after: Option<&Cursor>, is_descending: bool, most: usize) -> (Vec<u64>, bool) {
     let at = after.and_then(|after| Some((rank(after.value()?), after.node()?)));
     let is_after = |(value, node): &&(Value, u64)| match &at {
@@ -132,7 +132,7 @@ fn cut(all: &[(Value, u64)], after: Option<&Cursor>, is_descending: bool, most: 
     (page, more)
 }
 
-/// Reads all pages and writes in between. Compares each page with its snapshot's whole answer.
+/// Reads page after page, writing in between. Compares each page with its snapshot's whole result.
 fn page_on(pass: &mut ShelfPass, chance: &mut Chance, volumes: u64, query: &str, order: &Order, kind: Kind) {
     let prepared = Prepared::new(query).unwrap();
     let mut after: Option<Cursor> = None;
@@ -167,7 +167,7 @@ fn check_cursor(page: &Page, after: Option<&Cursor>, all: &[(Value, u64)]) {
     }
 }
 
-/// A shelf after this many writes, and the numbers that come next.
+/// A shelf after this many writes, with the generator for more.
 fn written(volumes: u32, seed: u64, count: usize) -> (ShelfPass, Chance) {
     let (mut pass, mut chance) = (shelf(volumes), Chance(seed));
     write(&mut pass, &mut chance, volumes.into(), count);
@@ -342,7 +342,7 @@ fn a_refresh_by_what_changed_returns_the_same() {
             changed.refresh_changed(&snapshot).unwrap()
         );
     }
-    // In a snapshot of another store, all nodes leave the answer.
+    // In a snapshot of another store, the result loses all nodes.
     let mut other = Store::open(Limits::default()).unwrap().pass().unwrap();
     other.make_index("i64", Kind::Int64).unwrap();
     let snapshot = other.pin().unwrap();
@@ -352,7 +352,7 @@ fn a_refresh_by_what_changed_returns_the_same() {
     );
 }
 
-/// The answer has at least 96 nodes, so a refresh reads the journal's entries while the other thread writes them.
+/// The result has at least 96 nodes, so a refresh reads the journal's entries while the other thread is writing them.
 #[test]
 fn a_refresh_by_what_changed_returns_the_same_while_another_thread_writes() {
     let store = Store::open(Limits::default()).unwrap();

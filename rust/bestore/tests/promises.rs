@@ -1,10 +1,10 @@
-//! Asserts three of the library's promises while threads write:
+//! Checks three of the library's promises while threads are writing:
 //!
-//! - a new pass sees what was written before it was made, if it joins the writer's witness;
-//! - a pinned pass reads one prefix of the journal;
-//! - everything that a pass wrote is in the journal that `finish` returns, at its commit number.
+//! - a new pass sees what was written before it was created, if it joins the writer's witness;
+//! - a pinned pass reads a single prefix of the journal;
+//! - everything that a pass has written is in the journal that `finish` returns, at its commit number.
 //!
-//! `BESTORE_ROUNDS` is how many stores are opened, checked for all three, and closed.
+//! `BESTORE_ROUNDS` is the number of stores to open, check for all three, and close.
 
 use bestore::{Batch, Error, Kind, Limits, Pass, Store, Written};
 use std::thread;
@@ -20,7 +20,7 @@ fn rounds() -> usize {
     rounds.map_or(50, |rounds| rounds.parse().unwrap())
 }
 
-/// Makes a node that holds the pass's number.
+/// Creates a node that contains the pass's number.
 fn write_node(pass: &mut Pass) -> u64 {
     loop {
         let snapshot = pass.pin().unwrap();
@@ -35,7 +35,7 @@ fn write_node(pass: &mut Pass) -> u64 {
     }
 }
 
-/// Reads one snapshot several times while others write. Entry 1 makes an index, and each later one makes a node.
+/// Reads one snapshot several times while others write. Entry 1 creates an index, and each later entry creates a node.
 fn read_one_prefix(pass: &mut Pass, least: u64) {
     let snapshot = pass.pin().unwrap();
     assert!(snapshot.number() >= least);
@@ -58,7 +58,7 @@ fn run(mut pass: Pass, made: u64) -> Writes {
     (pass.number().unwrap(), written)
 }
 
-/// Plays one store. Each pass is made after another write by the first one, while the earlier threads are already writing.
+/// Runs one round. Each pass is created after another write by the first one, while the earlier threads are already writing.
 fn play() {
     let limits = Limits {
         pages: 256,

@@ -321,7 +321,7 @@ fn queries_and_pairs_are_counted() {
         snapshot.query("size>=5 && [").unwrap_err().to_string()
     );
     assert!(matches!(snapshot.count("name==a"), Err(Error::Query(error)) if error.missing() == Some("name")));
-    // A prepared query has a canonical text. If it is too long, it isn't itself a query.
+    // If a prepared query's canonical text is too long, that text isn't itself a valid query.
     let missing = |comparisons: usize| {
         let query = Prepared::new(&vec!["abcdefgh<1234"; comparisons].join("||")).unwrap();
         match snapshot.query_prepared(&query) {

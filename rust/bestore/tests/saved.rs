@@ -25,7 +25,7 @@ fn number(path: &Path, text: &str) -> i64 {
     connection.query_row(text, [], |row| row.get(0)).unwrap()
 }
 
-/// Makes a file with an index and three nodes, and closes it.
+/// Creates a file with an index and three nodes, and closes it.
 fn three(path: &Path) {
     let saved = saved::open(path).unwrap();
     let mut pass = saved.pass().unwrap();
@@ -36,7 +36,7 @@ fn three(path: &Path) {
     saved.close().unwrap();
 }
 
-/// A folder with such a file.
+/// A folder that contains such a file.
 fn of_three(name: &str) -> Folder {
     let folder = Folder::new(name);
     three(&folder.file());
@@ -95,7 +95,7 @@ fn the_user_alone_may_read_a_file() {
     assert!(found.contains_key("test.bestore-wal"), "{found:?}");
     assert!(found.values().all(|mode| *mode == 0o600), "{found:?}");
     saved.close().unwrap();
-    // A mode that someone has chosen for a file isn't changed.
+    // The mode of a file isn't changed if someone else has set it.
     std::fs::set_permissions(folder.file(), Permissions::from_mode(0o640)).unwrap();
     let saved = saved::open(folder.file()).unwrap();
     saved.pass().unwrap().new_node().unwrap();
@@ -131,7 +131,7 @@ fn writers_on_several_passes_share_the_file() {
     assert_eq!(sizes(&mut saved.pass().unwrap()).len(), 100);
 }
 
-/// The next number of a pseudo-random sequence.
+/// The next number in a pseudo-random sequence.
 fn next_random(state: &mut u64, below: u64) -> u64 {
     *state ^= *state << 13;
     *state ^= *state >> 7;
@@ -139,7 +139,7 @@ fn next_random(state: &mut u64, below: u64) -> u64 {
     *state % below
 }
 
-/// One of the six operations at random. The store refuses some of them.
+/// A random operation, one of the six kinds. The store refuses some of these operations.
 fn random_batch(random: &mut u64) -> Batch {
     let mut batch = Batch::new();
     for _ in 0..=next_random(random, 3) {
@@ -158,7 +158,7 @@ fn random_batch(random: &mut u64) -> Batch {
     batch
 }
 
-/// Everything in a snapshot, including the contents of its indices.
+/// A snapshot's entire contents, including those of its indices.
 fn shown(pass: &mut Pass) -> String {
     let snapshot = pass.pin().unwrap();
     let mut all = format!("next {}", snapshot.next_node().unwrap());
@@ -194,7 +194,7 @@ fn any_store_is_the_same_when_it_is_opened_again() {
     assert!(accepted > 200, "{accepted}");
 }
 
-/// A writer that waits for the file doesn't hold any pages.
+/// A writer that is waiting for the file doesn't hold any pages.
 #[test]
 fn writers_share_a_store_that_is_almost_full() {
     let folder = Folder::new("almost-full");
@@ -355,14 +355,14 @@ fn a_file_is_opened_once() {
     saved::open(folder.file()).unwrap();
 }
 
-/// Converts the file to the first format, which has no checksums that would reveal changes.
+/// Converts the file to the original format, which has no checksums that would reveal changes.
 fn remove_checksums(path: &Path) {
     let remove = |table: &str| sql(path, &format!("ALTER TABLE {table} DROP COLUMN checksum"));
     ["about", "state", "entry", "token"].into_iter().for_each(remove);
     sql(path, "PRAGMA user_version = 1");
 }
 
-/// Makes this change to a file of the first format, and returns the place named by the error.
+/// Makes this change to a file in the original format, and returns the place named by the error.
 fn place_after(name: &str, change: &str) -> Place {
     let folder = of_three(name);
     remove_checksums(&folder.file());
@@ -390,7 +390,7 @@ fn a_file_that_differs_is_refused_with_the_entry() {
     assert_eq!(place_after("negative", negative), Place::State(0));
 }
 
-/// Makes a file whose last entry has this number, and whose state has an index and three nodes.
+/// Creates a file whose last entry has this number, and whose state has an index and three nodes.
 fn numbered(path: &Path, entries: i64) {
     three(path);
     saved::open(path).unwrap().close().unwrap();
@@ -425,7 +425,7 @@ fn writes_end_with_the_last_number_of_an_entry() {
     }
 }
 
-/// This entry was refused, because the store has no commit number for it.
+/// Checks that this entry was refused because the store has no commit number left for it.
 fn check_spent(refused: &SavedError, entry: u64) {
     match refused {
         SavedError::TooLarge {
@@ -457,7 +457,7 @@ fn a_store_that_is_too_small_is_an_error_of_its_own() {
     check_spent(&refused.unwrap_err(), 4);
 }
 
-/// A small file system in memory, which is unmounted at the end.
+/// A small in-memory file system, unmounted on drop.
 struct Mounted(Folder);
 
 impl Mounted {
@@ -487,7 +487,7 @@ impl Drop for Mounted {
     }
 }
 
-/// Writes until a write fails. Returns how many writes succeeded, and the error.
+/// Writes until a write fails. Returns the number of successful writes, and the error.
 fn write_on(pass: &Pass, node: u64) -> (u64, Error) {
     for count in 1_u64.. {
         if let Err(error) = pass.set(node, "count", count) {
@@ -551,7 +551,7 @@ fn each_writer_learns_of_a_commit_that_failed() {
     assert!(saved.number_in_file(commit) > acknowledged);
 }
 
-/// Opens the file while the disk is full, and again once there is room.
+/// Opens the file while the disk is full, and once more when there is room again.
 fn opens_on_a_full_disk(mounted: &Mounted, node: u64, acknowledged: u64) {
     let path = mounted.0.file();
     let count = |saved: &Saved| {
@@ -571,7 +571,7 @@ fn opens_on_a_full_disk(mounted: &Mounted, node: u64, acknowledged: u64) {
     reopened.pass().unwrap().new_node().unwrap();
 }
 
-/// Tells the child process, which is this test program again, what to do.
+/// The variable that says what the child process, another run of this test program, should do.
 const CHILD: &str = "BESTORE_TEST_CHILD";
 
 fn child(path: &Path, task: &str, round: u64) -> Child {
@@ -589,7 +589,7 @@ fn say(line: &str) {
     out.flush().unwrap();
 }
 
-/// In the test program itself, this does nothing.
+/// Does nothing in the test program itself.
 #[test]
 fn in_a_child() {
     let task = match std::env::var(CHILD) {
@@ -606,7 +606,7 @@ fn in_a_child() {
     }
 }
 
-/// Writes through three passes, prints each write that has returned, and rewrites the state now and then.
+/// Writes through three passes, prints each write after it has returned, and rewrites the state now and then.
 fn write_for_ever(saved: &Saved, round: u64) {
     say("");
     thread::scope(|scope| {
@@ -645,14 +645,14 @@ fn flush_once(path: &str) {
     thread::sleep(Duration::from_secs(60));
 }
 
-/// A time of up to `most` milliseconds, which varies between calls.
+/// A different time on each call, of up to `most` milliseconds.
 fn some_time(most: u64) -> Duration {
     let now = SystemTime::now().duration_since(UNIX_EPOCH).unwrap();
     let mixed = u64::from(now.subsec_nanos()).wrapping_mul(0x9e37_79b9_7f4a_7c15) >> 32;
     Duration::from_micros(mixed % (1000 * most))
 }
 
-/// Lets a child write, kills it at a random moment, and returns the writes that had returned.
+/// Starts a child that writes, kills it at a random moment, and returns the writes that had returned.
 fn killed(path: &Path, round: u64) -> Vec<String> {
     let mut child = child(path, "write", round);
     let mut lines = BufReader::new(child.stdout.take().unwrap()).lines();
@@ -669,7 +669,7 @@ fn killed(path: &Path, round: u64) -> Vec<String> {
     said.iter().map(|line| line["wrote ".len()..].to_owned()).collect()
 }
 
-/// How many times each key is in the store.
+/// The number of times that each key is in the store.
 fn keys(saved: &Saved) -> BTreeMap<String, u32> {
     let mut pass = saved.pass().unwrap();
     let snapshot = pass.pin().unwrap();

@@ -1,4 +1,4 @@
-//! Tests how much opening a file reads, after few writes and after many.
+//! Tests how much is read when a file is opened, after few writes and after many.
 #![cfg(feature = "saved")]
 
 mod common;
@@ -8,17 +8,17 @@ use bestore::{Batch, Pass};
 use bestore_types::saved;
 use common::Folder;
 
-/// How many pages a store has.
+/// The number of pages in a store.
 const PAGES: u64 = 8192;
 
-/// How many nodes each batch makes.
+/// The number of nodes that each batch creates.
 const AT_ONCE: u64 = 16;
 
-/// How many writes are saved together.
+/// The number of writes that are saved together.
 const SAVED: u64 = 64;
 
 impl Folder {
-    /// How many operations opening the file makes: those of the state, and those of the entries.
+    /// How many operations are applied when the file is opened: those of the state, and those of the entries.
     fn operations(&self) -> (usize, usize) {
         let contents = saved::read(self.file()).unwrap();
         let count = |batches: &[Batch]| batches.iter().map(Batch::len).sum();
@@ -26,7 +26,7 @@ impl Folder {
     }
 }
 
-/// Makes this many nodes of three attributes, in a new file.
+/// Creates this many nodes with three attributes each, in a new file.
 fn fill(folder: &Folder, nodes: u64) {
     let saved = folder.open_lazily(PAGES);
     let pass = saved.pass().unwrap();
@@ -45,7 +45,7 @@ fn fill(folder: &Folder, nodes: u64) {
     saved.close().unwrap();
 }
 
-/// Makes small writes until the state is due to be rewritten.
+/// Performs small writes until the state is due to be rewritten.
 fn write_until_due(saved: &Saved, pass: &Pass, nodes: u64) {
     let mut count = 0;
     while !saved.is_due() {
@@ -57,8 +57,8 @@ fn write_until_due(saved: &Saved, pass: &Pass, nodes: u64) {
     }
 }
 
-/// Makes writes until the state is to be rewritten for the last of so many times, and closes the file then. So opening it would never read
-/// more. Returns how many operations it makes.
+/// Writes until the state has become due to be rewritten this many times, and then closes the file. This is when opening it has to apply
+/// the most operations. Returns how many.
 fn operations_after(folder: &Folder, nodes: u64, times: u64) -> (usize, usize) {
     let saved = folder.open_lazily(PAGES);
     let pass = saved.pass().unwrap();
@@ -87,7 +87,7 @@ fn opening_reads_as_much_after_many_writes_as_after_few() {
             few.1.max(many.1) <= few.1.min(many.1) + SAVED as usize,
             "{few:?}, {many:?}"
         );
-        // The state's operations are written again, so each takes longer than an entry's.
+        // The state's operations are written out again, so each takes longer than an entry's.
         assert!(many.1 < 12_000 || 10 * many.1 < 3 * all.0, "{all:?}, {many:?}");
     }
 }

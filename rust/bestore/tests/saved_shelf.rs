@@ -25,7 +25,7 @@ impl Folder {
     }
 }
 
-/// A folder for a shelf, which opening it makes.
+/// A folder for a shelf. It is created when the shelf is opened.
 fn absent(name: &str) -> Folder {
     Folder::absent(&format!("shelf-{name}"))
 }
@@ -34,7 +34,7 @@ fn found(saved: &SavedShelf, query: &str) -> Vec<u64> {
     saved.pass().unwrap().pin().unwrap().query(query).unwrap()
 }
 
-/// A folder with three volumes that have one node each.
+/// A folder with three volumes of one node each.
 fn three(name: &str) -> (Folder, Vec<u64>) {
     let folder = absent(name);
     let saved = folder.open(Some(3)).unwrap();
@@ -61,7 +61,7 @@ fn more_volumes_get_the_indices_of_the_others() {
     let (folder, mut nodes) = three("more");
     {
         let saved = folder.open(None).unwrap();
-        // An index that one volume lacks isn't made in new volumes.
+        // An index that one volume lacks isn't created in new volumes.
         saved
             .pass()
             .unwrap()
@@ -148,7 +148,7 @@ fn a_file_that_is_missing_held_or_broken_is_named() {
     assert!(matches!(refused, Error::Folder { .. }), "{refused}");
 }
 
-/// Makes each commit of this file fail.
+/// Makes every commit to this file fail.
 fn break_file(path: &Path) {
     let connection = rusqlite::Connection::open(path).unwrap();
     let trigger = "CREATE TRIGGER broken BEFORE INSERT ON entry BEGIN SELECT RAISE(ABORT, 'broken'); END";
@@ -199,7 +199,7 @@ fn the_file_of_one_store_becomes_a_volume() {
     assert_eq!(found(&saved, "size>=5"), [node, second]);
 }
 
-/// All passes are in use, so both tasks use the store's own pass.
+/// All passes are in use, so both tasks have to use the store's own pass.
 #[test]
 fn writers_go_on_while_the_store_is_compacted_and_carried_on() {
     const WRITES: u64 = 500;
@@ -219,8 +219,7 @@ fn writers_go_on_while_the_store_is_compacted_and_carried_on() {
             scope.spawn(move || {
                 for number in 0..WRITES {
                     pass.new_node().unwrap();
-                    // Most writes after a task find out by themselves that the store was carried
-                    // on.
+                    // After a task, most writes find out for themselves that the store was carried on.
                     if number % 8 == 0 {
                         pass.follow().unwrap();
                     }

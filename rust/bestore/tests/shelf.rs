@@ -1,4 +1,4 @@
-//! Tests of shelves: compares queries over several stores with a plain model.
+//! Tests of shelves, which compare queries over several stores with a simple model.
 
 mod common;
 
@@ -27,7 +27,7 @@ fn node(volume: u32, number: u64) -> u64 {
     Node { volume, number }.into()
 }
 
-/// Pseudo-random numbers from a fixed seed.
+/// A generator of pseudo-random numbers from a fixed seed.
 struct Random(u64);
 
 impl Random {
@@ -53,7 +53,7 @@ impl Model {
         self.nodes.keys().nth(at).copied().unwrap_or(node(0, 77))
     }
 
-    /// Makes one random write to both.
+    /// Performs a random write on both.
     fn write(&mut self, pass: &mut ShelfPass, random: &mut Random) {
         let node = self.some(random);
         match random.below(10) {
@@ -80,7 +80,7 @@ impl Model {
         }
     }
 
-    /// Makes a node in a random volume, or in the one with the most free pages.
+    /// Creates a node in a random volume, or in the one with the most free pages.
     fn make(&mut self, pass: &mut ShelfPass, random: &mut Random) {
         let volumes = pass.volumes().len() as u64;
         let made = match random.below(3) {
@@ -110,7 +110,7 @@ impl Model {
         self.found(|attributes| size(attributes).map_or(false, |size| size >= 10))
     }
 
-    /// Compares everything that can be read.
+    /// Compares the results of all reads.
     fn check(&self, snapshot: &ShelfSnapshot<'_>) {
         assert_eq!(snapshot.query("size>=10").unwrap(), self.large());
         let prepared = "size>=10".parse().unwrap();
@@ -236,7 +236,7 @@ fn an_index_is_made_where_it_is_missing() {
     assert_eq!(indices(&mut pass), 2);
     let again = pass.make_index("name", Kind::Text).unwrap_err();
     assert!(matches!(again, Error::IndexExists));
-    // If one volume has another kind, the index isn't made in the others.
+    // If one volume has the index with another kind, it isn't created in the others.
     pass.volume(2).unwrap().make_index("when", Kind::Int32).unwrap();
     let other = pass.make_index("when", Kind::Int64).unwrap_err();
     assert_eq!((other.volume(), other.code()), (Some(2), Error::IndexExists.code()));
@@ -356,8 +356,8 @@ fn a_snapshot_stays_and_a_held_one_is_pinned_again() {
     ));
 }
 
-/// With changes, each thread counts in a node of its own volume and in a node of another. No count is lost, and readers never see
-/// a volume go back.
+/// Using changes, each thread increments a counter in its own volume and one in another volume. No increment is lost, and readers never see
+/// a volume go backwards.
 #[test]
 fn threads_write_and_read() {
     const THREADS: u32 = 4;

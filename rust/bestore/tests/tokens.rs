@@ -18,7 +18,7 @@ impl Folder {
     }
 }
 
-/// Makes a node with a batch that has this token. Returns the token's commit number.
+/// Creates a node with a batch that has this token. Returns the write's token, with its commit number.
 fn make(saved: &Saved, token: &str) -> Token {
     let mut batch = Batch::new();
     batch.new_node().new_node().set_token(token);
@@ -38,7 +38,7 @@ fn a_token_is_kept_with_its_write() {
     let made = ["a", "ä"].map(|token| make(&saved, token));
     saved.pass().unwrap().new_node().unwrap();
     saved.close().unwrap();
-    // First the entries are repeated, so the commit numbers are the same; then they are part of a state.
+    // The first time, the entries are replayed, so the commit numbers are the same; after that, they are part of a state.
     assert_eq!(folder.open().take_tokens(), made);
     let mut saved = folder.open();
     let of_state = saved.pass().unwrap().pin().unwrap().number();

@@ -1,4 +1,4 @@
-//! Tests of batches, of changes, and of what refuses them.
+//! Tests of batches and changes, and of the errors with which they are refused.
 
 mod common;
 
@@ -116,7 +116,7 @@ fn a_change_looks_at_kinds() {
     assert_eq!(pass.pin().unwrap().query("length==5").unwrap(), [1]);
 }
 
-/// If a change's call doesn't return an error itself, the change returns it at the end.
+/// If a call on a change can't return its error, the change returns it at the end.
 #[test]
 fn an_operation_that_is_not_collected_ends_the_change() {
     let mut pass = ten();
@@ -137,7 +137,7 @@ fn an_operation_that_is_not_collected_ends_the_change() {
     assert_eq!(pass.status().unwrap().entries, before);
 }
 
-/// A change starts again while another pass writes or holds the free pages, as many times as its pass allows.
+/// While another pass is writing or holds the free pages, a change starts over, up to the number of times that its pass allows.
 #[test]
 fn a_change_at_full_begins_again() {
     let store = sized(16);
@@ -233,7 +233,7 @@ fn a_change_gives_up_after_so_many_conflicts() {
     assert_eq!(tries, 4);
 }
 
-/// Sets an attribute until the store has no free page.
+/// Sets an attribute over and over until the store has no free page.
 fn fill(pass: &Pass, node: u64) -> Error {
     loop {
         if let Err(error) = pass.set(node, "a", "x".repeat(255)) {
@@ -261,7 +261,7 @@ fn a_full_store_says_what_keeps_its_pages() {
     assert_eq!(writer.status().unwrap().oldest, None);
 }
 
-/// The other thread, which reads a long journal, holds the writers' lock most of the time until the change runs a second time.
+/// Until the change runs a second time, the other thread holds the write lock most of the time by reading a long journal.
 #[test]
 fn a_change_on_a_snapshot_that_is_held_runs_again_while_another_pass_has_the_lock() {
     let store = store();
@@ -290,7 +290,7 @@ fn a_change_on_a_snapshot_that_is_held_runs_again_while_another_pass_has_the_loc
             });
             changed.unwrap();
             pass.release();
-            // The last attempt's operations were written, once.
+            // The last attempt's operations have been written, and only once.
             let snapshot = pass.pin().unwrap();
             assert_eq!(
                 (snapshot.number(), snapshot.get(node, "count").unwrap()),
@@ -325,7 +325,7 @@ fn a_write_waits_for_another_pass_to_unpin() {
     assert!(started.elapsed() < Duration::from_millis(400));
 }
 
-/// Makes another pass release its snapshot as soon as a write finds no free page.
+/// A keeper that makes another pass release its snapshot as soon as a write finds no free page.
 #[derive(Debug)]
 struct Releases(Mutex<Pass>);
 
@@ -343,7 +343,7 @@ impl Keeper for Releases {
     }
 }
 
-/// By the time the store is asked which pass holds pages, none does any more.
+/// By the time that the store's status is read, no pass holds pages any more.
 #[test]
 fn a_write_finds_pages_that_were_given_back_just_after_it_failed() {
     let store = sized(16);
@@ -374,7 +374,7 @@ fn a_status_says_whether_a_write_may_find_pages() {
         oldest,
     };
     let other = Some(Oldest { snapshot: 8, pass: 2 });
-    // Another pass holds pages, or held them when the write failed; at last only the pass itself does.
+    // Another pass holds pages, or held them when the write failed; in the last case, only the pass itself does.
     assert!(status(other).may_free_pages(1, 8));
     assert!(status(None).may_free_pages(1, 8));
     assert!(!status(other).may_free_pages(2, 8));

@@ -1,4 +1,4 @@
-//! Backups: a file, or a folder with one file for each volume, that is filled with a state and appears once it is complete.
+//! Backups. A backup is a file, or a folder with one file for each volume, that is filled with a state and appears once it is complete.
 
 use super::file::File;
 use super::{path_of, About, Error, Result};
@@ -9,7 +9,7 @@ use std::os::unix::fs::DirBuilderExt;
 use std::path::{Path, PathBuf};
 use std::sync::atomic::{AtomicU32, Ordering};
 
-/// A backup in progress. It is written next to its path, with mode 0600, and removed if it is dropped before [`finish`](Self::finish).
+/// A backup in progress. It is written next to its path, with mode 0600, and is removed if it is dropped before [`finish`](Self::finish).
 ///
 /// ```
 /// use bestore_types::saved::{self, About, Backup};
@@ -32,14 +32,14 @@ pub struct Backup {
     files: Vec<Part>,
 }
 
-/// The file of a volume, and how many batches it has.
+/// A volume's file, and how many batches it has.
 #[derive(Debug)]
 struct Part {
     file: File,
     batches: u64,
 }
 
-/// What is written next to the path. It is removed when it is dropped.
+/// The file or folder that is written next to the path. It is removed on drop.
 #[derive(Debug)]
 struct Beside {
     path: PathBuf,
@@ -68,7 +68,7 @@ impl Beside {
         }
     }
 
-    /// Returns the file of a volume.
+    /// Returns a volume's file.
     fn file(&self, volume: u32) -> PathBuf {
         match self.is_folder {
             true => path_of(&self.path, volume),
@@ -76,14 +76,14 @@ impl Beside {
         }
     }
 
-    /// Gives the finished backup its name, if nothing else has that name.
+    /// Gives the finished backup its name, unless something else has that name.
     fn publish(&self, path: &Path) -> io::Result<()> {
         if self.is_folder {
-            // Only an empty folder could be in its place by now.
+            // By now, only an empty folder could be in its place.
             return fs::rename(&self.path, path);
         }
         match fs::hard_link(&self.path, path) {
-            // Not every file system has links.
+            // Not every file system supports links.
             Err(error) if error.kind() != ErrorKind::AlreadyExists && !exists(path) => fs::rename(&self.path, path),
             linked => linked,
         }
@@ -94,13 +94,13 @@ fn exists(path: &Path) -> bool {
     path.symlink_metadata().is_ok()
 }
 
-/// Waits until the contents of the file or folder are on the disk.
+/// Waits until the contents of the file or folder are on disk.
 fn synchronise(path: &Path) -> Result<()> {
     let synchronised = fs::File::open(path).and_then(|file| file.sync_all());
     synchronised.map_err(|error| Error::folder(path, error))
 }
 
-/// Returns the folder of a path.
+/// Returns a path's folder.
 fn parent(path: &Path) -> &Path {
     match path.parent() {
         Some(parent) if !parent.as_os_str().is_empty() => parent,
@@ -109,10 +109,10 @@ fn parent(path: &Path) -> &Path {
 }
 
 impl Backup {
-    /// Begins a backup of this many volumes: a file for one volume, otherwise a folder. There must be nothing at the path.
+    /// Begins a backup of this many volumes: a file for one volume, otherwise a folder. Nothing may exist at the path yet.
     ///
     /// # Errors
-    /// [`Error::Exists`]; [`Error::Folder`]: the backup can't be created there; [`Error::DiskFull`], [`Error::Sqlite`].
+    /// [`Error::Exists`]; [`Error::Folder`] if the backup can't be created there; [`Error::DiskFull`], [`Error::Sqlite`].
     pub fn create(path: impl AsRef<Path>, volumes: u32) -> Result<Self> {
         let path = path.as_ref().to_owned();
         if exists(&path) {
@@ -134,7 +134,7 @@ impl Backup {
     /// Adds the next of the batches that rebuild a volume's snapshot, with that volume's own node numbers.
     ///
     /// # Errors
-    /// [`Error::DiskFull`], [`Error::Sqlite`]; [`Error::Store`]: there is no such volume, or the batch isn't valid.
+    /// [`Error::DiskFull`], [`Error::Sqlite`]; [`Error::Store`] if there is no such volume, or if the batch isn't valid.
     pub fn add(&mut self, volume: u32, batch: &Batch) -> Result<()> {
         let volumes = self.files.len() as u32;
         let part = self.files.get_mut(volume as usize);
@@ -144,10 +144,10 @@ impl Backup {
         Ok(())
     }
 
-    /// Ends the backup, whose volumes have these numbers, and gives it its name once it is on the disk.
+    /// Completes the backup, recording these numbers for its volumes, and gives it its name once it is on disk.
     ///
     /// # Errors
-    /// [`Error::Exists`]: something has appeared at the path meanwhile. [`Error::Folder`], [`Error::DiskFull`], [`Error::Sqlite`].
+    /// [`Error::Exists`] if something has appeared at the path in the meantime. [`Error::Folder`], [`Error::DiskFull`], [`Error::Sqlite`].
     pub fn finish(self, about: &[About]) -> Result<()> {
         let Self { path, beside, files } = self;
         for ((volume, part), about) in (0..).zip(files).zip(about) {

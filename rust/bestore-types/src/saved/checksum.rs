@@ -1,15 +1,15 @@
-//! Checksums of the rows in a file. docs/KEPT.md describes them.
+//! Checksums of a file's rows, as described in docs/KEPT.md.
 
 use crc32fast::Hasher;
 
-/// A column of a row, in addition to the checksum.
+/// A column of a row other than the checksum.
 pub(super) enum Column<'a> {
     Number(u64),
     Bytes(&'a [u8]),
 }
 
-/// Returns the CRC-32 of these columns. A number counts as 8 bytes, little-endian. A text or blob counts as its length, in the same form,
-/// followed by its bytes.
+/// Returns the CRC-32 of these columns. A number is encoded as 8 bytes, little-endian. A text or blob is encoded as its length, in the same
+/// form, followed by its bytes.
 pub(super) fn checksum(columns: &[Column<'_>]) -> u32 {
     let mut hasher = Hasher::new();
     for column in columns {

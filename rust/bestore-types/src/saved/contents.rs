@@ -6,14 +6,14 @@ use crate::Batch;
 use std::collections::BTreeMap;
 use std::path::{Path, PathBuf};
 
-/// The contents of a volume's file: the batches that rebuild its store from an empty one, one after another.
+/// The contents of a volume's file: the batches that, one after another, rebuild its store from an empty one.
 #[derive(Clone, Debug, PartialEq, Eq)]
 pub struct Contents {
-    /// The numbers of the state.
+    /// The state's numbers.
     pub about: About,
-    /// The batches that make up the state. New nodes get the next numbers.
+    /// The batches that make up the state. Their new nodes get the next numbers.
     pub state: Vec<Batch>,
-    /// The entries after the state. Each new node has the number that it got.
+    /// The entries after the state. Each new node has the number that it was given.
     pub entries: Vec<Batch>,
 }
 
@@ -46,20 +46,20 @@ fn batch(place: Place, bytes: &[u8]) -> Result<Batch> {
     Batch::from_bytes(bytes).map_err(|error| Error::differs(place, error))
 }
 
-/// Reads a file, or the files of the volumes in a folder, and leaves them unchanged. It takes memory for all batches.
+/// Reads a file, or the files of all volumes in a folder, without changing them. This takes memory for all batches.
 ///
 /// # Errors
 /// [`Error::Foreign`], [`Error::Newer`], [`Error::Held`], [`Error::Damaged`], [`Error::CutOff`], [`Error::Differs`],
-/// [`Error::Sqlite`]; for a folder these are in [`Error::OfVolume`]. [`Error::Folder`], [`Error::NoFile`].
+/// [`Error::Sqlite`]; for a folder, these come in [`Error::OfVolume`]. [`Error::Folder`], [`Error::NoFile`].
 pub fn read(path: impl AsRef<Path>) -> Result<Vec<Contents>> {
     read_until(path, &BTreeMap::new())
 }
 
-/// Like [`read`], but reads each of these volumes only up to an entry in its file, such as the last one before a damaged entry. The volume
-/// of a single file is 0.
+/// Like [`read`], but reads each of these volumes only up to an entry in its file, such as the last one before a damaged entry. For a
+/// single file, the volume is 0.
 ///
 /// # Errors
-/// The same as [`read`]. [`Error::NotWithin`]: the file doesn't have the entry. [`Error::NoVolume`]: there is no such volume.
+/// The same as [`read`]. [`Error::NotWithin`] if the file doesn't have the entry. [`Error::NoVolume`] if there is no such volume.
 pub fn read_until(path: impl AsRef<Path>, until: &BTreeMap<u32, u64>) -> Result<Vec<Contents>> {
     let path = path.as_ref();
     let is_folder = path.is_dir();

@@ -8,13 +8,13 @@ use std::sync::Arc;
 /// A position in a file.
 #[derive(Clone, Copy, Debug, PartialEq, Eq)]
 pub enum Place {
-    /// The batch of the state with this index, from 0.
+    /// The state's batch with this index, counting from 0.
     State(u64),
-    /// The entry with this number, from 1.
+    /// The entry with this number, counting from 1.
     Entry(u64),
     /// The token of the entry with this number.
     Token(u64),
-    /// What the file records about its state.
+    /// The numbers that the file records about its state.
     About,
     /// SQLite's pages.
     Structure,
@@ -51,21 +51,21 @@ pub enum Error {
         /// The file.
         path: PathBuf,
     },
-    /// The file has a newer format.
+    /// The file is in a newer format.
     Newer {
         /// The file.
         path: PathBuf,
         /// The version of its format.
         version: i64,
-        /// The latest version that can be read.
+        /// The newest version that can be read.
         known: i64,
     },
-    /// Another process, or another store of this one, has the file open.
+    /// The file is open in another process, or in another store of this process.
     Held {
         /// The file.
         path: PathBuf,
     },
-    /// A backup would replace what exists at its path.
+    /// A backup would replace something that exists at its path.
     Exists {
         /// The path.
         path: PathBuf,
@@ -75,18 +75,18 @@ pub enum Error {
         /// The file.
         path: PathBuf,
     },
-    /// A part of the file isn't as it was written.
+    /// A part of the file is no longer as it was written.
     Damaged {
         /// The file.
         path: PathBuf,
-        /// The first part that was found to be damaged.
+        /// The first part that is known to be damaged.
         place: Place,
-        /// Up to which entry [`read_until`](super::read_until) can read the file, if it can.
+        /// The entry up to which [`read_until`](super::read_until) can read the file, if it can.
         until: Option<u64>,
-        /// How the damage was found.
+        /// How the damage was detected.
         why: Box<dyn std::error::Error + Send + Sync>,
     },
-    /// The file ends earlier than it did: a frame of its WAL is damaged, or the WAL is missing.
+    /// The file ends earlier than it once did, because a frame of its WAL is damaged or the WAL is missing.
     CutOff {
         /// The file.
         path: PathBuf,
@@ -95,36 +95,36 @@ pub enum Error {
         /// The last entry that it ever had.
         had: u64,
     },
-    /// There is no such entry to read up to.
+    /// The file doesn't have the entry at which reading was to end.
     NotWithin {
         /// The file.
         path: PathBuf,
-        /// The last entry to read, as requested.
+        /// The requested last entry.
         until: u64,
         /// The last entry that the state contains.
         first: u64,
         /// The last entry that was read.
         last: u64,
     },
-    /// A volume is to be read up to an entry, but there is no such volume.
+    /// A last entry was given for a volume that doesn't exist.
     NoVolume {
         /// The file or folder.
         path: PathBuf,
         /// The volume that was requested.
         volume: u32,
-        /// How many volumes there are, from 0 on.
+        /// How many volumes there are, numbered from 0.
         volumes: u32,
     },
-    /// The file's contents aren't what a store did.
+    /// The file's contents don't match what a store did.
     Differs {
         /// Where they differ.
         place: Place,
         /// What is wrong at that position.
         why: Box<dyn std::error::Error + Send + Sync>,
     },
-    /// The file's contents don't fit the limits of the store.
+    /// The file's contents don't fit within the store's limits.
     TooLarge {
-        /// What was being applied when the store refused.
+        /// The part that was being applied when the store refused it.
         place: Place,
         /// The store's error.
         error: crate::Error,
@@ -138,14 +138,14 @@ pub enum Error {
     },
     /// The saving thread couldn't be started.
     Thread(std::io::Error),
-    /// The folder of a shelf can't be read or created, or a file or folder of a backup can't be created.
+    /// A shelf's folder can't be read or created, or a backup's file or folder can't be created.
     Folder {
-        /// The folder, or the file.
+        /// The folder or file.
         path: PathBuf,
         /// The error.
         error: std::io::Error,
     },
-    /// The folder of a shelf has the file of a later volume, but not this one.
+    /// A shelf's folder has the file of a later volume, but not this one.
     NoFile {
         /// The file.
         path: PathBuf,
@@ -163,24 +163,24 @@ pub enum Error {
     OfVolume {
         /// The volume.
         volume: u32,
-        /// The error in that volume.
+        /// The volume's error.
         error: Box<Error>,
     },
     /// An error from the store.
     Store(crate::Error),
     /// Saving failed earlier.
     Stopped(Arc<Error>),
-    /// The file was closed.
+    /// The file has been closed.
     Closed,
 }
 
 impl Error {
-    /// Returns the error for a position whose contents no store wrote.
+    /// Returns the error for a position whose contents weren't written by any store.
     pub fn differs(place: Place, why: impl Into<Box<dyn std::error::Error + Send + Sync>>) -> Self {
         Error::Differs { place, why: why.into() }
     }
 
-    /// Returns the error for a store that refuses the file's contents at this position.
+    /// Returns the error for a store's refusal of the file's contents at this position.
     #[must_use]
     pub fn refused(place: Place, error: crate::Error) -> Self {
         match error {
@@ -191,7 +191,7 @@ impl Error {
         }
     }
 
-    /// Returns the error for a file that lacks what should be at this position.
+    /// Returns the error for a file in which the contents of this position are missing.
     pub(super) fn missing(place: Place) -> Self {
         let why = match place {
             Place::State(_) => "the batch is missing",
@@ -200,7 +200,7 @@ impl Error {
         Error::differs(place, why)
     }
 
-    /// Returns the error for a part of the file whose checksum doesn't fit.
+    /// Returns the error for a part of the file whose checksum doesn't match.
     pub(super) fn wrong_sum(path: &Path, place: Place, until: Option<u64>) -> Self {
         Error::Damaged {
             path: path.to_owned(),
@@ -229,14 +229,14 @@ impl Error {
         }
     }
 
-    /// Returns the system's error about a folder, or a file of a backup.
+    /// Returns the operating system's error about a folder or a backup's file.
     #[must_use]
     pub fn folder(path: &Path, error: std::io::Error) -> Self {
         let path = path.to_owned();
         Error::Folder { path, error }
     }
 
-    /// Returns the same error with this volume.
+    /// Returns the same error, attributed to this volume.
     #[must_use]
     pub fn of_volume(self, volume: u32) -> Self {
         let error = Box::new(self);

@@ -13,7 +13,7 @@ use std::os::unix::fs::OpenOptionsExt;
 use std::path::{Path, PathBuf};
 use std::time::Duration;
 
-/// The WAL is reused from its start after 1,000 pages, 4.1 MB, so the limit cuts off only what a large commit has left.
+/// The WAL is reused from its start after 1,000 pages (4.1 MB), so the limit truncates it only after a large commit.
 /// The last two statements take the lock.
 const SETTINGS: &str = "
     PRAGMA journal_mode = WAL;
@@ -23,10 +23,10 @@ const SETTINGS: &str = "
     COMMIT;
 ";
 
-/// The greatest number that an entry can have, as SQLite's integers end there.
+/// The greatest number that an entry can have, because SQLite's integers end there.
 const LAST_NUMBER: u64 = i64::MAX as u64;
 
-/// What a file records about its state.
+/// The numbers that a file records about its state.
 #[derive(Clone, Copy, Debug, PartialEq, Eq)]
 pub struct About {
     /// The number of the last entry that the state contains.
@@ -35,25 +35,25 @@ pub struct About {
     pub next: u64,
 }
 
-/// How many tokens a file keeps before the oldest ones are removed, and how many are removed at a time.
+/// How many tokens a file keeps before it removes the oldest ones, and how many it removes at a time.
 const MOST_TOKENS: usize = super::TOKENS;
 const TOKENS_AT_ONCE: usize = 1_024;
 
-/// The state is rewritten once the entries take half of its bytes, so that repeating them takes about a fifth of the time to open the file.
-/// The state isn't rewritten until the entries take this many bytes.
+/// The state is rewritten once the entries take half as many bytes as it does, so that replaying them takes about a fifth of the time to
+/// open the file. It isn't rewritten until they take at least this many.
 const LEAST_DUE: u64 = 512 << 10;
 
-/// About how many bytes a row of the file has besides its batch.
+/// About how many bytes a row has in addition to its batch.
 const ROW_BYTES: u64 = 20;
 
-/// For a file that no one sees before it is complete. It uses SQLite's default journal, so that everything is in one file.
+/// Settings for a file that isn't visible before it is complete. It has no WAL, so that everything is in one file.
 const STATE_SETTINGS: &str = "
     PRAGMA auto_vacuum = FULL;
     PRAGMA journal_mode = MEMORY;
     PRAGMA synchronous = OFF;
 ";
 
-/// An accepted transaction on its way into the file, or into the log of several machines.
+/// A committed transaction on its way to the file, or to the log of several machines.
 #[derive(Debug)]
 pub struct Row {
     pub number: u64,
@@ -63,7 +63,7 @@ pub struct Row {
 }
 
 impl Row {
-    /// Returns the row of a batch that has made these nodes.
+    /// Returns the row for a batch that has created these nodes.
     pub fn new(number: u64, pass: u64, batch: &Batch, nodes: &[u64]) -> crate::Result<Self> {
         Ok(Self {
             number,
@@ -77,7 +77,7 @@ impl Row {
     }
 }
 
-/// The token of an entry, and the nodes that it made.
+/// An entry's token, and the nodes that the entry created.
 #[derive(Clone, Debug, PartialEq, Eq)]
 pub struct Token {
     pub text: Box<str>,
@@ -103,10 +103,10 @@ impl Token {
     }
 }
 
-/// Creates the file if it doesn't exist, with permissions for the user only. SQLite gives the file with `-wal` the same mode.
+/// Creates the file, accessible only to the user, if it doesn't exist. SQLite gives the `-wal` file the same mode.
 fn make_private(path: &Path) {
     let made = OpenOptions::new().write(true).create_new(true).mode(0o600).open(path);
-    // If the file can't be created, opening it says why.
+    // If the file couldn't be created, opening it will return the reason.
     drop(made);
 }
 
@@ -114,11 +114,11 @@ fn make_private(path: &Path) {
 pub struct File {
     connection: Connection,
     path: PathBuf,
-    /// Whether the rows have checksums. The rows of the earlier format have none.
+    /// Whether the rows have checksums. In the earlier format they have none.
     has_checksums: bool,
-    /// The entries whose tokens the file has, sorted by number.
+    /// The entries whose tokens are in the file, sorted by number.
     with_token: VecDeque<u64>,
-    /// How many bytes the entries take, and at how many the state is rewritten.
+    /// How many bytes the entries take, and at how many bytes the state is rewritten.
     entry_bytes: u64,
     due_bytes: u64,
     /// Dropped after the connection.
@@ -126,10 +126,10 @@ pub struct File {
 }
 
 impl File {
-    /// Opens or creates the file, for this process only.
+    /// Opens or creates the file, for exclusive use by this process.
     pub fn open(path: &Path) -> Result<Self> {
         let flags = OpenFlags::SQLITE_OPEN_READ_WRITE | OpenFlags::SQLITE_OPEN_CREATE | OpenFlags::SQLITE_OPEN_NO_MUTEX;
-        // SQLite doesn't treat `:memory:` or an empty name as a file. With a folder in front, every name is a file's.
+        // SQLite doesn't treat `:memory:` or an empty name as a file. With a folder before it, every name is that of a file.
         let within = Path::new(".").join(path);
         make_private(&within);
         let mut file = Self::connect(&within, path, flags)?;
@@ -137,7 +137,7 @@ impl File {
         Ok(file)
     }
 
-    /// Connects to the file at `place`, which errors name `path`.
+    /// Connects to the file at `place`, which is called `path` in errors.
     fn connect(place: &Path, path: &Path, flags: OpenFlags) -> Result<Self> {
         let opened = Connection::open_with_flags(place, flags);
         Ok(Self {
@@ -151,7 +151,7 @@ impl File {
         })
     }
 
-    /// Opens a store's file for reading, and leaves it unchanged.
+    /// Opens a store's file for reading, without changing it.
     pub fn open_to_read(path: &Path) -> Result<Self> {
         let flags = OpenFlags::SQLITE_OPEN_READ_ONLY | OpenFlags::SQLITE_OPEN_NO_MUTEX;
         let mut file = Self::connect(&Path::new(".").join(path), path, flags)?;
@@ -162,8 +162,8 @@ impl File {
         }
     }
 
-    /// Makes a file at `place`, to be filled with a state. It is complete after [`end_state`](Self::end_state), and errors name it
-    /// `path`.
+    /// Creates a file at `place`, to be filled with a state. It is complete after [`end_state`](Self::end_state), and is called `path` in
+    /// errors.
     pub fn begin_state(place: &Path, path: &Path) -> Result<Self> {
         let made = OpenOptions::new().write(true).create_new(true).mode(0o600).open(place);
         made.map_err(|error| Error::folder(place, error))?;
@@ -175,7 +175,7 @@ impl File {
         Ok(file)
     }
 
-    /// Adds a batch of the state.
+    /// Adds a batch to the state.
     pub fn add_state(&self, place: u64, batch: &[u8]) -> Result<()> {
         let insert = self.connection.prepare_cached("INSERT INTO state VALUES (?, ?, ?)");
         let sum = tables::of_state(place, batch);
@@ -183,7 +183,7 @@ impl File {
         self.sqlite(added.map(drop))
     }
 
-    /// Ends the state, and closes the file.
+    /// Ends the state and closes the file.
     pub fn end_state(self, about: About) -> Result<()> {
         self.sqlite(tables::set_about(&self.connection, about))?;
         self.run("COMMIT")?;
@@ -203,7 +203,7 @@ impl File {
         self.sqlite(self.connection.pragma_query_value(None, name, |row| row.get(0)))
     }
 
-    /// Locks the file, checks whose it is, and makes the tables in an empty one, before it has a WAL that could lose them.
+    /// Locks the file and checks whose it is. In an empty file it creates the tables, before the file has a WAL that could lose them.
     fn take(&mut self) -> Result<()> {
         self.sqlite(self.connection.busy_timeout(Duration::ZERO))?;
         self.sqlite(self.connection.pragma_update(None, "locking_mode", "EXCLUSIVE"))?;
@@ -215,7 +215,7 @@ impl File {
         self.sqlite(tables::make_tokens(&self.connection, self.has_checksums))
     }
 
-    /// Returns whether the file is new. A file that belongs to another program, or has a newer format, is refused.
+    /// Returns whether the file is new. A file that belongs to another program or is in a newer format is refused.
     fn check_format(&mut self) -> Result<bool> {
         let tables = self
             .connection
@@ -237,12 +237,12 @@ impl File {
         }
     }
 
-    /// Returns whether the file has the earlier format, without checksums.
+    /// Returns whether the file is in the earlier format, without checksums.
     pub fn lacks_checksums(&self) -> bool {
         !self.has_checksums
     }
 
-    /// Returns the column that has the checksums, for a statement that reads rows.
+    /// Returns the name of the checksum column, for a statement that reads rows.
     fn checksum(&self) -> &'static str {
         match self.has_checksums {
             true => "checksum",
@@ -250,7 +250,7 @@ impl File {
         }
     }
 
-    /// Returns the error for a part of the file that can't be read. The part before it ends with this entry, if that is known.
+    /// Returns the error for a part of the file that can't be read. The part before it ends with this entry, if known.
     fn unreadable(&self, place: Place, until: Option<u64>, error: rusqlite::Error) -> Error {
         Error::of_reading(&self.path, place, until, error)
     }
@@ -275,8 +275,8 @@ impl File {
         })
     }
 
-    /// Refuses a file whose entries were read up to `last`, if another one was asked for. If none was, refuses it if it once had later
-    /// entries, or if its pages are damaged.
+    /// Refuses a file whose entries have been read up to `last` if another entry was requested. If none was, refuses it if it once had
+    /// later entries, or if its pages are damaged.
     pub fn check_end(&self, until: Option<u64>, last: u64) -> Result<()> {
         match until {
             Some(until) if until != last => Err(Error::NotWithin {
@@ -308,7 +308,7 @@ impl File {
         }
     }
 
-    /// Refuses a file whose pages SQLite finds damaged, though all entries up to this one could be read.
+    /// Refuses a file whose pages SQLite finds damaged, even though all entries up to this one could be read.
     fn check_structure(&self, last: u64) -> Result<()> {
         let found = self
             .connection
@@ -324,12 +324,12 @@ impl File {
         }
     }
 
-    /// Returns whether the entries take more than half as many bytes as the state, and more than the minimum.
+    /// Returns whether the entries take more than half the bytes of the state, and more than the minimum.
     pub fn is_due(&self) -> bool {
         self.entry_bytes > self.due_bytes
     }
 
-    /// Finds out how many bytes the state and the entries take.
+    /// Measures how many bytes the state and the entries take.
     pub fn measure(&mut self) -> Result<()> {
         let sum = |table: &str| {
             let sql = format!("SELECT coalesce(sum(length(batch) + {ROW_BYTES}), 0) FROM {table}");
@@ -342,7 +342,7 @@ impl File {
         Ok(())
     }
 
-    /// From now on, also keeps the number of the last entry next to the file. That entry is now `last`.
+    /// From now on, also keeps the number of the last entry, which is now `last`, next to the file.
     pub fn keep_last(&mut self, last: u64) -> Result<()> {
         if self.has_checksums {
             self.last = LastEntry::begin(&self.path, self.number("file")?, last);
@@ -350,15 +350,15 @@ impl File {
         Ok(())
     }
 
-    /// Leaves a refused file as it is: its WAL stays next to it when it is closed.
+    /// Leaves a refused file unchanged: closing it doesn't remove its WAL.
     pub fn leave(&self) {
-        // Otherwise SQLite would copy the undamaged part of the WAL into the file, and remove the rest.
+        // Otherwise SQLite would copy the undamaged part of the WAL into the file and remove the rest.
         let _ = self
             .connection
             .set_db_config(DbConfig::SQLITE_DBCONFIG_NO_CKPT_ON_CLOSE, true);
     }
 
-    /// Returns the limits for a store with this file: the store may not accept more transactions than there are numbers left for entries.
+    /// Returns the limits for a store with this file, which must not commit more transactions than there are numbers left for entries.
     ///
     /// # Errors
     /// [`Error::TooLarge`] if no number is left and the state is empty.
@@ -398,8 +398,8 @@ impl File {
         self.each(&sql, after.wrapping_add(1)..=until, Place::Entry, take)
     }
 
-    /// Passes the batch in each row to the closure. Each of the numbers up to the last row must have a batch. Rows beyond the numbers
-    /// aren't checked.
+    /// Passes the batch in each row to the closure. Each number up to the last row must have a batch. Rows beyond these numbers aren't
+    /// checked.
     fn each(
         &self,
         sql: &str,
@@ -433,7 +433,7 @@ impl File {
         Ok(())
     }
 
-    /// Returns the number of a row that has a batch, and whether its checksum is right.
+    /// Returns the number of a row that has a batch, and whether its checksum is correct.
     fn check_row(&self, row: &rusqlite::Row<'_>) -> rusqlite::Result<(u64, bool)> {
         let number = row.get::<_, i64>(0)? as u64;
         if !self.has_checksums {
@@ -447,7 +447,7 @@ impl File {
         Ok((number, tables::fits(row, 3, sum)?))
     }
 
-    /// Adds the rows, all in one commit. A single row is its own transaction, without statements that begin and end it.
+    /// Adds the rows, all in one commit. A single row is a transaction by itself, without statements to begin and end it.
     pub fn append(&mut self, rows: &[Row]) -> Result<()> {
         let added = match rows {
             [row] if row.token.is_none() => self.insert(row),
@@ -474,7 +474,7 @@ impl File {
         Ok(tokens)
     }
 
-    /// Reads the tokens. Returns `None` if a checksum doesn't fit. `due` is the number of the last token that was read.
+    /// Reads the tokens. Returns `None` if a checksum doesn't match. `due` is set to the number of the last token that was read.
     fn read_tokens(&self, due: &mut u64) -> rusqlite::Result<Option<Vec<(u64, Token)>>> {
         let sql = format!(
             "SELECT number, token, nodes, {} FROM token ORDER BY number",
@@ -512,7 +512,7 @@ impl File {
         }
     }
 
-    /// Adds the token of an entry. Once there are too many, the oldest ones are removed.
+    /// Adds an entry's token. Once there are too many tokens, the oldest ones are removed.
     fn insert_token(&mut self, number: u64, token: &Token) -> rusqlite::Result<()> {
         let nodes = token.node_bytes();
         if self.has_checksums {
@@ -540,21 +540,21 @@ impl File {
         let inserted = rows.iter().try_for_each(|row| self.insert(row));
         let added = inserted.and_then(|()| run(&self.connection, "COMMIT"));
         if added.is_err() && !self.connection.is_autocommit() {
-            // The error of the rows matters more than what this returns.
+            // The rows' error matters more than the result of this.
             let _ = run(&self.connection, "ROLLBACK");
         }
         added
     }
 
-    /// Replaces the old state, and the entries up to `number`, with this state, which contains them. A file in the earlier format gets
-    /// checksums.
+    /// Replaces the old state and the entries up to `number` with this state, which contains them. If the file is in the earlier format,
+    /// adds checksums.
     pub fn write_state(
         &mut self,
         number: u64,
         next: u64,
         batches: impl Iterator<Item = crate::Result<Batch>>,
     ) -> Result<()> {
-        // If this fails, the next rewrite isn't due at once.
+        // If this fails, the next rewrite isn't due immediately.
         self.due_bytes = self.due_bytes.max(self.entry_bytes) + LEAST_DUE;
         let mut failed = None;
         let batches = batches.map(|batch| batch.and_then(|batch| batch.to_bytes()));
@@ -572,7 +572,7 @@ impl File {
     }
 }
 
-/// Replaces the state, and the entries that this one contains, within a transaction, and returns the transaction.
+/// Replaces the state, and the entries that the new one contains, within a transaction, and returns the transaction.
 fn replace_state(
     connection: &mut Connection,
     has_checksums: bool,

@@ -1,6 +1,6 @@
-//! The file that keeps a store, without the store: its format, its errors, backups, and the file's contents.
+//! The file in which a store is kept, without the store: its format, errors, contents and backups.
 //!
-//! `docs/KEPT.md` in the repository describes the format. The crate `bestore` opens such a file and keeps writes in it.
+//! The repository's `docs/KEPT.md` describes the format. The crate `bestore` opens such a file and keeps writes in it.
 
 mod backup;
 mod checksum;
@@ -22,5 +22,5 @@ pub use volumes::{check_volumes, count, files_of, path_of};
 /// The result of a call in this module.
 pub type Result<T> = std::result::Result<T, Error>;
 
-/// A file has the tokens of at least this many of the last writes that had one.
+/// A file has the tokens of at least this many of the latest writes that had one.
 pub const TOKENS: usize = 65_536;

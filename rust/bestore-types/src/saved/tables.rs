@@ -1,13 +1,13 @@
-//! The tables of a file, and the checksums of their rows.
+//! A file's tables, and the checksums of their rows.
 
 use super::checksum::{checksum, Column};
 use super::About;
 use rusqlite::{Connection, Row};
 
-/// "best" in ASCII: the mark in SQLite's header by which the file is recognised.
+/// "best" in ASCII, the mark in SQLite's header by which the file is recognised.
 pub(super) const APPLICATION: i64 = 0x6265_7374;
 
-/// The version of the format, and the one before it, whose rows have no checksums.
+/// The format's version, and the one before it, whose rows have no checksums.
 pub(super) const FORMAT: i64 = 2;
 pub(super) const WITHOUT_CHECKSUMS: i64 = 1;
 
@@ -24,11 +24,11 @@ const COLUMNS: &str = "
     ALTER TABLE token ADD COLUMN checksum INTEGER;
 ";
 
-/// Some files were made without this table.
+/// Some files were created without this table.
 const TOKENS: &str =
     "CREATE TABLE IF NOT EXISTS token (number INTEGER PRIMARY KEY, token TEXT NOT NULL, nodes BLOB NOT NULL";
 
-/// Marks an empty file as a store's, and makes its tables.
+/// Marks an empty file as a store's, and creates its tables.
 pub(super) fn make(connection: &Connection) -> rusqlite::Result<()> {
     connection.execute_batch(&format!(
         "BEGIN IMMEDIATE; PRAGMA application_id = {APPLICATION}; PRAGMA user_version = {FORMAT}; {TABLES}"
@@ -39,14 +39,14 @@ pub(super) fn make(connection: &Connection) -> rusqlite::Result<()> {
     connection.execute_batch("COMMIT")
 }
 
-/// Makes the table of the tokens, if it isn't there.
+/// Creates the token table if it doesn't exist.
 pub(super) fn make_tokens(connection: &Connection, has_checksums: bool) -> rusqlite::Result<()> {
     let column = if has_checksums { ", checksum INTEGER" } else { "" };
     connection.execute_batch(&format!("{TOKENS}{column})"))
 }
 
-/// Adds checksums to the rows of an earlier format, within a transaction. [`set_about`] sets those of `about`, and the state is
-/// empty.
+/// Adds checksums to the rows of the earlier format, within a transaction. The state is empty, and [`set_about`] sets the checksums of
+/// `about`.
 pub(super) fn add_checksums(connection: &Connection) -> rusqlite::Result<()> {
     connection.execute_batch(&format!("{COLUMNS} PRAGMA user_version = {FORMAT}"))?;
     set_id(connection)?;
@@ -72,7 +72,7 @@ pub(super) fn add_checksums(connection: &Connection) -> rusqlite::Result<()> {
     sums.into_iter().try_for_each(|sum| set.execute(sum).map(drop))
 }
 
-/// Gives the file a random id, so that it isn't taken for another file.
+/// Gives the file a random id, so that it isn't mistaken for another file.
 fn set_id(connection: &Connection) -> rusqlite::Result<()> {
     let id: i64 = connection.query_row("SELECT random() & 0x7fffffffffffffff", [], |row| row.get(0))?;
     set_number(connection, "file", id as u64)

@@ -1,11 +1,11 @@
-//! The files of several volumes: each volume has its own file, and all files are in one folder.
+//! The files of several volumes. Each volume has its own file in a common folder.
 
 use super::{Error, Result};
 use std::collections::BTreeMap;
 use std::fs;
 use std::path::{Path, PathBuf};
 
-/// Returns the file of a volume.
+/// Returns a volume's file.
 #[must_use]
 pub fn path_of(folder: &Path, volume: u32) -> PathBuf {
     folder.join(format!("{volume}.bestore"))
@@ -20,7 +20,7 @@ pub fn files_of(place: &Path, volumes: u32) -> Vec<PathBuf> {
     }
 }
 
-/// Fails if `until` has a volume that doesn't exist at the path.
+/// Returns an error if `until` has a volume that doesn't exist at the path.
 ///
 /// # Errors
 /// [`Error::NoVolume`] with the first volume that doesn't exist.

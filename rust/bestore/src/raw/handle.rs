@@ -1,4 +1,4 @@
-//! Handles that close themselves, and that are dead in a forked child.
+//! Handles that close themselves and are dead in a forked child.
 
 use super::{Answer, Refused, FORKED};
 use bestore_sys::{self as sys, bes_draft, bes_pass, bes_place, bes_prepared, bes_witness};
@@ -7,14 +7,14 @@ use std::ptr::NonNull;
 use std::sync::atomic::{AtomicU64, Ordering};
 use std::sync::Once;
 
-/// How many forks there were from the first process to this one.
+/// How many forks separate this process from the first one.
 static FORKS: AtomicU64 = AtomicU64::new(0);
 
 extern "C" fn count_fork() {
     FORKS.fetch_add(1, Ordering::Relaxed);
 }
 
-/// The process that something was made in.
+/// The process in which an object was created.
 #[derive(Clone, Copy, Debug)]
 pub(crate) struct Birthplace(u64);
 
@@ -22,13 +22,13 @@ impl Birthplace {
     pub(crate) fn here() -> Self {
         static WATCH: Once = Once::new();
         WATCH.call_once(|| {
-            // SAFETY: the handler is a function that takes nothing, and does one atomic step.
+            // SAFETY: the handler is a function that takes no arguments and performs one atomic operation.
             unsafe { libc::pthread_atfork(None, None, Some(count_fork)) };
         });
         Self(FORKS.load(Ordering::Relaxed))
     }
 
-    /// Returns whether this is the same process, and not a forked child of it.
+    /// Returns whether this is the same process, not a forked child of it.
     pub(crate) fn is_here(self) -> bool {
         FORKS.load(Ordering::Relaxed) == self.0
     }
@@ -45,7 +45,7 @@ impl Birthplace {
     }
 }
 
-/// A handle of the C library, with its initial value and the call that closes it.
+/// A C handle, with its initial value and the call that closes it.
 pub(super) trait CloseHandle: Sized {
     const CLOSED: Self;
 
@@ -60,7 +60,7 @@ macro_rules! close_by {
             const CLOSED: Self = Self::INIT;
 
             unsafe fn close(at: *mut Self) {
-                // SAFETY: as the trait asks.
+                // SAFETY: as the trait requires.
                 unsafe { sys::$call(at) };
             }
         }
@@ -75,14 +75,14 @@ impl CloseHandle for bes_draft {
     const CLOSED: Self = Self::INIT;
 
     unsafe fn close(at: *mut Self) {
-        // With a closed pass, the call closes only the draft, whatever the draft's own pass does.
+        // Given a closed pass, the call closes only the draft, whatever state the draft's own pass is in.
         let mut none = bes_pass::INIT;
-        // SAFETY: as the trait asks; only this call uses the pass.
+        // SAFETY: as the trait requires; the pass is used only by this call.
         unsafe { sys::bes_abandon_change(&mut none, at) };
     }
 }
 
-/// A handle at a fixed address, which is closed when it is dropped. In a forked child it is dead, and is left unchanged.
+/// A handle at a fixed address, closed on drop. In a forked child it is dead, and dropping it leaves it unchanged.
 #[derive(Debug)]
 pub(super) struct Handle<T: CloseHandle> {
     at: NonNull<T>,
@@ -90,7 +90,7 @@ pub(super) struct Handle<T: CloseHandle> {
     owns: PhantomData<T>,
 }
 
-// SAFETY: the header allows a handle to move to another thread whose calls come later. It isn't `Sync`.
+// SAFETY: the header allows a handle to be moved to another thread whose calls come later. It isn't `Sync`.
 unsafe impl<T: CloseHandle> Send for Handle<T> {}
 
 impl<T: CloseHandle> Handle<T> {
@@ -110,7 +110,7 @@ impl<T: CloseHandle> Handle<T> {
 impl<T: CloseHandle> Drop for Handle<T> {
     fn drop(&mut self) {
         if self.birthplace.is_here() {
-            // SAFETY: `at` comes from a box that `new` leaked, and nothing uses it any more.
+            // SAFETY: `at` comes from a box that `new` leaked, and it is no longer used by anything.
             unsafe {
                 T::close(self.at.as_ptr());
                 drop(Box::from_raw(self.at.as_ptr()));

@@ -6,10 +6,10 @@ use bestore_sys::{self as sys, bes_compared, bes_counts};
 /// The maximum number of comparisons in a query.
 const COMPARISONS: usize = 256;
 
-/// Returns a pattern that matches the text in upper and lower case.
+/// Returns a pattern that matches the text in upper or lower case.
 pub(crate) fn any_case(text: &str) -> Answer<Vec<u8>> {
     whole(12 * text.len(), |bytes, room, count| {
-        // SAFETY: as the module says.
+        // SAFETY: see the top of this module.
         unsafe { sys::bes_any_case_bytes(text.as_ptr(), text.len(), bytes, room, count) }
     })
 }
@@ -27,7 +27,7 @@ impl Comparisons {
         self.part(one.plain_name_at, one.plain_value_at)
     }
 
-    /// Returns the value that it compares with: without backslashes, or in a pattern's canonical form.
+    /// Returns the value that it compares with, without backslashes; for a pattern, in canonical form.
     pub(crate) fn value(&self, one: &bes_compared) -> String {
         self.part(one.plain_value_at, one.plain_end)
     }
@@ -43,7 +43,7 @@ pub(crate) fn comparisons(text: &str) -> Answer<Comparisons> {
     let mut list = Vec::with_capacity(COMPARISONS.min(text.len()));
     let mut bytes = Vec::with_capacity(64 * list.capacity() + 4 * text.len());
     let (mut counts, mut place) = (bes_counts::default(), 0);
-    // SAFETY: as the module says. The buffer holds all comparisons, since each has at least one character.
+    // SAFETY: see the top of this module. The buffer has room for all comparisons, because each has at least one character.
     unsafe {
         let code = sys::bes_query_comparisons(
             text.as_ptr(),

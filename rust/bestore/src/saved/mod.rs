@@ -1,7 +1,6 @@
 //! Stores whose writes are kept in a file.
 //!
-//! The store is in memory, and each accepted transaction goes into an SQLite file before its call returns. Opening the file
-//! rebuilds the store.
+//! The store is in memory, and each transaction is written to an SQLite file before its call returns. Opening the file rebuilds the store.
 //!
 //! ```
 //! use bestore::{saved, Kind};
@@ -22,13 +21,13 @@
 //! # Ok::<(), Box<dyn std::error::Error>>(())
 //! ```
 //!
-//! A write that has returned is in the file, even after `kill -9`. A snapshot may show a write before it is in the file. The file's format
-//! and everything that is promised are in `docs/KEPT.md` in the repository.
+//! A write that has returned is in the file, even after `kill -9`. A snapshot may show a write before it is in the file. The repository's
+//! `docs/KEPT.md` describes the file's format and all guarantees.
 //!
-//! When a commit fails, for example because the disk is full, the writes that wait for it return [`NotSaved`](crate::Error::NotSaved), and
-//! later writes return [`Stopped`](crate::Error::Stopped). Reads still work.
+//! If a commit fails, for example because the disk is full, the writes that are waiting for it return [`NotSaved`](crate::Error::NotSaved),
+//! and later writes return [`Stopped`](crate::Error::Stopped). Reads still work.
 //!
-//! Opening the file and [`Saved::compact`] rewrite the state, so the file doesn't grow forever.
+//! The file doesn't grow forever, because its state is rewritten when it is opened and by [`Saved::compact`].
 
 mod queue;
 mod shelf;
@@ -45,7 +44,7 @@ use std::path::{Path, PathBuf};
 use std::sync::Arc;
 use std::time::Duration;
 
-/// Opens the file, or creates it, with the default limits. Each write is saved before its call returns.
+/// Opens or creates the file with the default limits. Each write is saved before its call returns.
 ///
 /// # Errors
 /// The same as [`Options::open`].
@@ -53,14 +52,14 @@ pub fn open(path: impl AsRef<Path>) -> Result<Saved> {
     Options::new().open(path)
 }
 
-/// The token of a write in the file; see [`Batch::set_token`].
+/// A write's token in the file; see [`Batch::set_token`].
 #[derive(Clone, Debug, PartialEq, Eq)]
 pub struct Token {
     /// The token.
     pub text: String,
-    /// A snapshot with this number or a later one has the write.
+    /// A snapshot includes the write if its number is this or higher.
     pub commit: u64,
-    /// The nodes that the write made.
+    /// The nodes that the write created.
     pub nodes: Vec<u64>,
 }
 
@@ -76,13 +75,13 @@ pub struct Options {
 }
 
 impl Options {
-    /// Returns the default limits. Each write is saved before its call returns.
+    /// Returns the default options: the default limits, with each write saved before its call returns.
     #[must_use]
     pub fn new() -> Self {
         Self::default()
     }
 
-    /// Sets how large the store in memory may grow. The journal in memory begins with the entries that opening the file adds.
+    /// Sets how large the in-memory store may grow. Its journal begins with the entries that opening the file adds.
     pub fn limits(&mut self, limits: Limits) -> &mut Self {
         self.limits = limits;
         self
@@ -94,14 +93,14 @@ impl Options {
         self
     }
 
-    /// Makes [`load`](Self::load) read a volume only up to this entry of its file, such as the last one before a damaged entry. The
-    /// volume of a single file is 0. The other calls read all entries.
+    /// Makes [`load`](Self::load) read a volume only up to this entry of its file, such as the last one before a damaged entry. For a
+    /// single file, the volume is 0. All other calls read all entries.
     pub fn until(&mut self, volume: u32, entry: u64) -> &mut Self {
         self.until.insert(volume, entry);
         self
     }
 
-    /// Opens or creates the file, and rebuilds the store. A file that is refused isn't changed.
+    /// Opens or creates the file, and rebuilds the store. If the file is refused, it isn't changed.
     ///
     /// # Errors
     /// [`Error::Foreign`], [`Error::Newer`], [`Error::Held`], [`Error::Damaged`], [`Error::CutOff`], [`Error::Differs`],
@@ -123,7 +122,7 @@ impl Options {
         file.measure()?;
         let token = |(entry, token): (u64, file::Token)| Token {
             text: token.text.into(),
-            // The batches of the state come before the entries, and aren't entries themselves.
+            // The state's batches come before the entries and aren't entries themselves.
             commit: in_memory.saturating_sub(number.saturating_sub(entry.max(of_state))),
             nodes: token.nodes,
         };
@@ -132,7 +131,7 @@ impl Options {
         Ok(Saved { store, queue, tokens })
     }
 
-    /// Makes the store for a file.
+    /// Creates the store for a file.
     fn open_store(&self, file: &mut File) -> Result<Loaded> {
         let store = Store::open(file.limits_within(self.limits)?)?;
         let number = load(file, &store, u64::MAX)?;
@@ -141,12 +140,12 @@ impl Options {
         Ok(Loaded { store, number, tokens })
     }
 
-    /// Rebuilds the store of a file, or the volumes of a folder, and leaves the files unchanged: writes to the result aren't kept anywhere.
-    /// The limits apply to each volume.
+    /// Rebuilds a file's store, or a folder's volumes, without changing the files: writes to the result aren't kept anywhere. The limits
+    /// apply to each volume.
     ///
     /// # Errors
-    /// The same as [`open`](Self::open) and [`open_shelf`](Self::open_shelf), except for a full disk. [`Error::NotWithin`]: the file
-    /// doesn't have the entry that [`until`](Self::until) names. [`Error::NoVolume`]: there is no such volume.
+    /// The same as [`open`](Self::open) and [`open_shelf`](Self::open_shelf), except for a full disk. [`Error::NotWithin`] if the file
+    /// doesn't have the entry that was given to [`until`](Self::until). [`Error::NoVolume`] if there is no such volume.
     pub fn load(&self, path: impl AsRef<Path>) -> Result<Shelf> {
         let path = path.as_ref();
         let is_folder = path.is_dir();
@@ -174,7 +173,7 @@ impl Options {
     }
 }
 
-/// A store that was rebuilt from a file, with the number of the file's last entry, and its tokens.
+/// A store that has been rebuilt from a file, with the number of the file's last entry and the file's tokens.
 struct Loaded {
     store: Store,
     number: u64,
@@ -205,7 +204,7 @@ fn load(file: &File, store: &Store, until: u64) -> Result<u64> {
     Ok(last)
 }
 
-/// Applies an entry, and compares its outcome with the outcome in the file.
+/// Applies an entry, and compares its outcome with that in the file.
 fn repeat(pass: &Pass, number: u64, batch: &Batch) -> Result<()> {
     let place = Place::Entry(number);
     match pass.repeat(batch) {
@@ -219,8 +218,8 @@ fn read(place: Place, bytes: &[u8]) -> Result<Batch> {
     Batch::from_bytes(bytes).map_err(|error| Error::differs(place, error))
 }
 
-/// Rewrites the state if there are entries after it, or if the file has no checksums. If the disk is full, the file isn't changed, and the
-/// next write reports the error.
+/// Rewrites the state if entries follow it, or if the file has no checksums. If the disk is full, the file isn't changed, and the next
+/// write reports the error.
 fn renew(file: &mut File, snapshot: &Snapshot<'_>, number: u64) -> Result<()> {
     if number == file.state()?.entries && !file.lacks_checksums() {
         return Ok(());
@@ -231,7 +230,7 @@ fn renew(file: &mut File, snapshot: &Snapshot<'_>, number: u64) -> Result<()> {
     }
 }
 
-/// A store whose writes are kept in a file. It closes the file when it is dropped.
+/// A store whose writes are kept in a file. The file is closed on drop.
 #[derive(Debug)]
 pub struct Saved {
     store: Store,
@@ -240,13 +239,13 @@ pub struct Saved {
 }
 
 impl Saved {
-    /// Returns the store in memory. Writes by its own passes aren't saved.
+    /// Returns the in-memory store. Writes through passes taken from it aren't saved.
     #[must_use]
     pub fn store(&self) -> &Store {
         &self.store
     }
 
-    /// Takes a pass, whose writes are saved.
+    /// Takes a pass whose writes are saved.
     ///
     /// # Errors
     /// The same as [`Store::pass`].
@@ -254,8 +253,8 @@ impl Saved {
         Ok(self.store.pass()?.kept_by(self.queue.keeper()))
     }
 
-    /// Takes the tokens that the file had when it was opened, with those of earlier writes first. A token is saved in the same commit as
-    /// its write. A second call returns no tokens.
+    /// Takes the tokens that the file had when it was opened, in the order of their writes. A token is saved in the same commit as its
+    /// write. A second call returns no tokens.
     pub fn take_tokens(&mut self) -> Vec<Token> {
         std::mem::take(&mut self.tokens)
     }
@@ -269,17 +268,17 @@ impl Saved {
         self.queue.flush(None)
     }
 
-    /// Returns the error from the commit that failed, if one has failed. Since then, memory is ahead of the file.
+    /// Returns the error from the commit that failed, if any. After that commit, memory is ahead of the file.
     #[must_use]
     pub fn failure(&self) -> Option<Arc<Error>> {
         self.queue.failure()
     }
 
-    /// Writes a [copy](Store::copy_state) of the current snapshot into the file, where it replaces the state and the entries that the copy
-    /// contains. Writes continue meanwhile, and are saved after it. It takes the memory of the state's batches.
+    /// Writes a [copy](Store::copy_state) of the current snapshot to the file, where it replaces the state and the entries that the copy
+    /// includes. Other writes can continue in the meantime, and are saved after it. This takes memory for the state's batches.
     ///
     /// # Errors
-    /// The same as [`flush`](Self::flush); [`Error::DiskFull`], [`Error::Sqlite`]: the file is unchanged.
+    /// The same as [`flush`](Self::flush); [`Error::DiskFull`] or [`Error::Sqlite`], which leave the file unchanged.
     pub fn compact(&self) -> Result<()> {
         let copy = self.store.copy_state()?;
         let number = self.queue.number_in_file(copy.number);
@@ -288,20 +287,21 @@ impl Saved {
             .with_file(|file| file.write_state(number, copy.next, copy.batches.into_iter().map(Ok)))
     }
 
-    /// Returns whether [`compact`](Self::compact) would make the file smaller and faster to open: the entries since the state
-    /// take more than half of the state's bytes, and at least 512 KiB. After a failed `compact`, it takes another 512 KiB.
+    /// Returns whether [`compact`](Self::compact) would make the file smaller and faster to open: whether the entries since the state take
+    /// more than half the bytes of the state, and at least 512 KiB. After a failed `compact`, another 512 KiB must have been written.
     #[must_use]
     pub fn is_due(&self) -> bool {
         self.queue.is_due()
     }
 
-    /// Returns the number in the file for the entry with this commit number. Numbers in the file continue from one opening to the next.
+    /// Returns the number that the entry with this commit number has in the file. Unlike commit numbers, numbers in the file continue when
+    /// the file is opened again.
     #[must_use]
     pub fn number_in_file(&self, commit: u64) -> u64 {
         self.queue.number_in_file(commit)
     }
 
-    /// Saves what was written, and closes the file. Passes that are still open can read.
+    /// Saves everything that has been written, and closes the file. Passes that are still open can only read.
     ///
     /// # Errors
     /// The same as [`flush`](Self::flush).

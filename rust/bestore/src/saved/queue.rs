@@ -1,4 +1,4 @@
-//! The order of the writes, and who saves them: one of the waiting writers, or a thread if writes are saved within a given time.
+//! The queue of writes to be saved. They are saved by one of the waiting writers or, if writes are saved within a given time, by a thread.
 
 use super::{Error, Result};
 use crate::pass::{Keeper, MakeWrite};
@@ -11,7 +11,7 @@ use std::sync::{Arc, Condvar, Mutex, MutexGuard, PoisonError};
 use std::thread::{self, JoinHandle};
 use std::time::{Duration, Instant};
 
-/// How many bytes can wait to be saved before the next write waits too.
+/// How many bytes can be waiting to be saved before the next write has to wait too.
 const WAITING: usize = 16 << 20;
 
 fn lock<T>(mutex: &Mutex<T>) -> MutexGuard<'_, T> {
@@ -22,25 +22,25 @@ fn wait<'a, T>(condition: &Condvar, guard: MutexGuard<'a, T>) -> MutexGuard<'a, 
     condition.wait(guard).unwrap_or_else(PoisonError::into_inner)
 }
 
-/// What was written and what was saved, as numbers in the file.
+/// What has been written and what has been saved, as numbers in the file.
 #[derive(Debug)]
 struct Line {
     waiting: Vec<Row>,
     waiting_bytes: usize,
-    /// When the first waiting write has to be saved.
+    /// The time by which the first waiting write must be saved.
     due: Option<Instant>,
     written: u64,
     saved: u64,
-    /// Whether someone is making a commit.
+    /// Whether a commit is in progress.
     is_saving: bool,
-    /// Whether someone is waiting for queued writes, so that they are saved immediately.
+    /// Whether a thread is waiting for queued writes, so that they must be saved immediately.
     is_urgent: bool,
     is_closed: bool,
     failed: Option<Arc<Error>>,
 }
 
 impl Line {
-    /// Takes the waiting rows, which are to be saved now.
+    /// Takes the waiting rows in order to save them now.
     fn take_rows(&mut self) -> Vec<Row> {
         self.due = None;
         self.is_urgent = false;
@@ -61,16 +61,16 @@ impl Line {
 #[derive(Debug)]
 struct Shared {
     line: Mutex<Line>,
-    /// Signals that something waits to be saved, or that the queue is closing.
+    /// Signals that there are writes to save, or that the queue is closing.
     work: Condvar,
-    /// Signals that something was saved, or that saving has failed.
+    /// Signals that writes have been saved, or that saving has failed.
     done: Condvar,
     /// `Some` until the queue is closed.
     file: Mutex<Option<File>>,
-    /// Whether the state of the file is to be rewritten.
+    /// Whether the file's state should be rewritten.
     is_due: AtomicBool,
     every: Option<Duration>,
-    /// What to add to a commit number of the store to get the number in the file.
+    /// What to add to a commit number in the store to get the number in the file.
     shift: i64,
 }
 
@@ -79,7 +79,7 @@ impl Shared {
         commit.wrapping_add(self.shift as u64)
     }
 
-    /// Waits until the entry with this number is saved.
+    /// Waits until the entry with this number has been saved.
     fn wait_for<'a>(&'a self, mut line: MutexGuard<'a, Line>, number: u64) -> std::result::Result<(), Arc<Error>> {
         while line.saved < number {
             if let Some(error) = &line.failed {
@@ -90,7 +90,7 @@ impl Shared {
         Ok(())
     }
 
-    /// Commits the waiting rows, or waits until someone else has done so.
+    /// Commits the waiting rows, or waits until another thread has done so.
     fn advance<'a>(&'a self, mut line: MutexGuard<'a, Line>) -> MutexGuard<'a, Line> {
         if self.every.is_none() && !line.is_saving {
             return self.save_rows(line);
@@ -102,7 +102,7 @@ impl Shared {
         wait(&self.done, line)
     }
 
-    /// Commits the waiting rows. Writes that come meanwhile wait for the next commit.
+    /// Commits the waiting rows. Writes that arrive in the meantime wait for the next commit.
     fn save_rows<'a>(&'a self, mut line: MutexGuard<'a, Line>) -> MutexGuard<'a, Line> {
         let rows = line.take_rows();
         drop(line);
@@ -119,7 +119,7 @@ impl Shared {
         line
     }
 
-    /// Waits until something has to be saved. Returns `None` at the end.
+    /// Waits until there are writes to save. Returns `None` at the end.
     fn next_work(&self) -> Option<MutexGuard<'_, Line>> {
         let mut line = lock(&self.line);
         loop {
@@ -137,7 +137,7 @@ impl Shared {
         }
     }
 
-    /// Saves the waiting rows repeatedly, until the end or until a commit fails.
+    /// Saves waiting rows in a loop, until the end or until a commit fails.
     fn save(&self) {
         while let Some(line) = self.next_work() {
             if self.save_rows(line).failed.is_some() {
@@ -158,7 +158,7 @@ impl Shared {
     }
 }
 
-/// A commit in progress. If it ends in a panic, nobody waits for it any more.
+/// A commit in progress. If it panics, no thread goes on waiting for it.
 struct Saving<'a>(&'a Shared);
 
 impl Drop for Saving<'_> {
@@ -204,7 +204,7 @@ impl Keeper for Shared {
     }
 }
 
-/// The queue of one file, and its saving thread if writes are saved within a given time.
+/// A file's queue and, if writes are saved within a given time, its saving thread.
 #[derive(Debug)]
 pub(super) struct Queue {
     shared: Arc<Shared>,
@@ -214,7 +214,8 @@ pub(super) struct Queue {
 }
 
 impl Queue {
-    /// Starts the thread if it is needed. The file's last entry has the number `number`, and the store's last entry has `in_memory`.
+    /// Starts the thread if it is needed. `number` is the number of the last entry in the file, and `in_memory` that of the last entry in
+    /// the store.
     pub(super) fn start(file: File, number: u64, in_memory: u64, every: Option<Duration>) -> Result<Self> {
         let shared = Arc::new(Shared {
             line: Mutex::new(Line {
@@ -269,28 +270,28 @@ impl Queue {
         lock(&self.shared.line).failed.clone()
     }
 
-    /// Waits until the entry with this number is saved, or if there is no number, until all entries are saved.
+    /// Waits until the entry with this number has been saved or, if no number is given, until all entries have been.
     pub(super) fn flush(&self, number: Option<u64>) -> Result<()> {
         let line = lock(&self.shared.line);
         let number = number.unwrap_or(line.written);
         self.shared.wait_for(line, number).map_err(Error::Stopped)
     }
 
-    /// Saves what is waiting, and ends the thread.
+    /// Saves all waiting writes and ends the thread.
     pub(super) fn close(&mut self) -> Result<()> {
         if mem::replace(&mut self.is_closed, true) {
             return Ok(());
         }
         let saving = self.saving.take();
         if !self.birthplace.is_here() {
-            // A forked child has no such thread, and the file belongs to the parent: the child must not close it.
+            // A forked child doesn't have that thread, and must not close the file, which belongs to the parent.
             mem::forget((saving, self.shared.clone()));
             return Ok(());
         }
         lock(&self.shared.line).is_closed = true;
         if let Some(saving) = saving {
             self.shared.work.notify_one();
-            // If the thread has panicked, whatever it hasn't saved is an error below.
+            // If the thread panicked, the flush below returns an error for anything that it hasn't saved.
             let _ = saving.join();
         }
         let flushed = self.flush(None);

@@ -1,4 +1,4 @@
-//! Kept shelves: each volume has its own file, and all files are in one folder.
+//! Kept shelves: each volume has its own file in a common folder.
 
 use super::{Error, Options, Result, Saved};
 use crate::{Shelf, ShelfPass, MOST_VOLUMES};
@@ -8,7 +8,7 @@ use std::io::ErrorKind;
 use std::os::unix::fs::DirBuilderExt;
 use std::path::Path;
 
-/// A shelf whose volumes are kept in files. It closes them when it is dropped.
+/// A shelf whose volumes are kept in files. The files are closed on drop.
 #[derive(Debug)]
 pub struct SavedShelf {
     shelf: Shelf,
@@ -16,13 +16,13 @@ pub struct SavedShelf {
 }
 
 impl Options {
-    /// Opens the volumes in the folder. Each has its own file: `0.bestore`, `1.bestore` and so on. If `volumes` is given, 1 to 64, it
-    /// creates the folder and the missing volumes. A new volume gets the indices that the others have. The options apply to each volume.
+    /// Opens the volumes in the folder, each in its own file: `0.bestore`, `1.bestore` and so on. If `volumes` is given (1 to 64), creates
+    /// the folder and any missing volumes. A new volume gets the indices that the others have. The options apply to each volume.
     ///
     /// # Errors
-    /// The same as [`open`](Self::open), in [`Error::OfVolume`]. [`Error::Folder`]: the folder can't be read or created. [`Error::Fewer`]:
-    /// the folder has more volumes than `volumes`, or it has none and no number is given. [`Error::NoFile`]: a volume is missing although a
-    /// later one exists.
+    /// The same as [`open`](Self::open), in [`Error::OfVolume`]. [`Error::Folder`] if the folder can't be read or created. [`Error::Fewer`]
+    /// if the folder has more volumes than `volumes`, or if it has none and `volumes` isn't given. [`Error::NoFile`] if a volume is missing
+    /// but a later one exists.
     pub fn open_shelf(&self, folder: impl AsRef<Path>, volumes: Option<u32>) -> Result<SavedShelf> {
         let folder = folder.as_ref();
         if !(1..=MOST_VOLUMES).contains(&volumes.unwrap_or(1)) {
@@ -57,7 +57,7 @@ fn make(folder: &Path) -> Result<()> {
 }
 
 impl SavedShelf {
-    /// Makes a shelf of these volumes. A volume that never had a node gets the indices that all the others have.
+    /// Creates a shelf of these volumes. A volume that has never had a node gets the indices that all others have.
     ///
     /// # Errors
     /// The same as [`Shelf::of_volumes`], and the errors of a write.
@@ -74,7 +74,7 @@ impl SavedShelf {
         &self.volumes
     }
 
-    /// Returns the volumes in memory. Writes by their own passes aren't saved.
+    /// Returns the in-memory shelf. Writes through passes taken from it aren't saved.
     #[must_use]
     pub fn shelf(&self) -> &Shelf {
         &self.shelf
@@ -85,7 +85,7 @@ impl SavedShelf {
         self.volumes.iter_mut().map(Saved::take_tokens).collect()
     }
 
-    /// Takes a pass, whose writes are saved.
+    /// Takes a pass whose writes are saved.
     ///
     /// # Errors
     /// The same as [`Shelf::pass`].
@@ -101,7 +101,7 @@ impl SavedShelf {
         outcome
     }
 
-    /// Returns an error from one volume, with the volume if there are several.
+    /// Returns a volume's error, with the volume's number if there are several.
     fn error(&self, volume: u32, error: Error) -> Error {
         match self.volumes.len() {
             1 => error,
@@ -112,26 +112,26 @@ impl SavedShelf {
     /// Waits until everything written before the call is in the files.
     ///
     /// # Errors
-    /// The same as [`Saved::flush`], for the first volume that can't be saved. The other volumes are saved.
+    /// The same as [`Saved::flush`], for the first volume that can't be saved. All others are saved.
     pub fn flush(&self) -> Result<()> {
         self.each(Saved::flush)
     }
 
-    /// Writes the current snapshots into the files, like [`Saved::compact`], one after another.
+    /// Writes the current snapshots to the files, one after another, like [`Saved::compact`].
     ///
     /// # Errors
-    /// The same as `Saved::compact`, for the first volume that can't be written. The other volumes are written.
+    /// The same as `Saved::compact`, for the first volume that can't be written. All others are written.
     pub fn compact(&self) -> Result<()> {
         self.each(Saved::compact)
     }
 
-    /// Returns whether a volume needs compacting, according to [`Saved::is_due`].
+    /// Returns whether any volume needs compacting, according to [`Saved::is_due`].
     #[must_use]
     pub fn is_due(&self) -> bool {
         self.volumes.iter().any(Saved::is_due)
     }
 
-    /// Compacts the volumes for which compacting [is due](Self::is_due).
+    /// Compacts the volumes for which it [is due](Self::is_due).
     ///
     /// # Errors
     /// The same as [`compact`](Self::compact).
@@ -142,7 +142,7 @@ impl SavedShelf {
         })
     }
 
-    /// Saves what was written, and closes the files. Passes that are still open can read.
+    /// Saves everything that has been written, and closes the files. Passes that are still open can only read.
     ///
     /// # Errors
     /// The same as [`flush`](Self::flush).

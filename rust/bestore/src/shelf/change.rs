@@ -1,13 +1,13 @@
-//! Changes to a shelf: they read all volumes and write one.
+//! Changes to a shelf, which read all volumes and write to one.
 
 use super::{ShelfPass, ShelfSnapshot};
 use crate::{Change, Error, Node, Result, Value};
 
-/// A change to a shelf in progress. The closure of [`ShelfPass::change`] reads the volumes through it, and collects operations in it. All
-/// operations are in one volume: the volume that was asked for, or the volume of the first operation.
+/// A change to a shelf in progress. Through it, the closure of [`ShelfPass::change`] reads the volumes and collects operations. All
+/// operations are in one volume: the one that was asked for, or that of the first operation.
 ///
-/// [`get`](Self::get) reads the snapshot with the operations so far applied. [`snapshot`](Self::snapshot) returns the snapshot on which
-/// they are based.
+/// [`get`](Self::get) reads the snapshot with the operations so far applied. [`snapshot`](Self::snapshot) returns the snapshot without
+/// them.
 #[derive(Debug)]
 pub struct ShelfChange<'a> {
     snapshot: &'a ShelfSnapshot<'a>,
@@ -23,13 +23,13 @@ impl<'a> ShelfChange<'a> {
         self.snapshot
     }
 
-    /// Returns the volume that is written, if it is known yet.
+    /// Returns the volume that will be written to, if it has been determined.
     #[must_use]
     pub fn volume(&self) -> Option<u32> {
         self.volume
     }
 
-    /// Returns the change to this volume.
+    /// Returns the change in this volume.
     fn in_volume(&mut self, volume: u32) -> Result<&mut Change<'a>> {
         if *self.volume.get_or_insert(volume) != volume {
             return Err(Error::OtherVolume {
@@ -47,7 +47,7 @@ impl<'a> ShelfChange<'a> {
         self.change.as_mut().ok_or(Error::NoNode)
     }
 
-    /// Returns the change to the node's volume, and the node's number in that volume.
+    /// Returns the change in the node's volume, and the node's number there.
     fn of_node(&mut self, node: u64) -> Result<(&mut Change<'a>, u64)> {
         let Node { volume, number } = node.into();
         if self.snapshot.volume(volume).is_err() {
@@ -56,7 +56,7 @@ impl<'a> ShelfChange<'a> {
         Ok((self.in_volume(volume)?, number))
     }
 
-    /// Returns an attribute as the operations so far leave it, or `None` if the node or the attribute doesn't exist then.
+    /// Returns an attribute as it is after the operations so far, or `None` if the node or the attribute doesn't exist then.
     ///
     /// # Errors
     /// The same as [`ShelfSnapshot::get`].
@@ -77,11 +77,11 @@ impl<'a> ShelfChange<'a> {
         self
     }
 
-    /// Makes a node, and returns the number that it will have. If no volume was asked for and this is the first operation, the node goes to
-    /// the volume with the most free pages.
+    /// Creates a node and returns the number that it will have. If no volume was asked for and this is the first operation, the node goes
+    /// to the volume with the most free pages.
     ///
     /// # Errors
-    /// [`Error::NoVolume`]: the volume that was asked for doesn't exist. Otherwise the same as [`ShelfSnapshot::roomiest`].
+    /// [`Error::NoVolume`] if the volume that was asked for doesn't exist. Otherwise the same as [`ShelfSnapshot::roomiest`].
     pub fn new_node(&mut self) -> Result<u64> {
         let volume = self.volume.map_or_else(|| self.snapshot.roomiest(), Ok)?;
         let number = self.in_volume(volume)?.new_node();
@@ -91,7 +91,7 @@ impl<'a> ShelfChange<'a> {
     /// Removes the node and all its attributes.
     ///
     /// # Errors
-    /// [`Error::OtherVolume`]: an earlier operation is in another volume. [`Error::NoNode`]: there is no such volume.
+    /// [`Error::OtherVolume`] if an earlier operation is in another volume. [`Error::NoNode`] if there is no such volume.
     pub fn remove_node(&mut self, node: u64) -> Result<&mut Self> {
         let (change, number) = self.of_node(node)?;
         change.remove_node(number);
@@ -118,7 +118,7 @@ impl<'a> ShelfChange<'a> {
         Ok(self)
     }
 
-    /// Runs the closure on one snapshot after another, until its operations are written on the snapshot that it has read.
+    /// Runs the closure on newer and newer snapshots until its operations have been written on top of the one that it read.
     pub(super) fn run<T>(
         pass: &mut ShelfPass,
         volume: Option<u32>,

@@ -5,7 +5,8 @@ use crate::{Live, Result, Snapshot, Updates};
 use bestore_types::raw::extend;
 use std::collections::BTreeSet;
 
-/// A live query over all volumes: each refresh returns what changed since the last one. The first refresh returns all nodes of the answer.
+/// A live query over all volumes: each refresh returns what has changed since the last one. The first refresh returns all nodes in the
+/// result.
 ///
 /// ```
 /// # use bestore::{Kind, Limits, Shelf, ShelfLive};
@@ -20,9 +21,9 @@ use std::collections::BTreeSet;
 #[derive(Debug)]
 pub struct ShelfLive {
     text: String,
-    /// The query for each volume that has been read so far.
+    /// The query in each volume that has been read so far.
     volumes: Vec<Live>,
-    /// What a refresh found before it failed in another volume.
+    /// What a refresh had found before it failed in a later volume.
     pending: Updates,
 }
 
@@ -39,18 +40,19 @@ impl ShelfLive {
         })
     }
 
-    /// Runs the whole query in each volume, and compares the answer with the answer at the last refresh. Use snapshots of one shelf.
+    /// Runs the whole query in each volume, and compares the result with that of the last refresh. Always use snapshots of the same shelf.
     ///
     /// # Errors
-    /// The same as [`ShelfSnapshot::query`]. The next refresh that succeeds also returns the changes that this one found.
+    /// The same as [`ShelfSnapshot::query`]. The next successful refresh also returns the changes that this one has found.
     pub fn refresh(&mut self, snapshot: &ShelfSnapshot<'_>) -> Result<Updates> {
         self.refresh_by(snapshot, Live::refresh)
     }
 
-    /// Returns what [`refresh`](Self::refresh) does, but uses [`Live::refresh_changed`] in each volume, which explains when that is faster.
+    /// Returns the same as [`refresh`](Self::refresh), but uses [`Live::refresh_changed`] in each volume; see there for when that is
+    /// faster.
     ///
     /// # Errors
-    /// The same as [`Live::refresh_changed`]. The next refresh that succeeds also returns the changes that this one found.
+    /// The same as [`Live::refresh_changed`]. The next successful refresh also returns the changes that this one has found.
     pub fn refresh_changed(&mut self, snapshot: &ShelfSnapshot<'_>) -> Result<Updates> {
         self.refresh_by(snapshot, Live::refresh_changed)
     }
@@ -79,7 +81,7 @@ impl ShelfLive {
 /// A refresh of one volume.
 type Refresh = fn(&mut Live, &Snapshot<'_>) -> Result<Updates>;
 
-/// Combines two changes, made one after the other.
+/// Combines two successive changes.
 fn after(first: Updates, then: Updates) -> Updates {
     if first == Updates::default() {
         return then;

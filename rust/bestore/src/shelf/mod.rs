@@ -1,7 +1,7 @@
-//! Shelves: several stores that one query searches.
+//! Shelves: groups of stores that a single query can search.
 //!
-//! A [`Shelf`] has 1 to 64 stores, its *volumes*, so it can hold more nodes than one store. A query searches all of them, and a
-//! [node](crate::Node) says which volume it is in. A node never leaves its volume.
+//! A [`Shelf`] has 1 to 64 stores, its *volumes*, so it can hold more nodes than a single store. A query searches all of them, and a
+//! [node](crate::Node) contains the number of its volume. A node never leaves its volume.
 //!
 //! ```
 //! use bestore::{Kind, Limits, Node, Shelf};
@@ -27,8 +27,8 @@
 //!
 //! # What is promised
 //!
-//! Each volume by itself keeps the promises of a store: its writes are serializable in its journal, and reads see one snapshot of it.
-//! Across volumes there is no order:
+//! Each volume by itself keeps a store's promises: its writes are serializable in the order of its journal, and reads see one snapshot of
+//! it. Across volumes there is no order:
 //!
 //! A [`ShelfSnapshot`] has a snapshot of each volume. The volumes are pinned one after another, so it may contain a later write to one
 //!   volume and lack an earlier write to another. It contains everything that its pass has written or seen.
@@ -48,11 +48,11 @@ use crate::{Error, Limits, Pass, Result, Store, MOST_VOLUMES};
 use bestore_types::raw::fits;
 use std::sync::{Arc, Mutex};
 
-/// Several stores that one query searches. Clones share the same shelf, and each thread can make its pass from a clone.
+/// A group of stores that a single query can search. Clones share the same shelf, and each thread can take its pass from a clone.
 #[derive(Clone, Debug)]
 pub struct Shelf {
     volumes: Vec<Store>,
-    /// Held while indices are made or removed.
+    /// Locked while indices are created or removed.
     indexing: Arc<Mutex<()>>,
 }
 
@@ -67,11 +67,11 @@ impl Shelf {
         Self::of_volumes(volumes)
     }
 
-    /// Makes a shelf of these stores, 1 to 64. You may use passes of the stores themselves as well.
+    /// Creates a shelf of these stores, 1 to 64. You may also use the stores' own passes.
     ///
     /// # Errors
-    /// [`Error::BadLimits`]: there are no volumes or too many. [`Error::NodesSpent`] with the volume, if the number of its next node
-    /// doesn't fit into a shelf. [`Error::Forked`].
+    /// [`Error::BadLimits`] if there are no volumes or too many. [`Error::NodesSpent`] with the volume if the number of its next node is
+    /// too large for a shelf. [`Error::Forked`].
     pub fn of_volumes(volumes: Vec<Store>) -> Result<Self> {
         check_count(u32::try_from(volumes.len()).unwrap_or(u32::MAX))?;
         for (volume, store) in (0..).zip(&volumes) {
@@ -91,10 +91,10 @@ impl Shelf {
         &self.volumes
     }
 
-    /// Carries on each volume for which this [is due](Store::is_due), one after another, like [`Store::carry_on`].
+    /// Carries on each volume that [is due](Store::is_due), one after another, like [`Store::carry_on`].
     ///
     /// # Errors
-    /// The same as `Store::carry_on`, for the first volume that can't be carried on. The other volumes are carried on.
+    /// The same as `Store::carry_on`, for the first volume that can't be carried on. All others are carried on.
     pub fn carry_on_if_due(&self) -> Result<()> {
         let mut outcome = Ok(());
         for (volume, store) in (0..).zip(&self.volumes) {
@@ -105,19 +105,19 @@ impl Shelf {
         outcome
     }
 
-    /// Returns whether a volume is due to be carried on, like [`Store::is_due`].
+    /// Returns whether any volume is due to be carried on, like [`Store::is_due`].
     #[must_use]
     pub fn is_due(&self) -> bool {
         self.volumes.iter().any(Store::is_due)
     }
 
-    /// Returns whether a pass still holds what was carried on, like [`Store::is_read_before`].
+    /// Returns whether a pass still holds old memory in any volume, like [`Store::is_read_before`].
     #[must_use]
     pub fn is_read_before(&self) -> bool {
         self.volumes.iter().any(Store::is_read_before)
     }
 
-    /// Returns an error from one volume, with the volume if there are several.
+    /// Returns a volume's error, with the volume's number if there are several.
     fn error(&self, volume: u32, error: Error) -> Error {
         match self.volumes.len() {
             1 => error,
@@ -128,12 +128,12 @@ impl Shelf {
     /// Takes a pass from each volume.
     ///
     /// # Errors
-    /// The same as [`Store::pass`]. If there is an error, no pass is taken.
+    /// The same as [`Store::pass`]. After an error, no pass has been taken.
     pub fn pass(&self) -> Result<ShelfPass> {
         self.pass_of(self.volumes.iter().map(Store::pass))
     }
 
-    /// Makes the shelf's pass from these passes of its volumes.
+    /// Creates the shelf's pass from these passes of its volumes.
     pub(crate) fn pass_of(&self, passes: impl Iterator<Item = Result<Pass>>) -> Result<ShelfPass> {
         let passes = (0..).zip(passes);
         let passes = passes.map(|(volume, pass)| pass.map_err(|error| self.error(volume, error)));

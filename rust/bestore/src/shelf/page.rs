@@ -1,4 +1,4 @@
-//! Pages over all volumes: the pages of the volumes, merged.
+//! Pages over all volumes, merged from the pages of each.
 
 use super::ShelfSnapshot;
 use crate::page::begin;
@@ -9,7 +9,8 @@ use std::cmp::Ordering;
 use std::collections::VecDeque;
 
 impl<'a> ShelfSnapshot<'a> {
-    /// Returns an iterator over the nodes that the query finds in all volumes, in an order. The iterator reads page after page.
+    /// Returns an iterator over the nodes that the query finds in all volumes, in the given order. The iterator reads one page after
+    /// another.
     ///
     /// # Errors
     /// The same as [`Snapshot::ordered`].
@@ -17,8 +18,8 @@ impl<'a> ShelfSnapshot<'a> {
         Ok(Ordered::of_shelf(self, Prepared::new(text)?, order))
     }
 
-    /// Returns a page over all volumes, like [`Snapshot::page`]. Nodes with equal values are sorted by their integers. It costs about as
-    /// much as one page from each volume.
+    /// Returns a page over all volumes, like [`Snapshot::page`]. Nodes with equal values are sorted by their integers. The cost is about
+    /// that of one page from each volume.
     ///
     /// # Errors
     /// The same as [`Snapshot::page`], with the volume. [`Error::NoOrder`] for the first volume that lacks the index, or whose index has a
@@ -44,7 +45,7 @@ impl<'a> ShelfSnapshot<'a> {
         })
     }
 
-    /// Returns an error unless all volumes have the index, with the same kind.
+    /// Returns an error unless all volumes have the index and it has the same kind in each.
     fn check_kinds(&self, order: &Order) -> Result<()> {
         let mut first = None;
         for (volume, snapshot) in (0..).zip(self.volumes()) {
@@ -58,7 +59,7 @@ impl<'a> ShelfSnapshot<'a> {
         Ok(())
     }
 
-    /// Returns the first `most` nodes that the query finds in all volumes, in ascending order, starting at this one.
+    /// Returns the first `most` nodes that the query finds in all volumes, in ascending order from this one on.
     ///
     /// # Errors
     /// The same as [`Snapshot::first`].
@@ -95,7 +96,7 @@ impl<'a> ShelfSnapshot<'a> {
         self.some(most, |_, snapshot, most| snapshot.any_prepared(prepared, most))
     }
 
-    /// Collects what is found in one volume after another, until there are `most` nodes.
+    /// Collects nodes from one volume after another until there are `most`.
     fn some(&self, most: usize, find: impl Fn(u32, &Snapshot<'a>, usize) -> Result<Vec<u64>>) -> Result<Vec<u64>> {
         if most == 0 {
             return Err(Error::NoRoom);
@@ -111,25 +112,25 @@ impl<'a> ShelfSnapshot<'a> {
     }
 }
 
-/// Merges the pages of the volumes.
+/// Merges the volumes' pages.
 struct Merge<'s, 'a> {
     shelf: &'s ShelfSnapshot<'a>,
     prepared: &'s Prepared,
     volumes: Vec<Ahead>,
-    /// How many nodes to ask a volume for at a time.
+    /// How many nodes to request from a volume at a time.
     most: usize,
     /// The position of the last node taken.
     last: Cursor,
 }
 
-/// What was read from a volume and hasn't been taken yet.
+/// The nodes that have been read from a volume but not taken yet.
 struct Ahead {
     nodes: VecDeque<Keyed>,
-    /// The position from which the volume continues, if it has more.
+    /// The position from which to continue in the volume, if it has more nodes.
     after: Option<Cursor>,
 }
 
-/// A node with its value and its key. The key contains the node's integer in the shelf.
+/// A node with its value and its key. The key contains the integer that the node has in the shelf.
 struct Keyed {
     key: Vec<u8>,
     value: Value,
@@ -154,7 +155,7 @@ impl<'s, 'a> Merge<'s, 'a> {
         Ok(merge)
     }
 
-    /// Reads the next page from a volume, if all of the last page has been taken and the volume has more.
+    /// Reads the next page from a volume if the whole last page has been taken and the volume has more nodes.
     fn read_on(&mut self, volume: usize) -> Result<()> {
         let ahead = &mut self.volumes[volume];
         if !ahead.nodes.is_empty() {
@@ -203,7 +204,7 @@ impl<'s, 'a> Merge<'s, 'a> {
     }
 }
 
-/// A volume is asked for at least this many nodes, if the page has space for them.
+/// At least this many nodes are requested from a volume if the page has room for them.
 const LEAST_ASKED: usize = 8;
 
 fn keyed_in(volume: u32, number: u64, value: Value) -> Option<Keyed> {
@@ -212,13 +213,13 @@ fn keyed_in(volume: u32, number: u64, value: Value) -> Option<Keyed> {
     Some(Keyed { key, value, node })
 }
 
-/// Returns the position in a volume for a cursor of the shelf. Among the nodes with the cursor's value, the nodes of lower volumes come
-/// before it in ascending order, and the nodes of higher volumes after it.
+/// Returns the position in a volume that corresponds to a cursor of the shelf. In ascending order, among the nodes that have the cursor's
+/// value, those in lower volumes come before it, and those in higher volumes after it.
 fn of_volume(after: &Cursor, volume: u32) -> Cursor {
     match after.node().map(Node::from) {
         None => after.clone(),
         Some(last) => after.with_node(match volume.cmp(&last.volume) {
-            // No node has the greatest number or 0, so these positions come after and before all nodes with that value.
+            // No node has the greatest number or 0, so these positions are after and before all nodes that have the value.
             Ordering::Less => u64::MAX,
             Ordering::Equal => last.number,
             Ordering::Greater => 0,

@@ -1,4 +1,4 @@
-//! Passes of a shelf: a pass of each volume.
+//! A shelf's passes, each of which has a pass of every volume.
 
 use super::snapshot::{at, roomiest};
 use super::{ShelfChange, ShelfSnapshot};
@@ -11,20 +11,20 @@ use std::time::{Duration, Instant};
 /// How often [`ShelfPass::reach`] checks.
 const LOOK: Duration = Duration::from_millis(2);
 
-/// An accepted transaction of a shelf.
+/// A transaction committed to a shelf.
 #[derive(Clone, Debug, PartialEq, Eq)]
 pub struct ShelfWritten {
     /// The volume that was written to.
     pub volume: u32,
     /// The commit number in that volume.
     pub number: u64,
-    /// The nodes that the transaction made, in the order of the operations.
+    /// The nodes that the transaction created, in the order of its operations.
     pub nodes: Vec<u64>,
 }
 
-/// A pass of a shelf: a pass of each volume, for one thread at a time.
+/// A shelf's pass: a pass of each volume, used by one thread at a time.
 ///
-/// If there are several volumes, [`Error::volume`] says which one an error comes from.
+/// If there are several volumes, [`Error::volume`] returns the one that an error comes from.
 #[derive(Debug)]
 pub struct ShelfPass {
     volumes: Vec<Pass>,
@@ -36,8 +36,8 @@ impl ShelfPass {
         Self { volumes, indexing }
     }
 
-    /// Returns the pass, whose writes go through the keeper of their volume from now on, as with [`Pass::kept_by`]. Keepers get the
-    /// volume's own node numbers.
+    /// Returns the pass with keepers: from now on, each write goes through the keeper of its volume, as with [`Pass::kept_by`]. Keepers get
+    /// the volume's own node numbers.
     #[must_use]
     pub fn kept_by(self, keeper: impl Fn(u32) -> Arc<dyn Keeper>) -> Self {
         let passes = (0..).zip(self.volumes);
@@ -47,13 +47,13 @@ impl ShelfPass {
         }
     }
 
-    /// Returns the pass of each volume. These passes use the volume's own node numbers, and can also write.
+    /// Returns the pass of each volume. These passes use the volumes' own node numbers, and can also write.
     #[must_use]
     pub fn volumes(&self) -> &[Pass] {
         &self.volumes
     }
 
-    /// Returns the pass of a volume.
+    /// Returns a volume's pass.
     ///
     /// # Errors
     /// [`Error::NoVolume`].
@@ -61,7 +61,7 @@ impl ShelfPass {
         at(&self.volumes, volume)
     }
 
-    /// Sets how many times this pass retries its calls.
+    /// Sets how many times this pass retries a call.
     pub fn set_retry(&mut self, retry: Retry) {
         self.volumes.iter_mut().for_each(|pass| pass.set_retry(retry));
     }
@@ -78,7 +78,7 @@ impl ShelfPass {
         }
     }
 
-    /// Pins the current snapshot of each volume, one after another. You can read the snapshots until they are dropped.
+    /// Pins the current snapshot of each volume, one volume after another. The snapshots can be read until they are dropped.
     ///
     /// # Errors
     /// [`Error::Forked`].
@@ -96,12 +96,12 @@ impl ShelfPass {
         self.volumes.iter_mut().map(Pass::hold).collect()
     }
 
-    /// Unpins the held snapshots, if there are any.
+    /// Unpins the held snapshots, if any.
     pub fn release(&mut self) {
         self.volumes.iter_mut().for_each(Pass::release);
     }
 
-    /// Gives up what was carried on in each volume, like [`Pass::follow`].
+    /// Releases old memory in each volume, like [`Pass::follow`].
     ///
     /// # Errors
     /// The same as that call.
@@ -113,13 +113,13 @@ impl ShelfPass {
         Ok(has_followed)
     }
 
-    /// Writes all operations of the batch or none, in the volume of the nodes that they name. If they name no node, the batch goes to the
-    /// volume with the most free pages.
+    /// Writes either all of the batch's operations or none, in the volume of the nodes to which they refer. If they don't refer to any
+    /// node, the batch goes to the volume with the most free pages.
     ///
     /// # Errors
-    /// [`Error::OtherVolume`] with the first operation that names a node in another volume. [`Error::NoNode`] if that volume doesn't exist.
-    /// [`Error::PartialIndex`] if an operation makes or removes an index and there are several volumes; use
-    /// [`make_index`](Self::make_index). Otherwise the same as [`Pass::apply`].
+    /// [`Error::OtherVolume`] with the first operation that refers to a node in another volume. [`Error::NoNode`] if the volume doesn't
+    /// exist. [`Error::PartialIndex`] if an operation creates or removes an index and there are several volumes; use
+    /// [`make_index`](Self::make_index) instead. Otherwise the same as [`Pass::apply`].
     pub fn apply(&self, batch: &Batch) -> Result<ShelfWritten> {
         batch.check_no_index(self.volumes.len())?;
         let (volume, within) = batch.to_volume(None)?;
@@ -130,7 +130,7 @@ impl ShelfPass {
         }
     }
 
-    /// Writes like [`apply`](Self::apply), but in this volume. It can make an index in this volume only.
+    /// Writes like [`apply`](Self::apply), but in this volume. The batch may create an index in this volume alone.
     ///
     /// # Errors
     /// [`Error::NoVolume`]; otherwise the same as `apply`.
@@ -138,16 +138,16 @@ impl ShelfPass {
         self.write(volume, None, &self.within(volume, batch)?)
     }
 
-    /// Writes like [`apply_in`](Self::apply_in), but only if the volume's journal has exactly `expected` entries. Data read from other
-    /// volumes may have changed.
+    /// Writes like [`apply_in`](Self::apply_in), but only if the volume's journal has exactly `expected` entries. Data that was read from
+    /// other volumes may have changed.
     ///
     /// # Errors
-    /// [`Error::Conflict`] if the journal has another length; otherwise the same as `apply_in`.
+    /// [`Error::Conflict`] if the journal's length differs; otherwise the same as `apply_in`.
     pub fn apply_in_if(&self, volume: u32, expected: u64, batch: &Batch) -> Result<ShelfWritten> {
         self.write(volume, Some(expected), &self.within(volume, batch)?)
     }
 
-    /// Returns the batch with the node numbers in this volume.
+    /// Returns the batch with this volume's own node numbers.
     fn within(&self, volume: u32, batch: &Batch) -> Result<Batch> {
         self.volume(volume)?;
         Ok(batch.to_volume(Some(volume))?.1)
@@ -176,13 +176,13 @@ impl ShelfPass {
     /// nothing else has been written there since. Data that the closure read from other volumes may have changed.
     ///
     /// # Errors
-    /// The closure's errors; [`Error::Conflict`] after as many tries as [`Retry::conflict`] says; otherwise the same as
+    /// The closure's errors; [`Error::Conflict`] once the retries set by [`Retry::conflict`] are used up; otherwise the same as
     /// [`apply`](Self::apply).
     pub fn change<T>(&mut self, mut change: impl FnMut(&mut ShelfChange<'_>) -> Result<T>) -> Result<T> {
         ShelfChange::run(self, None, &mut change)
     }
 
-    /// The same, but writes to this volume.
+    /// Like [`change`](Self::change), but writes to this volume.
     ///
     /// # Errors
     /// [`Error::NoVolume`]; otherwise the same as [`change`](Self::change).
@@ -195,7 +195,7 @@ impl ShelfPass {
         ShelfChange::run(self, Some(volume), &mut change)
     }
 
-    /// Makes a node in the volume with the most free pages. This call and the next three write like [`apply`](Self::apply).
+    /// Creates a node in the volume with the most free pages. This call and the next three write like [`apply`](Self::apply).
     ///
     /// # Errors
     /// The same as `apply`.
@@ -227,7 +227,7 @@ impl ShelfPass {
         self.apply(Batch::new().unset(node, name)).map(drop)
     }
 
-    /// Makes an index with this name for values of this kind in each volume, like [`ShelfSnapshot::make_index`] on a new snapshot.
+    /// Creates an index with this name for values of this kind in each volume, like [`ShelfSnapshot::make_index`] on a new snapshot.
     ///
     /// # Errors
     /// The same as that call.
@@ -235,11 +235,11 @@ impl ShelfPass {
         self.pin()?.make_index(name, kind)
     }
 
-    /// Sets attributes that the index with this name lacks to the same values again, like [`Pass::reindex`] in each volume. Returns how many
-    /// were set.
+    /// Adds to the index of this name the attributes that it lacks, by setting them to the same values again, like [`Pass::reindex`] in
+    /// each volume. Returns how many were set.
     ///
     /// # Errors
-    /// [`Error::NoIndex`]: a volume lacks the index. Otherwise the same as `Pass::reindex`.
+    /// [`Error::NoIndex`] if a volume lacks the index. Otherwise the same as `Pass::reindex`.
     pub fn reindex(&mut self, name: &str) -> Result<u64> {
         let indices = self.pin()?.indices()?;
         if !indices.iter().any(|(index, _)| index == name) {
@@ -262,7 +262,7 @@ impl ShelfPass {
         self.pin()?.remove_index(name)
     }
 
-    /// Returns how full each volume is.
+    /// Returns each volume's usage.
     ///
     /// # Errors
     /// The same as [`Pass::status`].
@@ -272,8 +272,8 @@ impl ShelfPass {
         all.collect()
     }
 
-    /// Returns the volume with the most free pages, or the first of several such volumes. If the shelf has more than one volume, each
-    /// volume's status is read.
+    /// Returns the volume with the most free pages; of several such volumes, the first. If the shelf has more than one volume, this reads
+    /// each volume's status.
     ///
     /// # Errors
     /// The same as [`Pass::status`].
@@ -281,12 +281,12 @@ impl ShelfPass {
         roomiest(self.volumes.iter())
     }
 
-    /// Waits up to this time until the journal of each volume has at least this many entries. A volume without a number isn't waited for.
-    /// Snapshots that the pass pins afterwards include the entries. Returns whether the entries came in time. It reads each volume's status
-    /// every 2 milliseconds.
+    /// Waits, for at most this time, until each volume's journal has at least this many entries. Volumes for which no number is given
+    /// aren't waited for. Returns whether the entries arrived in time; snapshots that the pass pins afterwards include them. This reads
+    /// each volume's status every 2 milliseconds.
     ///
     /// # Errors
-    /// [`Error::NoVolume`]: there are more numbers than volumes; otherwise the same as [`Pass::status`].
+    /// [`Error::NoVolume`] if there are more numbers than volumes; otherwise the same as [`Pass::status`].
     pub fn reach(&self, numbers: &[u64], within: Duration) -> Result<bool> {
         if numbers.len() > self.volumes.len() {
             return self.volume(self.volumes.len() as u32).map(|_| false);
@@ -304,7 +304,8 @@ impl ShelfPass {
         }
     }
 
-    /// Finds the indices that all other volumes have, and makes them in each volume that never had a node, so that they are complete there.
+    /// Creates, in each volume that has never had a node, the indices that all other volumes have. Because such a volume has no attributes
+    /// yet, the new indices are complete.
     #[cfg(feature = "saved")]
     pub(crate) fn index_new_volumes(&mut self) -> Result<()> {
         let mut new = Vec::new();

@@ -5,10 +5,10 @@ use bestore_types::raw::extend;
 use std::collections::BTreeMap;
 use std::sync::{Mutex, PoisonError};
 
-/// A snapshot of each volume. The volumes are pinned one after another, so the shelf's snapshot may contain a later write to one volume and
+/// A snapshot of each volume. The volumes are pinned one after another, so the shelf's snapshot may include a later write to one volume but
 /// lack an earlier write to another.
 ///
-/// If there are several volumes, [`Error::volume`] says which one an error comes from.
+/// If there are several volumes, [`Error::volume`] returns the one that an error comes from.
 #[derive(Debug)]
 pub struct ShelfSnapshot<'a> {
     volumes: Vec<Snapshot<'a>>,
@@ -21,7 +21,7 @@ impl<'a> ShelfSnapshot<'a> {
         Ok(Self { volumes, indexing })
     }
 
-    /// Returns how many entries from all volumes' journals the snapshot contains in total.
+    /// Returns the total number of entries that the snapshot contains from all volumes' journals.
     #[must_use]
     pub fn number(&self) -> u64 {
         self.numbers().sum()
@@ -32,13 +32,13 @@ impl<'a> ShelfSnapshot<'a> {
         self.volumes.iter().map(Snapshot::number)
     }
 
-    /// Returns the snapshot of each volume. These snapshots use the volume's own node numbers.
+    /// Returns the snapshot of each volume. These snapshots use the volumes' own node numbers.
     #[must_use]
     pub fn volumes(&self) -> &[Snapshot<'a>] {
         &self.volumes
     }
 
-    /// Returns the snapshot of a volume.
+    /// Returns a volume's snapshot.
     ///
     /// # Errors
     /// [`Error::NoVolume`].
@@ -50,7 +50,7 @@ impl<'a> ShelfSnapshot<'a> {
         (0..).zip(&self.volumes)
     }
 
-    /// Returns an error from one volume, with the volume if there are several.
+    /// Returns a volume's error, with the volume's number if there are several.
     pub(super) fn error(&self, volume: u32, error: Error) -> Error {
         match self.volumes.len() {
             1 => error,
@@ -58,7 +58,7 @@ impl<'a> ShelfSnapshot<'a> {
         }
     }
 
-    /// Returns the snapshot that may have the node, and the node's number in that volume.
+    /// Returns the snapshot of the node's volume, and the node's number there.
     fn place(&self, node: u64) -> Option<(&Snapshot<'a>, u64)> {
         let node = Node::from(node);
         Some((self.volumes.get(node.volume as usize)?, node.number))
@@ -76,7 +76,7 @@ impl<'a> ShelfSnapshot<'a> {
     /// Returns the nodes that the query finds in all volumes, in ascending order. The text is parsed once.
     ///
     /// # Errors
-    /// The same as [`Snapshot::query`]. If some volumes can't answer the query, the error names the first such volume.
+    /// The same as [`Snapshot::query`]. If some volumes can't answer the query, the error names the first of them.
     pub fn query(&self, text: &str) -> Result<Vec<u64>> {
         if let [only] = &self.volumes[..] {
             return only.query(text);
@@ -84,7 +84,7 @@ impl<'a> ShelfSnapshot<'a> {
         let prepared = Prepared::new(text)?;
         self.found(|snapshot| {
             let found = snapshot.query_prepared(&prepared);
-            // The prepared query's error gives a wrong position in this text.
+            // The prepared query's error has an offset that is wrong for this text.
             found.or_else(|_| snapshot.query(text))
         })
     }
@@ -97,7 +97,7 @@ impl<'a> ShelfSnapshot<'a> {
         self.found(|snapshot| snapshot.query_prepared(prepared))
     }
 
-    /// Returns how many nodes the query finds in all volumes. It costs as much as the query, except for the list.
+    /// Returns how many nodes the query finds in all volumes. This costs as much as running the query, except for the list.
     ///
     /// # Errors
     /// The same as [`query`](Self::query).
@@ -105,7 +105,7 @@ impl<'a> ShelfSnapshot<'a> {
         let prepared = Prepared::new(text)?;
         self.sum(|snapshot| {
             let counted = snapshot.count_prepared(&prepared);
-            // The prepared query's error gives a wrong position in this text.
+            // The prepared query's error has an offset that is wrong for this text.
             counted.or_else(|_| snapshot.count(text))
         })
     }
@@ -118,7 +118,7 @@ impl<'a> ShelfSnapshot<'a> {
         self.sum(|snapshot| snapshot.count_prepared(prepared))
     }
 
-    /// Returns how many pairs of a value and a node the index with this name has in all volumes.
+    /// Returns how many entries the index of this name has in all volumes, each a value and a node.
     ///
     /// # Errors
     /// The same as [`Snapshot::pairs`].
@@ -134,7 +134,7 @@ impl<'a> ShelfSnapshot<'a> {
         counts.sum()
     }
 
-    /// Returns the comparisons in a query that are never true, judging by the indices that every volume has with the same kind.
+    /// Returns the comparisons in a query that are never true, given the indices that every volume has and that have the same kind in each.
     ///
     /// # Errors
     /// The same as [`Snapshot::hints`].
@@ -143,8 +143,8 @@ impl<'a> ShelfSnapshot<'a> {
         hints(text, |name| indices.get(name).copied())
     }
 
-    /// Returns the indices chosen for the query in the first volume, and the cost there. The other volumes choose the same if they have the
-    /// same indices.
+    /// Returns the indices chosen for the query in the first volume, and its cost there. The other volumes choose the same ones if they
+    /// have the same indices.
     ///
     /// # Errors
     /// The same as [`query`](Self::query).
@@ -188,7 +188,7 @@ impl<'a> ShelfSnapshot<'a> {
         }
     }
 
-    /// Returns the attributes of a node, sorted by name.
+    /// Returns a node's attributes, sorted by name.
     ///
     /// # Errors
     /// The same as [`Snapshot::attributes`].
@@ -197,7 +197,7 @@ impl<'a> ShelfSnapshot<'a> {
         snapshot.attributes(number)
     }
 
-    /// Returns the volumes that have each index, with the index's kind there. The indices are sorted by name.
+    /// Returns, for each index, the volumes that have it and its kind in each of them. The indices are sorted by name.
     fn all_indices(&self) -> Result<BTreeMap<String, Vec<(u32, Kind)>>> {
         let mut indices: BTreeMap<String, Vec<(u32, Kind)>> = BTreeMap::new();
         for (volume, snapshot) in self.each() {
@@ -208,7 +208,7 @@ impl<'a> ShelfSnapshot<'a> {
         Ok(indices)
     }
 
-    /// Returns the kind of an index, if every volume has the index with the same kind.
+    /// Returns an index's kind if every volume has the index with the same kind.
     fn common_kind(&self, volumes: &[(u32, Kind)]) -> Option<Kind> {
         let (_, kind) = volumes[0];
         let is_common = volumes.len() == self.volumes.len() && volumes.iter().all(|(_, other)| *other == kind);
@@ -228,7 +228,7 @@ impl<'a> ShelfSnapshot<'a> {
         Ok(common.collect())
     }
 
-    /// Returns the indices that some volumes lack or have with another kind, with the volumes that have them.
+    /// Returns the indices that some volumes lack or have with a different kind, along with the volumes that have them.
     ///
     /// # Errors
     /// The same as [`Snapshot::indices`].
@@ -240,13 +240,13 @@ impl<'a> ShelfSnapshot<'a> {
             .collect())
     }
 
-    /// Makes an index with this name for values of this kind in each volume that has none, one volume after another. Until it is done, no
-    /// other call on the shelf makes or removes indices in all volumes.
+    /// Creates an index with this name for values of this kind in each volume that has none, one volume after another. Until it is done, no
+    /// other call on the shelf creates or removes indices in all volumes.
     ///
     /// # Errors
-    /// [`Error::IndexExists`] if each volume has the index, or if in this snapshot a volume has it with another kind. The error then names
-    /// that volume, and nothing was written. Otherwise the same as [`Pass::apply`], with the volume that refuses. The volumes before it
-    /// have the index, and the same call makes the index in the others.
+    /// [`Error::IndexExists`] if every volume has the index, or if in this snapshot a volume has it with another kind; in that case the
+    /// error names the volume, and nothing has been written. Otherwise the same as [`Pass::apply`], with the volume that refused. The
+    /// volumes before it have the index by then; repeat the call to create it in the others.
     pub fn make_index(&self, name: &str, kind: Kind) -> Result<()> {
         for (volume, snapshot) in self.each() {
             let differs = |(index, found): &(String, Kind)| index == name && *found != kind;
@@ -258,7 +258,7 @@ impl<'a> ShelfSnapshot<'a> {
         self.write_each(&batch, Error::IndexExists, |error| matches!(error, Error::IndexExists))
     }
 
-    /// Removes the index with this name from each volume that has it, one after another.
+    /// Removes the index with this name from each volume that has it, one volume after another.
     ///
     /// # Errors
     /// [`Error::NoIndex`] if no volume has the index; otherwise the same as [`make_index`](Self::make_index).
@@ -267,8 +267,8 @@ impl<'a> ShelfSnapshot<'a> {
         self.write_each(&batch, Error::NoIndex, |error| matches!(error, Error::NoIndex))
     }
 
-    /// Writes the batch in each volume, and skips volumes where it fails with an error for which `is_done` is true. If every volume fails
-    /// that way, returns `all`.
+    /// Writes the batch in each volume, and ignores errors for which `is_done` returns true. If every volume fails with such an error,
+    /// returns `all`.
     fn write_each(&self, batch: &Batch, all: Error, is_done: impl Fn(&Error) -> bool) -> Result<()> {
         let _turn = self.indexing.lock().unwrap_or_else(PoisonError::into_inner);
         let mut outcome = Err(all);
@@ -282,8 +282,8 @@ impl<'a> ShelfSnapshot<'a> {
         outcome
     }
 
-    /// Returns the volume with the most free pages, or the first of several such volumes. If the shelf has more than one volume, each
-    /// volume's status is read.
+    /// Returns the volume with the most free pages; of several such volumes, the first. If the shelf has more than one volume, this reads
+    /// each volume's status.
     ///
     /// # Errors
     /// The same as [`Pass::status`].
@@ -291,7 +291,7 @@ impl<'a> ShelfSnapshot<'a> {
         roomiest(self.volumes.iter().map(Snapshot::pass))
     }
 
-    /// Returns how full each volume is.
+    /// Returns each volume's usage.
     ///
     /// # Errors
     /// The same as [`Pass::status`].
@@ -303,7 +303,7 @@ impl<'a> ShelfSnapshot<'a> {
         all.collect()
     }
 
-    /// Returns the number that the next node of this volume will have, if it is made on this snapshot.
+    /// Returns the number that this volume's next node will have if it is created on this snapshot.
     ///
     /// # Errors
     /// The same as [`Snapshot::next_node`]; [`Error::NoVolume`].
@@ -313,7 +313,7 @@ impl<'a> ShelfSnapshot<'a> {
     }
 }
 
-/// Returns the item that belongs to a volume.
+/// Returns a volume's item.
 pub(super) fn at<T>(volumes: &[T], volume: u32) -> Result<&T> {
     volumes.get(volume as usize).ok_or(Error::NoVolume {
         volume,
@@ -336,7 +336,7 @@ pub(super) fn roomiest<'p>(passes: impl ExactSizeIterator<Item = &'p Pass>) -> R
     Ok(roomiest)
 }
 
-/// An iterator over the nodes of a shelf, returned by [`ShelfSnapshot::nodes_from`]. After an error, it continues with the next volume.
+/// An iterator over a shelf's nodes, returned by [`ShelfSnapshot::nodes_from`]. After an error, it continues with the next volume.
 #[derive(Debug)]
 pub struct ShelfNodes<'a> {
     snapshot: &'a ShelfSnapshot<'a>,

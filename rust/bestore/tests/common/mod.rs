@@ -1,4 +1,4 @@
-//! What the tests share. Not every test uses all of it.
+//! Code that the tests share. Not every test uses all of it.
 #![allow(dead_code)]
 
 #[cfg(feature = "saved")]
@@ -9,7 +9,7 @@ use std::path::{Path, PathBuf};
 #[cfg(feature = "saved")]
 use std::time::Duration;
 
-/// A test's folder, which is removed at its end.
+/// A test's folder, which is removed when the test ends.
 pub struct Folder(pub PathBuf);
 
 impl Folder {
@@ -20,14 +20,14 @@ impl Folder {
         folder
     }
 
-    /// A folder that isn't there yet.
+    /// A folder that doesn't exist yet.
     pub fn absent(name: &str) -> Self {
         let path = Path::new(env!("CARGO_TARGET_TMPDIR")).join(name);
         let _ = fs::remove_dir_all(&path);
         Self(path)
     }
 
-    /// A folder in memory if there may be one, for a test that opens or saves many files.
+    /// A folder that is in memory if possible, for a test that opens or saves many files.
     pub fn in_memory(name: &str) -> Self {
         let name = format!("bestore-{}-{name}", std::process::id());
         let path = Path::new("/dev/shm").join(&name);
@@ -37,7 +37,7 @@ impl Folder {
         }
     }
 
-    /// The file of the test's store.
+    /// The file of a test's store.
     pub fn file(&self) -> PathBuf {
         self.0.join("test.bestore")
     }
@@ -45,7 +45,7 @@ impl Folder {
 
 #[cfg(feature = "saved")]
 impl Folder {
-    /// Opens the file as a store of this many pages. Writes are saved when the test says so, or after an hour.
+    /// Opens the file as a store with this many pages. Writes are saved when the test flushes them, or after an hour.
     pub fn open_lazily(&self, pages: u64) -> Saved {
         let limits = Limits {
             pages,
@@ -87,7 +87,7 @@ pub fn shared(passes: u64) -> Store {
     Store::open(limits).unwrap()
 }
 
-/// Makes a node with this size in a shelf's volume.
+/// Creates a node with this size in a volume of a shelf.
 pub fn make_sized(pass: &mut ShelfPass, volume: u32, size: i64) -> u64 {
     let made = pass.change_in(volume, |change| {
         let node = change.new_node()?;
