@@ -103,8 +103,8 @@ enum {
     BES_INDEX_EXISTS = 5,     /* there is already an index of this name */
     BES_NO_INDEX = 6,         /* there is no index of this name */
     BES_TOO_MANY_INDICES = 7, /* the store has 32 indices, the most it can have; remove one first */
-    BES_NOT_INDEXABLE = 8,    /* an index can't have this kind; it takes texts or integers, but
-                               * not MIME types or raw bytes */
+    BES_NOT_INDEXABLE = 8,    /* an index can't have this kind; indices hold text or integers,
+                               * but not MIME types or raw bytes */
     BES_COMMITS_SPENT = 9,    /* the journal has reached the limit that the store was opened
                                * with; copy the state into a new store */
     BES_NO_MEMORY = 10,       /* out of memory; free some and call again */
@@ -112,34 +112,35 @@ enum {
                                * store with more pages */
     BES_SYNTAX = 12,          /* this query isn't valid here; it needs comparisons such as
                                * size>=5, joined by && or || */
-    BES_BAD_PATTERN = 13,     /* this pattern isn't valid here; a set such as [a-d] ends with ],
-                               * isn't empty, and its ranges rise */
+    BES_BAD_PATTERN = 13,     /* this pattern isn't valid here; a set such as [a-d] must be
+                               * closed by ], must not be empty, and its ranges must ascend */
     BES_TOO_LONG = 14,        /* the query has more than 4,096 bytes */
-    BES_TOO_DEEP = 15,        /* the query has more than 64 parentheses and ! inside one another */
+    BES_TOO_DEEP = 15,        /* the query nests parentheses and ! more than 64 levels deep */
     BES_TOO_MANY = 16,        /* the query has more than 256 comparisons */
     BES_NOT_COVERED = 17,     /* no index can answer the query; compare a name that has an index,
                                * on both sides of each || */
     BES_NAME_LENGTH = 18,     /* a name is empty or has more than 63 bytes */
     BES_DATA_LENGTH = 19,     /* a value has more than 255 bytes */
     BES_HAS_NUL = 20,         /* a name or a text has a zero byte; only a raw value may have one */
-    BES_BAD_LIMITS = 21,      /* a limit of the store is out of its range; it has 8 to 16,384
+    BES_BAD_LIMITS = 21,      /* a limit of the store is out of range; a store has 8 to 16,384
                                * pages, 1 to 64 passes and 1 to 4,294,967,295 commits */
     BES_BAD_RPN = 22,         /* the items don't form a query; each operator takes the items
-                               * before it, and one query is left at the end */
+                               * before it, and exactly one query must remain at the end */
     BES_CLOSED = 64,          /* the handle is closed; use an open one */
-    BES_OPEN = 65,            /* the handle that is to be opened is open; close it first, or open
-                               * another */
+    BES_OPEN = 65,            /* the handle is already open; close it first, or use another one */
     BES_NOT_PINNED = 66,      /* no snapshot is pinned; pin one before you read */
-    BES_PINNED = 67,          /* a snapshot is pinned already; unpin it first */
+    BES_PINNED = 67,          /* a snapshot is already pinned; unpin it first */
     BES_NO_PASS = 68,         /* every pass of the store is in use; close one, or open the store
                                * with more */
     BES_BAD_COUNT = 69,       /* a batch has 1 to 64 operations */
     BES_NOT_UTF8 = 70,        /* the text isn't valid UTF-8 */
-    BES_NO_OPERATION = 71,    /* there is no operation with this number; they are 0 to 5 */
+    BES_NO_OPERATION = 71,    /* there is no operation with this number; operations are numbered
+                               * 0 to 5 */
     BES_NO_KIND = 72,         /* no kind has this type code */
     BES_NO_VALUE = 73,        /* the number doesn't fit its kind; use a kind that holds it */
-    BES_BAD_PART = 74,        /* a name or a value isn't within the bytes that go with the list */
-    BES_NO_ITEM = 75,         /* there is no item with this number; they are 0 to 15 */
+    BES_BAD_PART = 74,        /* a name or value lies outside the bytes that were passed with the
+                               * list */
+    BES_NO_ITEM = 75,         /* there is no item with this number; items are numbered 0 to 15 */
     BES_CONFLICT = 76,        /* the journal's length isn't what the write expects; read again,
                                * and base the write on that */
     BES_IN_USE = 77,          /* another handle of the store is open; close it first */
@@ -157,8 +158,8 @@ enum {
     BES_STRING_TYPE = 0x43535452,      /* 'CSTR': up to 255 bytes of UTF-8 */
     BES_INT32_TYPE = 0x4c4f4e47,       /* 'LONG' */
     BES_INT64_TYPE = 0x4c4c4e47,       /* 'LLNG' */
-    BES_MIME_STRING_TYPE = 0x4d494d53, /* 'MIMS': a text that no index holds */
-    BES_RAW_TYPE = 0x52415754,         /* 'RAWT': up to 255 bytes that no index holds */
+    BES_MIME_STRING_TYPE = 0x4d494d53, /* 'MIMS': a string that can't be indexed */
+    BES_RAW_TYPE = 0x52415754,         /* 'RAWT': up to 255 bytes, which can't be indexed */
     BES_UINT32_TYPE = 0x554c4e47,      /* 'ULNG' */
     BES_UINT64_TYPE = 0x554c4c47       /* 'ULLG' */
     /* surface.toml: end */
@@ -168,13 +169,13 @@ enum {
 enum {
     /* surface.toml: classes */
     BES_CLASS_NONE = 0,  /* of BES_OK */
-    BES_CLASS_RETRY = 1, /* another pass, client or write was in the way: call again, and read
-                          * again first after a conflict */
-    BES_CLASS_MINE = 2,  /* the call isn't valid here: it fails again until the program or its
-                          * input changes */
-    BES_CLASS_FULL = 3,  /* there is no room: free some, or open a larger store */
-    BES_CLASS_GONE = 4   /* the handle, snapshot, connection or file that the call went through
-                          * is lost: open it again */
+    BES_CLASS_RETRY = 1, /* another pass, client or write interfered: call again, and after a
+                          * conflict read again first */
+    BES_CLASS_MINE = 2,  /* the call isn't valid here: it will keep failing until the program or
+                          * its input changes */
+    BES_CLASS_FULL = 3,  /* there is no space left: free some, or open a larger store */
+    BES_CLASS_GONE = 4   /* the handle, snapshot, connection or file that the call used is lost:
+                          * open it again */
     /* surface.toml: end */
 };
 
@@ -210,10 +211,11 @@ typedef struct bes_operation {
 enum {
     /* surface.toml: items */
     BES_ITEM_ATTRIBUTE = 0, /* an attribute, by the bytes of its name */
-    BES_ITEM_TEXT = 1,      /* a text */
+    BES_ITEM_TEXT = 1,      /* a string */
     BES_ITEM_INT64 = 2,     /* a number; (uint64_t)n */
     BES_ITEM_UINT64 = 3,
-    BES_ITEM_EQ = 4,        /* 4 to 12 take an attribute and the value after it: a comparison */
+    BES_ITEM_EQ = 4,        /* 4 to 12 take an attribute and the value after it, and make a
+                             * comparison */
     BES_ITEM_NE = 5,
     BES_ITEM_LT = 6,
     BES_ITEM_LE = 7,
@@ -802,7 +804,7 @@ typedef struct bes_compared {
 enum bes_form {
     /* surface.toml: forms */
     BES_FORM_TEXT = 0,
-    BES_FORM_NUMBER = 1,  /* a text that is a whole number from -2^63 to 2^64 - 1 */
+    BES_FORM_NUMBER = 1,  /* text that is a whole number from -2^63 to 2^64 - 1 */
     BES_FORM_PATTERN = 2  /* a pattern with a wildcard */
     /* surface.toml: end */
 };

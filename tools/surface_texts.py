@@ -189,7 +189,7 @@ def rust_kind_names(surface: Surface) -> str:
 
 def rust_kind_list(surface: Surface) -> str:
     names = ", ".join(it.name for it in surface.kinds)
-    return f'pub(super) const NO_KIND: &str = "no kind has this name; they are {names}";\n'
+    return f'pub(super) const NO_KIND: &str = "no kind has this name; the kinds are {names}";\n'
 
 
 def rust_error_names(surface: Surface) -> str:
@@ -252,7 +252,7 @@ class Meaning(NamedTuple):
     what: str
     """What was wrong."""
     advice: str
-    """What would be right, or an empty text."""
+    """What would be right, or an empty string."""
 
 
 MEANINGS: Dict[int, Meaning] = {{
@@ -325,7 +325,7 @@ def python_ranges(surface: Surface) -> str:
 
 def python_integers(surface: Surface) -> str:
     def integer(it: Kind) -> str:
-        about = f"An integer of {it.bits} bits with{'' if it.sign else 'out'} a sign."
+        about = f"{'A signed' if it.sign else 'An unsigned'} {it.bits}-bit integer."
         return f'class {it.python_class}(Integer):\n    """{about}"""\n\n    kind = Kind.{it.python}\n'
     return "\n\n".join(map(integer, surface.numbers))
 

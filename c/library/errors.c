@@ -30,7 +30,7 @@ static const meaning meanings[] = {
       "remove one first" },
     { BES_NOT_INDEXABLE, BES_CLASS_MINE, "BES_NOT_INDEXABLE",
       "an index can't have this kind; "
-      "it takes texts or integers, but not MIME types or raw bytes" },
+      "indices hold text or integers, but not MIME types or raw bytes" },
     { BES_COMMITS_SPENT, BES_CLASS_FULL, "BES_COMMITS_SPENT",
       "the journal has reached the limit that the store was opened with; "
       "copy the state into a new store" },
@@ -45,11 +45,11 @@ static const meaning meanings[] = {
       "it needs comparisons such as size>=5, joined by && or ||" },
     { BES_BAD_PATTERN, BES_CLASS_MINE, "BES_BAD_PATTERN",
       "this pattern isn't valid here; "
-      "a set such as [a-d] ends with ], isn't empty, and its ranges rise" },
+      "a set such as [a-d] must be closed by ], must not be empty, and its ranges must ascend" },
     { BES_TOO_LONG, BES_CLASS_MINE, "BES_TOO_LONG",
       "the query has more than 4,096 bytes" },
     { BES_TOO_DEEP, BES_CLASS_MINE, "BES_TOO_DEEP",
-      "the query has more than 64 parentheses and ! inside one another" },
+      "the query nests parentheses and ! more than 64 levels deep" },
     { BES_TOO_MANY, BES_CLASS_MINE, "BES_TOO_MANY",
       "the query has more than 256 comparisons" },
     { BES_NOT_COVERED, BES_CLASS_MINE, "BES_NOT_COVERED",
@@ -63,22 +63,22 @@ static const meaning meanings[] = {
       "a name or a text has a zero byte; "
       "only a raw value may have one" },
     { BES_BAD_LIMITS, BES_CLASS_MINE, "BES_BAD_LIMITS",
-      "a limit of the store is out of its range; "
-      "it has 8 to 16,384 pages, 1 to 64 passes and 1 to 4,294,967,295 commits" },
+      "a limit of the store is out of range; "
+      "a store has 8 to 16,384 pages, 1 to 64 passes and 1 to 4,294,967,295 commits" },
     { BES_BAD_RPN, BES_CLASS_MINE, "BES_BAD_RPN",
       "the items don't form a query; "
-      "each operator takes the items before it, and one query is left at the end" },
+      "each operator takes the items before it, and exactly one query must remain at the end" },
     { BES_CLOSED, BES_CLASS_GONE, "BES_CLOSED",
       "the handle is closed; "
       "use an open one" },
     { BES_OPEN, BES_CLASS_MINE, "BES_OPEN",
-      "the handle that is to be opened is open; "
-      "close it first, or open another" },
+      "the handle is already open; "
+      "close it first, or use another one" },
     { BES_NOT_PINNED, BES_CLASS_MINE, "BES_NOT_PINNED",
       "no snapshot is pinned; "
       "pin one before you read" },
     { BES_PINNED, BES_CLASS_MINE, "BES_PINNED",
-      "a snapshot is pinned already; "
+      "a snapshot is already pinned; "
       "unpin it first" },
     { BES_NO_PASS, BES_CLASS_FULL, "BES_NO_PASS",
       "every pass of the store is in use; "
@@ -89,17 +89,17 @@ static const meaning meanings[] = {
       "the text isn't valid UTF-8" },
     { BES_NO_OPERATION, BES_CLASS_MINE, "BES_NO_OPERATION",
       "there is no operation with this number; "
-      "they are 0 to 5" },
+      "operations are numbered 0 to 5" },
     { BES_NO_KIND, BES_CLASS_MINE, "BES_NO_KIND",
       "no kind has this type code" },
     { BES_NO_VALUE, BES_CLASS_MINE, "BES_NO_VALUE",
       "the number doesn't fit its kind; "
       "use a kind that holds it" },
     { BES_BAD_PART, BES_CLASS_MINE, "BES_BAD_PART",
-      "a name or a value isn't within the bytes that go with the list" },
+      "a name or value lies outside the bytes that were passed with the list" },
     { BES_NO_ITEM, BES_CLASS_MINE, "BES_NO_ITEM",
       "there is no item with this number; "
-      "they are 0 to 15" },
+      "items are numbered 0 to 15" },
     { BES_CONFLICT, BES_CLASS_RETRY, "BES_CONFLICT",
       "the journal's length isn't what the write expects; "
       "read again, and base the write on that" },

@@ -10,14 +10,13 @@ class ErrorClass(enum.Enum):
     """What a program can do about an error."""
 
     RETRY = "retry"
-    """Another pass, client or write was in the way: call again, and read again first after a
-    conflict."""
+    """Another pass, client or write interfered: call again, and after a conflict read again first."""
     MINE = "mine"
-    """The call isn't valid here: it fails again until the program or its input changes."""
+    """The call isn't valid here: it will keep failing until the program or its input changes."""
     FULL = "full"
-    """There is no room: free some, or open a larger store."""
+    """There is no space left: free some, or open a larger store."""
     GONE = "gone"
-    """The handle, snapshot, connection or file that the call went through is lost: open it again."""
+    """The handle, snapshot, connection or file that the call used is lost: open it again."""
 
 
 class ErrorNumber(enum.IntEnum):
@@ -80,7 +79,7 @@ class Meaning(NamedTuple):
     what: str
     """What was wrong."""
     advice: str
-    """What would be right, or an empty text."""
+    """What would be right, or an empty string."""
 
 
 MEANINGS: Dict[int, Meaning] = {
@@ -99,7 +98,7 @@ MEANINGS: Dict[int, Meaning] = {
     ErrorNumber.TOO_MANY_INDICES: Meaning(ErrorClass.FULL, "the store has 32 indices, the most it can have",
                          "remove one first"),
     ErrorNumber.NOT_INDEXABLE: Meaning(ErrorClass.MINE, "an index can't have this kind",
-                         "it takes texts or integers, but not MIME types or raw bytes"),
+                         "indices hold text or integers, but not MIME types or raw bytes"),
     ErrorNumber.COMMITS_SPENT: Meaning(ErrorClass.FULL, "the journal has reached the limit that the store was opened with",
                          "copy the state into a new store"),
     ErrorNumber.NO_MEMORY: Meaning(ErrorClass.FULL, "out of memory",
@@ -109,10 +108,10 @@ MEANINGS: Dict[int, Meaning] = {
     ErrorNumber.SYNTAX: Meaning(ErrorClass.MINE, "this query isn't valid here",
                          "it needs comparisons such as size>=5, joined by && or ||"),
     ErrorNumber.BAD_PATTERN: Meaning(ErrorClass.MINE, "this pattern isn't valid here",
-                         "a set such as [a-d] ends with ], isn't empty, and its ranges rise"),
+                         "a set such as [a-d] must be closed by ], must not be empty, and its ranges must ascend"),
     ErrorNumber.TOO_LONG: Meaning(ErrorClass.MINE, "the query has more than 4,096 bytes",
                          ""),
-    ErrorNumber.TOO_DEEP: Meaning(ErrorClass.MINE, "the query has more than 64 parentheses and ! inside one another",
+    ErrorNumber.TOO_DEEP: Meaning(ErrorClass.MINE, "the query nests parentheses and ! more than 64 levels deep",
                          ""),
     ErrorNumber.TOO_MANY: Meaning(ErrorClass.MINE, "the query has more than 256 comparisons",
                          ""),
@@ -124,17 +123,17 @@ MEANINGS: Dict[int, Meaning] = {
                          ""),
     ErrorNumber.HAS_NUL: Meaning(ErrorClass.MINE, "a name or a text has a zero byte",
                          "only a raw value may have one"),
-    ErrorNumber.BAD_LIMITS: Meaning(ErrorClass.MINE, "a limit of the store is out of its range",
-                         "it has 8 to 16,384 pages, 1 to 64 passes and 1 to 4,294,967,295 commits"),
+    ErrorNumber.BAD_LIMITS: Meaning(ErrorClass.MINE, "a limit of the store is out of range",
+                         "a store has 8 to 16,384 pages, 1 to 64 passes and 1 to 4,294,967,295 commits"),
     ErrorNumber.BAD_RPN: Meaning(ErrorClass.MINE, "the items don't form a query",
-                         "each operator takes the items before it, and one query is left at the end"),
+                         "each operator takes the items before it, and exactly one query must remain at the end"),
     ErrorNumber.CLOSED: Meaning(ErrorClass.GONE, "the handle is closed",
                          "use an open one"),
-    ErrorNumber.OPEN: Meaning(ErrorClass.MINE, "the handle that is to be opened is open",
-                         "close it first, or open another"),
+    ErrorNumber.OPEN: Meaning(ErrorClass.MINE, "the handle is already open",
+                         "close it first, or use another one"),
     ErrorNumber.NOT_PINNED: Meaning(ErrorClass.MINE, "no snapshot is pinned",
                          "pin one before you read"),
-    ErrorNumber.PINNED: Meaning(ErrorClass.MINE, "a snapshot is pinned already",
+    ErrorNumber.PINNED: Meaning(ErrorClass.MINE, "a snapshot is already pinned",
                          "unpin it first"),
     ErrorNumber.NO_PASS: Meaning(ErrorClass.FULL, "every pass of the store is in use",
                          "close one, or open the store with more"),
@@ -143,15 +142,15 @@ MEANINGS: Dict[int, Meaning] = {
     ErrorNumber.NOT_UTF8: Meaning(ErrorClass.MINE, "the text isn't valid UTF-8",
                          ""),
     ErrorNumber.NO_OPERATION: Meaning(ErrorClass.MINE, "there is no operation with this number",
-                         "they are 0 to 5"),
+                         "operations are numbered 0 to 5"),
     ErrorNumber.NO_KIND: Meaning(ErrorClass.MINE, "no kind has this type code",
                          ""),
     ErrorNumber.NO_VALUE: Meaning(ErrorClass.MINE, "the number doesn't fit its kind",
                          "use a kind that holds it"),
-    ErrorNumber.BAD_PART: Meaning(ErrorClass.MINE, "a name or a value isn't within the bytes that go with the list",
+    ErrorNumber.BAD_PART: Meaning(ErrorClass.MINE, "a name or value lies outside the bytes that were passed with the list",
                          ""),
     ErrorNumber.NO_ITEM: Meaning(ErrorClass.MINE, "there is no item with this number",
-                         "they are 0 to 15"),
+                         "items are numbered 0 to 15"),
     ErrorNumber.CONFLICT: Meaning(ErrorClass.RETRY, "the journal's length isn't what the write expects",
                          "read again, and base the write on that"),
     ErrorNumber.IN_USE: Meaning(ErrorClass.RETRY, "another handle of the store is open",
@@ -168,19 +167,19 @@ MEANINGS: Dict[int, Meaning] = {
 SERVER_MEANINGS: Dict[str, Meaning] = {
     "BadRequest": Meaning(ErrorClass.MINE, "the request isn't valid",
                          ""),
-    "Expired": Meaning(ErrorClass.GONE, "the snapshot was kept too long, and the server took it back",
+    "Expired": Meaning(ErrorClass.GONE, "the snapshot expired, because it was kept too long",
                          "pin again"),
     "NoVolume": Meaning(ErrorClass.MINE, "there is no such volume",
                          ""),
-    "OtherVolume": Meaning(ErrorClass.MINE, "a node isn't in the volume that is written",
+    "OtherVolume": Meaning(ErrorClass.MINE, "a node isn't in the volume that the batch is for",
                          ""),
-    "PartialIndex": Meaning(ErrorClass.MINE, "an index is made in all volumes, in a batch of its own",
+    "PartialIndex": Meaning(ErrorClass.MINE, "an index has to be made or removed in all volumes, in a batch of its own",
                          ""),
     "NotReached": Meaning(ErrorClass.RETRY, "the journal isn't that long yet",
                          "ask again"),
     "NoWatch": Meaning(ErrorClass.GONE, "the connection has no such live query",
                          "start it with watch"),
-    "TooManyWatches": Meaning(ErrorClass.FULL, "the connection has as many live queries as it may have",
+    "TooManyWatches": Meaning(ErrorClass.FULL, "the connection has as many live queries as are allowed",
                          "end one with unwatch first"),
     "TooManyCopies": Meaning(ErrorClass.RETRY, "too many clients are reading copies of snapshots",
                          "try again once one has finished"),
@@ -191,21 +190,21 @@ SERVER_MEANINGS: Dict[str, Meaning] = {
     "NoLog": Meaning(ErrorClass.MINE, "the server doesn't use a log",
                          "start it with --log or --follow"),
     "NotLeader": Meaning(ErrorClass.GONE, "the server follows another one",
-                         "write to that"),
+                         "write to that one"),
     "NotSaved": Meaning(ErrorClass.GONE, "the write couldn't be saved",
                          ""),
     "Stopped": Meaning(ErrorClass.GONE, "the server no longer saves anything",
                          ""),
     "Protocol": Meaning(ErrorClass.MINE, "the server doesn't speak this version of the protocol",
                          ""),
-    "LineTooLong": Meaning(ErrorClass.MINE, "the request has more than 1 MiB",
+    "LineTooLong": Meaning(ErrorClass.MINE, "the request is longer than 1 MiB",
                          ""),
-    "Timeout": Meaning(ErrorClass.GONE, "the rest of the request never came",
+    "Timeout": Meaning(ErrorClass.GONE, "the rest of the request didn't arrive in time",
                          ""),
     "NotAllowed": Meaning(ErrorClass.MINE, "the server belongs to another user",
                          "start one of your own, or name its socket"),
-    "PushesLost": Meaning(ErrorClass.GONE, "pushes of a live query waited too long and were lost",
-                         "begin it again"),
+    "PushesLost": Meaning(ErrorClass.GONE, "pushes for a live query waited too long and were dropped",
+                         "start the query again"),
     "Unexpected": Meaning(ErrorClass.MINE, "the server reported an error without a name",
                          ""),
 }

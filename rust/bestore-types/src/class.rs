@@ -28,13 +28,13 @@ macro_rules! classes {
 
 classes! {
     // surface.toml: classes
-    /// Another pass, client or write was in the way: call again, and read again first after a conflict.
+    /// Another pass, client or write interfered: call again, and after a conflict read again first.
     Retry = "retry";
-    /// The call isn't valid here: it fails again until the program or its input changes.
+    /// The call isn't valid here: it will keep failing until the program or its input changes.
     Mine = "mine";
-    /// There is no room: free some, or open a larger store.
+    /// There is no space left: free some, or open a larger store.
     Full = "full";
-    /// The handle, snapshot, connection or file that the call went through is lost: open it again.
+    /// The handle, snapshot, connection or file that the call used is lost: open it again.
     Gone = "gone";
     // surface.toml: end
 }
@@ -139,7 +139,7 @@ pub const MEANINGS: &[Meaning] = &[
         code: sys::BES_NOT_INDEXABLE,
         class: Class::Mine,
         what: "an index can't have this kind",
-        advice: "it takes texts or integers, but not MIME types or raw bytes",
+        advice: "indices hold text or integers, but not MIME types or raw bytes",
     },
     Meaning {
         code: sys::BES_COMMITS_SPENT,
@@ -169,7 +169,7 @@ pub const MEANINGS: &[Meaning] = &[
         code: sys::BES_BAD_PATTERN,
         class: Class::Mine,
         what: "this pattern isn't valid here",
-        advice: "a set such as [a-d] ends with ], isn't empty, and its ranges rise",
+        advice: "a set such as [a-d] must be closed by ], must not be empty, and its ranges must ascend",
     },
     Meaning {
         code: sys::BES_TOO_LONG,
@@ -180,7 +180,7 @@ pub const MEANINGS: &[Meaning] = &[
     Meaning {
         code: sys::BES_TOO_DEEP,
         class: Class::Mine,
-        what: "the query has more than 64 parentheses and ! inside one another",
+        what: "the query nests parentheses and ! more than 64 levels deep",
         advice: "",
     },
     Meaning {
@@ -216,14 +216,14 @@ pub const MEANINGS: &[Meaning] = &[
     Meaning {
         code: sys::BES_BAD_LIMITS,
         class: Class::Mine,
-        what: "a limit of the store is out of its range",
-        advice: "it has 8 to 16,384 pages, 1 to 64 passes and 1 to 4,294,967,295 commits",
+        what: "a limit of the store is out of range",
+        advice: "a store has 8 to 16,384 pages, 1 to 64 passes and 1 to 4,294,967,295 commits",
     },
     Meaning {
         code: sys::BES_BAD_RPN,
         class: Class::Mine,
         what: "the items don't form a query",
-        advice: "each operator takes the items before it, and one query is left at the end",
+        advice: "each operator takes the items before it, and exactly one query must remain at the end",
     },
     Meaning {
         code: sys::BES_CLOSED,
@@ -234,8 +234,8 @@ pub const MEANINGS: &[Meaning] = &[
     Meaning {
         code: sys::BES_OPEN,
         class: Class::Mine,
-        what: "the handle that is to be opened is open",
-        advice: "close it first, or open another",
+        what: "the handle is already open",
+        advice: "close it first, or use another one",
     },
     Meaning {
         code: sys::BES_NOT_PINNED,
@@ -246,7 +246,7 @@ pub const MEANINGS: &[Meaning] = &[
     Meaning {
         code: sys::BES_PINNED,
         class: Class::Mine,
-        what: "a snapshot is pinned already",
+        what: "a snapshot is already pinned",
         advice: "unpin it first",
     },
     Meaning {
@@ -271,7 +271,7 @@ pub const MEANINGS: &[Meaning] = &[
         code: sys::BES_NO_OPERATION,
         class: Class::Mine,
         what: "there is no operation with this number",
-        advice: "they are 0 to 5",
+        advice: "operations are numbered 0 to 5",
     },
     Meaning {
         code: sys::BES_NO_KIND,
@@ -288,14 +288,14 @@ pub const MEANINGS: &[Meaning] = &[
     Meaning {
         code: sys::BES_BAD_PART,
         class: Class::Mine,
-        what: "a name or a value isn't within the bytes that go with the list",
+        what: "a name or value lies outside the bytes that were passed with the list",
         advice: "",
     },
     Meaning {
         code: sys::BES_NO_ITEM,
         class: Class::Mine,
         what: "there is no item with this number",
-        advice: "they are 0 to 15",
+        advice: "items are numbered 0 to 15",
     },
     Meaning {
         code: sys::BES_CONFLICT,

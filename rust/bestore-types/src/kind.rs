@@ -61,15 +61,15 @@ macro_rules! kinds {
 
 kinds! {
     // surface.toml: kinds
-    /// A text of up to 255 bytes, `B_STRING_TYPE` of BeOS.
+    /// A string of up to 255 bytes, BeOS's `B_STRING_TYPE`.
     Text = BES_STRING_TYPE, "CSTR", "text", true, false;
     /// `B_INT32_TYPE`.
     Int32 = BES_INT32_TYPE, "LONG", "i32", true, true;
     /// `B_INT64_TYPE`.
     Int64 = BES_INT64_TYPE, "LLNG", "i64", true, true;
-    /// A MIME type: a text that no index holds.
+    /// A MIME type: a string that can't be indexed.
     Mime = BES_MIME_STRING_TYPE, "MIMS", "MIME type", false, false;
-    /// Up to 255 bytes that no index holds.
+    /// Up to 255 bytes, which can't be indexed.
     Raw = BES_RAW_TYPE, "RAWT", "raw bytes", false, false;
     /// `B_UINT32_TYPE`.
     Uint32 = BES_UINT32_TYPE, "ULNG", "u32", true, true;

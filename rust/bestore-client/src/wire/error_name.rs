@@ -75,8 +75,8 @@ names! {
     NoIndex = Some(6), Mine, "there is no index of this name";
     /// The store has 32 indices, the most it can have; remove one first.
     TooManyIndices = Some(7), Full, "the store has 32 indices, the most it can have; remove one first";
-    /// An index can't have this kind; it takes texts or integers, but not MIME types or raw bytes.
-    NotIndexable = Some(8), Mine, "an index can't have this kind; it takes texts or integers, but not MIME types or raw bytes";
+    /// An index can't have this kind; indices hold text or integers, but not MIME types or raw bytes.
+    NotIndexable = Some(8), Mine, "an index can't have this kind; indices hold text or integers, but not MIME types or raw bytes";
     /// The journal has reached the limit that the store was opened with; copy the state into a new store.
     CommitsSpent = Some(9), Full, "the journal has reached the limit that the store was opened with; copy the state into a new store";
     /// Out of memory; free some and call again.
@@ -85,12 +85,12 @@ names! {
     Full = Some(11), Full, "no page is free; unpin old snapshots, remove nodes, or open a store with more pages";
     /// This query isn't valid here; it needs comparisons such as size>=5, joined by && or ||.
     Syntax = Some(12), Mine, "this query isn't valid here; it needs comparisons such as size>=5, joined by && or ||";
-    /// This pattern isn't valid here; a set such as [a-d] ends with ], isn't empty, and its ranges rise.
-    BadPattern = Some(13), Mine, "this pattern isn't valid here; a set such as [a-d] ends with ], isn't empty, and its ranges rise";
+    /// This pattern isn't valid here; a set such as [a-d] must be closed by ], must not be empty, and its ranges must ascend.
+    BadPattern = Some(13), Mine, "this pattern isn't valid here; a set such as [a-d] must be closed by ], must not be empty, and its ranges must ascend";
     /// The query has more than 4,096 bytes.
     TooLong = Some(14), Mine, "the query has more than 4,096 bytes";
-    /// The query has more than 64 parentheses and ! inside one another.
-    TooDeep = Some(15), Mine, "the query has more than 64 parentheses and ! inside one another";
+    /// The query nests parentheses and ! more than 64 levels deep.
+    TooDeep = Some(15), Mine, "the query nests parentheses and ! more than 64 levels deep";
     /// The query has more than 256 comparisons.
     TooMany = Some(16), Mine, "the query has more than 256 comparisons";
     /// No index can answer the query; compare a name that has an index, on both sides of each ||.
@@ -101,34 +101,34 @@ names! {
     DataLength = Some(19), Mine, "a value has more than 255 bytes";
     /// A name or a text has a zero byte; only a raw value may have one.
     HasNul = Some(20), Mine, "a name or a text has a zero byte; only a raw value may have one";
-    /// A limit of the store is out of its range; it has 8 to 16,384 pages, 1 to 64 passes and 1 to 4,294,967,295 commits.
-    BadLimits = Some(21), Mine, "a limit of the store is out of its range; it has 8 to 16,384 pages, 1 to 64 passes and 1 to 4,294,967,295 commits";
-    /// The items don't form a query; each operator takes the items before it, and one query is left at the end.
-    BadRpn = Some(22), Mine, "the items don't form a query; each operator takes the items before it, and one query is left at the end";
+    /// A limit of the store is out of range; a store has 8 to 16,384 pages, 1 to 64 passes and 1 to 4,294,967,295 commits.
+    BadLimits = Some(21), Mine, "a limit of the store is out of range; a store has 8 to 16,384 pages, 1 to 64 passes and 1 to 4,294,967,295 commits";
+    /// The items don't form a query; each operator takes the items before it, and exactly one query must remain at the end.
+    BadRpn = Some(22), Mine, "the items don't form a query; each operator takes the items before it, and exactly one query must remain at the end";
     /// The handle is closed; use an open one.
     Closed = Some(64), Gone, "the handle is closed; use an open one";
-    /// The handle that is to be opened is open; close it first, or open another.
-    Open = Some(65), Mine, "the handle that is to be opened is open; close it first, or open another";
+    /// The handle is already open; close it first, or use another one.
+    Open = Some(65), Mine, "the handle is already open; close it first, or use another one";
     /// No snapshot is pinned; pin one before you read.
     NotPinned = Some(66), Mine, "no snapshot is pinned; pin one before you read";
-    /// A snapshot is pinned already; unpin it first.
-    Pinned = Some(67), Mine, "a snapshot is pinned already; unpin it first";
+    /// A snapshot is already pinned; unpin it first.
+    Pinned = Some(67), Mine, "a snapshot is already pinned; unpin it first";
     /// Every pass of the store is in use; close one, or open the store with more.
     NoPass = Some(68), Full, "every pass of the store is in use; close one, or open the store with more";
     /// A batch has 1 to 64 operations.
     BadCount = Some(69), Mine, "a batch has 1 to 64 operations";
     /// The text isn't valid UTF-8.
     NotUtf8 = Some(70), Mine, "the text isn't valid UTF-8";
-    /// There is no operation with this number; they are 0 to 5.
-    NoOperation = Some(71), Mine, "there is no operation with this number; they are 0 to 5";
+    /// There is no operation with this number; operations are numbered 0 to 5.
+    NoOperation = Some(71), Mine, "there is no operation with this number; operations are numbered 0 to 5";
     /// No kind has this type code.
     NoKind = Some(72), Mine, "no kind has this type code";
     /// The number doesn't fit its kind; use a kind that holds it.
     NoValue = Some(73), Mine, "the number doesn't fit its kind; use a kind that holds it";
-    /// A name or a value isn't within the bytes that go with the list.
-    BadPart = Some(74), Mine, "a name or a value isn't within the bytes that go with the list";
-    /// There is no item with this number; they are 0 to 15.
-    NoItem = Some(75), Mine, "there is no item with this number; they are 0 to 15";
+    /// A name or value lies outside the bytes that were passed with the list.
+    BadPart = Some(74), Mine, "a name or value lies outside the bytes that were passed with the list";
+    /// There is no item with this number; items are numbered 0 to 15.
+    NoItem = Some(75), Mine, "there is no item with this number; items are numbered 0 to 15";
     /// The journal's length isn't what the write expects; read again, and base the write on that.
     Conflict = Some(76), Retry, "the journal's length isn't what the write expects; read again, and base the write on that";
     /// Another handle of the store is open; close it first.
@@ -141,20 +141,20 @@ names! {
     KindMismatch = Some(80), Mine, "the index of this name takes values of another kind; set a value of the index's kind";
     /// The request isn't valid.
     BadRequest = None, Mine, "the request isn't valid";
-    /// The snapshot was kept too long, and the server took it back; pin again.
-    Expired = None, Gone, "the snapshot was kept too long, and the server took it back; pin again";
+    /// The snapshot expired, because it was kept too long; pin again.
+    Expired = None, Gone, "the snapshot expired, because it was kept too long; pin again";
     /// There is no such volume.
     NoVolume = None, Mine, "there is no such volume";
-    /// A node isn't in the volume that is written.
-    OtherVolume = None, Mine, "a node isn't in the volume that is written";
-    /// An index is made in all volumes, in a batch of its own.
-    PartialIndex = None, Mine, "an index is made in all volumes, in a batch of its own";
+    /// A node isn't in the volume that the batch is for.
+    OtherVolume = None, Mine, "a node isn't in the volume that the batch is for";
+    /// An index has to be made or removed in all volumes, in a batch of its own.
+    PartialIndex = None, Mine, "an index has to be made or removed in all volumes, in a batch of its own";
     /// The journal isn't that long yet; ask again.
     NotReached = None, Retry, "the journal isn't that long yet; ask again";
     /// The connection has no such live query; start it with watch.
     NoWatch = None, Gone, "the connection has no such live query; start it with watch";
-    /// The connection has as many live queries as it may have; end one with unwatch first.
-    TooManyWatches = None, Full, "the connection has as many live queries as it may have; end one with unwatch first";
+    /// The connection has as many live queries as are allowed; end one with unwatch first.
+    TooManyWatches = None, Full, "the connection has as many live queries as are allowed; end one with unwatch first";
     /// Too many clients are reading copies of snapshots; try again once one has finished.
     TooManyCopies = None, Retry, "too many clients are reading copies of snapshots; try again once one has finished";
     /// No client with this number is connected; `be clients` lists the numbers.
@@ -163,22 +163,22 @@ names! {
     NotKept = None, Mine, "the server keeps no file; start it with --keep";
     /// The server doesn't use a log; start it with --log or --follow.
     NoLog = None, Mine, "the server doesn't use a log; start it with --log or --follow";
-    /// The server follows another one; write to that.
-    NotLeader = None, Gone, "the server follows another one; write to that";
+    /// The server follows another one; write to that one.
+    NotLeader = None, Gone, "the server follows another one; write to that one";
     /// The write couldn't be saved.
     NotSaved = None, Gone, "the write couldn't be saved";
     /// The server no longer saves anything.
     Stopped = None, Gone, "the server no longer saves anything";
     /// The server doesn't speak this version of the protocol.
     Protocol = None, Mine, "the server doesn't speak this version of the protocol";
-    /// The request has more than 1 MiB.
-    LineTooLong = None, Mine, "the request has more than 1 MiB";
-    /// The rest of the request never came.
-    Timeout = None, Gone, "the rest of the request never came";
+    /// The request is longer than 1 MiB.
+    LineTooLong = None, Mine, "the request is longer than 1 MiB";
+    /// The rest of the request didn't arrive in time.
+    Timeout = None, Gone, "the rest of the request didn't arrive in time";
     /// The server belongs to another user; start one of your own, or name its socket.
     NotAllowed = None, Mine, "the server belongs to another user; start one of your own, or name its socket";
-    /// Pushes of a live query waited too long and were lost; begin it again.
-    PushesLost = None, Gone, "pushes of a live query waited too long and were lost; begin it again";
+    /// Pushes for a live query waited too long and were dropped; start the query again.
+    PushesLost = None, Gone, "pushes for a live query waited too long and were dropped; start the query again";
     /// The server reported an error without a name.
     Unexpected = None, Mine, "the server reported an error without a name";
     // surface.toml: end

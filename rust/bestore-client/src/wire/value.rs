@@ -26,7 +26,7 @@ pub const fn kind_name(kind: Kind) -> &'static str {
 
 /// The error text for an unknown name.
 // surface.toml: list of kinds
-pub(super) const NO_KIND: &str = "no kind has this name; they are text, int32, int64, mime, raw, uint32, uint64";
+pub(super) const NO_KIND: &str = "no kind has this name; the kinds are text, int32, int64, mime, raw, uint32, uint64";
 // surface.toml: end
 
 /// Returns the kind with this name.
