@@ -798,7 +798,7 @@ static void spent(void)
     CHECK(bes_close(&pass) == BES_OK);
     CHECK(strcmp(bes_strerror(BES_COMMITS_SPENT), "the journal has reached the limit that the store was opened with; "
                                                   "copy the state into a new store") == 0);
-    CHECK(strcmp(bes_strerror(BES_BAD_PART), "a name or a value isn't within the bytes that go with the list") == 0);
+    CHECK(strcmp(bes_strerror(BES_BAD_PART), "a name or value lies outside the bytes that were passed with the list") == 0);
     CHECK(strcmp(bes_strerror(63), "an error of a later version of the library") == 0);
     CHECK(bes_version() == BES_VERSION_NUMBER && strcmp(BES_VERSION, "0.4.0") == 0);
 }

@@ -171,7 +171,7 @@ private:
     Kind of_value_;
 };
 
-// A MIME type: a string that no index holds.
+// A MIME type: a string that can't be indexed.
 struct Mime {
     std::string text;
 };
@@ -179,7 +179,7 @@ struct Mime {
 inline bool operator==(const Mime &a, const Mime &b) { return a.text == b.text; }
 inline bool operator!=(const Mime &a, const Mime &b) { return !(a == b); }
 
-// Bytes that no index holds.
+// Bytes that can't be indexed.
 using Raw = std::vector<std::uint8_t>;
 
 // An attribute's value.
@@ -229,7 +229,7 @@ template <class T> const T *begin_of(const std::vector<T> &list)
 inline std::uint32_t append(std::string &bytes, std::string_view text)
 {
     if (text.size() > UINT32_MAX - bytes.size())
-        throw std::length_error("bestore: texts of more than 4 GiB");
+        throw std::length_error("bestore: the strings have more than 4 GiB in total");
     const auto at = static_cast<std::uint32_t>(bytes.size());
     bytes.append(text);
     return at;

@@ -314,7 +314,7 @@ class WrongUse(unittest.TestCase):
             with self.assertRaises(bestore.BadPattern) as pattern:
                 call("größe == [é")
             self.assertEqual((pattern.exception.offset, pattern.exception.column), (11, 9))
-            self.assertEqual(str(pattern.exception), "this pattern isn't valid here; a set such as [a-d] ends with ], isn't empty, and its ranges rise\n  größe == [é\n           ^")
+            self.assertEqual(str(pattern.exception), "this pattern isn't valid here; a set such as [a-d] must be closed by ], must not be empty, and its ranges must ascend\n  größe == [é\n           ^")
         version.unpin()
         with self.assertRaises(bestore.Refusal) as fault:
             version.query("k == 1")
@@ -372,8 +372,8 @@ class WhatIsMissing(unittest.TestCase):
             for value, kind, said in [
                 (True, None, "True isn't a value of an attribute: write int(True), which is 1, or a text"),
                 (False, bestore.INT32, "False isn't a value of an attribute: write int(False), which is 0, or a text"),
-                (1.5, None, "1.5 isn't a value of an attribute: that is a str, bytes or an int"),
-                (None, bestore.STRING, "None isn't a value of an attribute: that is a str, bytes or an int"),
+                (1.5, None, "1.5 isn't an attribute's value, which is a str, bytes or an int"),
+                (None, bestore.STRING, "None isn't an attribute's value, which is a str, bytes or an int"),
                 ("5", bestore.INT32, "'5' can't be of the kind INT32: a str is STRING or MIME"),
                 (b"5", bestore.STRING, "b'5' can't be of the kind STRING: bytes are RAW"),
                 (5, bestore.MIME, "5 can't be of the kind MIME: an int is INT64, INT32, UINT32 or UINT64"),

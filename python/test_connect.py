@@ -165,7 +165,7 @@ class Connecting(WithServer):
             with self.assertRaises(error) as fault:
                 call()
             self.assertEqual(fault.exception.path, self.server.path)
-        self.assertEqual(str(bestore.Unavailable("p", "meet")), "p: `meet` can't be called through a server; only a store of this process has it")
+        self.assertEqual(str(bestore.Unavailable("p", "meet")), "p: `meet` can't be called through a server; only a store in this process has it")
 
     def test_copies_of_a_child_keep_no_pass(self):
         """The server sees that a pass is closed, even if a forked child has a copy of its socket."""
@@ -385,7 +385,7 @@ class Dying(WithServer):
     def test_killed_in_a_write(self):
         fault = self.in_call(self.store.new_node, self.server.kill, bestore.Disconnected)
         self.assertTrue(fault.may_be_done)
-        self.assertIn("the write may have been made or not", str(fault))
+        self.assertIn("the write may or may not have been made", str(fault))
 
     def test_killed_while_it_waits(self):
         with self.store.watch() as watch:

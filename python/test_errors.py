@@ -9,7 +9,7 @@ import bestore
 from bestore import errors, saved
 
 SYNTAX = "this query isn't valid here; it needs comparisons such as size>=5, joined by && or ||"
-PATTERN = "this pattern isn't valid here; a set such as [a-d] ends with ], isn't empty, and its ranges rise"
+PATTERN = "this pattern isn't valid here; a set such as [a-d] must be closed by ], must not be empty, and its ranges must ascend"
 ROOT = os.path.join(os.path.dirname(os.path.abspath(__file__)), "..")
 
 

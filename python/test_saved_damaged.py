@@ -81,7 +81,7 @@ class Damaged(Files):
         damaged = self.refusal()
         assert isinstance(damaged, saved.Damaged)
         self.assertEqual((damaged.entry, damaged.batch, damaged.until), (6, None, 5))
-        self.assertEqual(str(damaged), f"{self.path}: entry 6 is damaged: its checksum doesn't fit; what comes before it is restored by "
+        self.assertEqual(str(damaged), f"{self.path}: entry 6 is damaged: its checksum doesn't match; what comes before it is restored by "
                                        "be restore --until 5")
 
     def test_parts(self) -> None:

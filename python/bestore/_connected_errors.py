@@ -50,7 +50,7 @@ class BrokenConnection(ServerError):
 
     @property
     def summary(self) -> str:
-        return f"{self.reason}; the write may have been made or not" if self.may_be_done else self.reason
+        return f"{self.reason}; the write may or may not have been made" if self.may_be_done else self.reason
 
 
 class Disconnected(BrokenConnection, ConnectionError):
@@ -69,7 +69,7 @@ class ProtocolError(BrokenConnection):
 class LineTooLong(ServerError):
     """The request is larger than 1 MiB. It wasn't sent."""
 
-    _summary = "a request has up to 1 MiB, and this one has {length} bytes; write or ask less at a time"
+    _summary = "a request can have up to 1 MiB, and this one has {length} bytes; write or ask less at a time"
 
     length: int
     """The bytes of the request."""
@@ -79,7 +79,7 @@ class LineTooLong(ServerError):
 class Unavailable(ServerError):
     """The call can't be made through a server."""
 
-    _summary = "`{call}` can't be called through a server; only a store of this process has it"
+    _summary = "`{call}` can't be called through a server; only a store in this process has it"
 
     call: str
     """The name of the call."""

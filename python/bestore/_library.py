@@ -16,7 +16,7 @@ except ImportError as error:
     if error.name == f"{__package__}._native":
         raise
     raise ImportError(
-        "bestore has no compiled part here, bestore._native. Run `make -C python` at the top of the repository, which needs a C "
+        "bestore's compiled part, bestore._native, is missing. Run `make -C python` at the top of the repository, which needs a C "
         "compiler and Python.h; or install bestore's wheel (`make -C c wheel`).", name=error.name) from None
 
 SONAME = "libbestore.so.0"
@@ -216,10 +216,10 @@ def _check_age(path: str, loaded: ctypes.CDLL) -> None:
     """Raises OSError if the library lacks a call that this package needs, or has an earlier version."""
     missing = [name for name in _arguments() if not hasattr(loaded, name)]
     if missing:
-        raise OSError(f"{path}: libbestore.so is older than this package, it has no {missing[0]}")
+        raise OSError(f"{path}: libbestore.so is older than this package: it has no {missing[0]}")
     found = dotted(loaded.bes_version())
     if [int(part) for part in found.split(".")] < [int(part) for part in VERSION.split(".")]:
-        raise OSError(f"{path}: libbestore.so is older than this package, {found} and not {VERSION}")
+        raise OSError(f"{path}: libbestore.so is older than this package: it is {found}, not {VERSION}")
 
 
 def _load() -> ctypes.CDLL:

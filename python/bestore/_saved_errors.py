@@ -140,7 +140,7 @@ class Damaged(_AtPlace):
     def summary(self) -> str:
         advice = "restore a backup"
         if self.until is not None:
-            advice = f"what comes before it is restored by be restore --until {self.until}"
+            advice = f"be restore --until {self.until} restores what comes before it"
         return f"{self.place} is damaged: {self.reason}; {advice}"
 
 
@@ -150,7 +150,7 @@ class CutOff(SavedError):
 
     error_class = ErrorClass.GONE
     _summary = (
-        "the file ends with entry {last}, and it has had entry {had}: {path}-wal is damaged or missing; put it back, or restore what is "
+        "the file ends with entry {last}, but it once had entry {had}: {path}-wal is damaged or missing; put it back, or restore what is "
         "left by be restore --until {last}. If the file is an older copy, remove {path}-last")
 
     last: int
@@ -220,4 +220,4 @@ def refused(path: str, error: Error, entry: Optional[int] = None, batch: Optiona
     """Returns the file's error for an error from the store that repeats the file's contents."""
     if isinstance(error, (Full, CommitsSpent, NoMemory)):
         return TooLarge(path, f"the file doesn't fit the limits of the store: {error}", entry, batch)
-    return Differs(path, f"the file has something that no store wrote: {error}", entry, batch)
+    return Differs(path, f"the file contains something that no store wrote: {error}", entry, batch)

@@ -35,7 +35,7 @@ _TABLES = (
 # The statements that add this many entries. All of them fit in the connection's cache.
 _INSERTS = ["INSERT OR IGNORE INTO entry VALUES " + ", ".join(["(?, ?, ?, ?)"] * count) for count in range(65)]
 _INSERT_WITHOUT = "INSERT OR IGNORE INTO entry VALUES (?, ?, ?)"
-_WRONG_SUM = "its checksum doesn't fit"
+_WRONG_SUM = "its checksum doesn't match"
 
 Row = Tuple[int, int, bytes]
 """An entry: its number in the file, the pass that wrote it, and its batch."""

@@ -382,7 +382,7 @@ class ConnectedPass(LockOwner, ThreadPass):
         if self._connection is None:
             raise Closed()
         if self._is_asking:
-            raise RuntimeError("a call on this pass is made within another one, such as by a signal handler")
+            raise RuntimeError("a call on this pass was made during another one, such as by a signal handler")
         self._is_asking = True
         return self._connection
 

@@ -68,7 +68,7 @@ class TooManyAttempts(_Detailed):
     """How many attempts were made."""
 
     def __str__(self) -> str:
-        return f"other writes came between at each of {self.attempts} attempts; try again, or allow more"
+        return f"another write came first at each of {self.attempts} attempts; try again, or allow more attempts"
 
 
 @dataclass(eq=False, repr=False)
@@ -96,8 +96,8 @@ class OtherVolume(_Detailed, ValueError):
     """The operation, from 0."""
 
     def __str__(self) -> str:
-        return (f"a node isn't in volume {self.volume}, which is written (operation {self.operation}, counted from 0); "
-                "a batch has nodes of one volume")
+        return (f"a node isn't in volume {self.volume}, which the batch is for (operation {self.operation}, counted from 0); "
+                "a batch can only have nodes of one volume")
 
 
 @dataclass(eq=False, repr=False)
@@ -109,7 +109,7 @@ class PartialIndex(_Detailed, ValueError):
     """The first operation that makes or removes an index, from 0."""
 
     def __str__(self) -> str:
-        return (f"an index is made in all volumes (operation {self.operation}, counted from 0); it needs a batch without "
+        return (f"an index has to be made or removed in all volumes (operation {self.operation}, counted from 0); it needs a batch without "
                 "other operations")
 
 
@@ -387,7 +387,7 @@ class Full(Refusal, number=ErrorNumber.FULL):
     def _what(self) -> str:
         if self.least is None:
             return self.meaning
-        return f"{self.meaning} (the oldest snapshot that may be read is {self.least})"
+        return f"{self.meaning} (the oldest snapshot that may still be read is {self.least})"
 
 
 class NotCovered(QueryError, number=ErrorNumber.NOT_COVERED):

@@ -454,14 +454,14 @@ def _load(file: File, own: _local.LocalPass) -> int:
         _repeat(file.path, repeater, data, batch=place)
     with own.pin() as version:
         if version.next_node != about.next_node:
-            raise Differs(file.path, "its next node differs from the one that it names")
+            raise Differs(file.path, "its next node number differs from the recorded one")
     last = about.entries
     for number, data in file.entries(last):
         if number != last + 1:
             raise Differs(file.path, "the entry is missing", entry=last + 1)
         kept, made = _repeat(file.path, repeater, data, entry=number)
         if made != kept:
-            raise Differs(file.path, "it makes other nodes now", entry=number)
+            raise Differs(file.path, "it makes different nodes now", entry=number)
         last = number
     return last
 

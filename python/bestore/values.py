@@ -118,11 +118,11 @@ def encode_value(value: Value, kind: Optional[int] = None) -> Encoded:
 def _number(value: SupportsIndex) -> int:
     """Returns a value as a number. Raises a TypeError if it isn't a number. A bool would be read back as 0 or 1, so it is refused."""
     if isinstance(value, bool):
-        raise TypeError(f"{value} isn't a value of an attribute: write int({value}), which is {int(value)}, or a text")
+        raise TypeError(f"{value} isn't an attribute's value: write int({value}), which is {int(value)}, or a string")
     try:
         return plain(value)
     except TypeError:
-        raise TypeError(f"{reprlib.repr(value)} isn't a value of an attribute: that is a str, bytes or an int") from None
+        raise TypeError(f"{reprlib.repr(value)} isn't an attribute's value, which is a str, bytes or an int") from None
 
 
 def _fitting(value: Value, kind: Optional[int], called: str, kinds: Tuple[Kind, ...]) -> Kind:

@@ -21,10 +21,10 @@ def parser() -> argparse.ArgumentParser:
         epilog="Without --socket and --folder it asks the server at BESTORE_SOCKET, otherwise at its usual socket. If none "
         "listens there it starts bestored for itself.")
     where = made.add_mutually_exclusive_group()
-    where.add_argument("--socket", metavar="PATH", help="the socket of the server whose store is asked")
-    where.add_argument("--folder", metavar="FOLDER", help="read this folder, or Maildir, into a store of the window's own")
-    made.add_argument("--geometry", default="940x560", metavar="WxH", help="the size in pixels, and the place as +X+Y after it")
-    made.add_argument("query", nargs="?", metavar="QUERY", help="the query that is asked first; docs/QUERIES.md describes the language")
+    where.add_argument("--socket", metavar="PATH", help="the socket of the server to search")
+    where.add_argument("--folder", metavar="FOLDER", help="read this folder, or Maildir, into the window's own store")
+    made.add_argument("--geometry", default="940x560", metavar="WxH", help="the size in pixels, optionally followed by the position as +X+Y")
+    made.add_argument("query", nargs="?", metavar="QUERY", help="the first query; docs/QUERIES.md describes the language")
     return made
 
 

@@ -331,7 +331,7 @@ class Asker(threading.Thread):
         """Refuses the waiting writes if their nodes belong to another store."""
         if self._store not in (None, store):
             for write in iter(self._requests.take_write, None):
-                self._report(Written(write, "another store is there now"))
+                self._report(Written(write, "there is a different store now"))
         self._store = store
 
     def _ask(self, session: Session, ask: Ask) -> None:
@@ -469,7 +469,7 @@ class Asker(threading.Thread):
         typed = change.typed(write.node, write.name)
         if (None if typed is None else typed.value) != write.shown:
             now = "removed it" if typed is None else f"set it to “{columns.text_of(typed.value)}”"
-            raise NotWritten(f"another program has {now} meanwhile")
+            raise NotWritten(f"another program has {now} in the meantime")
         if write.text:
             kind = self._indices.get(write.name) or (bestore.STRING if typed is None else typed.kind)
             change.set(write.node, write.name, columns.typed_value(write.name, write.text, kind), kind)

@@ -163,7 +163,7 @@ def typed_value(attribute: str, text: str, kind: bestore.Kind) -> bestore.Value:
 
 def _typed_text(text: str) -> str:
     if "\0" in text:
-        raise NotAValue("a text can't have a zero byte")
+        raise NotAValue("text can't contain a zero byte")
     try:
         length = len(text.encode())
     except UnicodeEncodeError:

@@ -13,7 +13,7 @@ _MONTHS = [name.lower() for name in (
 _DAYS = "monday tuesday wednesday thursday friday saturday sunday".split()
 _UNITS = ("second", "minute", "hour", "day", "week", "month", "year")
 _REASONS = {
-    "day is out of range for month": "that month doesn't have so many days", "month must be in 1..12": "a year has 12 months",
+    "day is out of range for month": "that month doesn't have that many days", "month must be in 1..12": "a year has 12 months",
     "hour must be in 0..23": "hours go from 0 to 23", "minute must be in 0..59": "minutes go from 0 to 59",
     "second must be in 0..59": "seconds go from 0 to 59", "year 0 is out of range": "it is outside the calendar",
 }
@@ -160,7 +160,7 @@ def _date(year: int, month: Optional[str], day: Optional[str]) -> _Moment:
 def _dotted(words: str, now: datetime) -> Optional[_Moment]:
     """Parses 31.1.2024. A date with `/` is ambiguous, and isn't read."""
     if re.fullmatch(r"[0-9]{1,4}/[0-9]{1,2}/[0-9]{1,4}", words):
-        raise NotADate(words, "it has two meanings; type 2024-01-31")
+        raise NotADate(words, "it is ambiguous; type a date like 2024-01-31")
     found = _DOTTED.fullmatch(words)
     return None if found is None else _date(int(found[3]), found[2], found[1])
 

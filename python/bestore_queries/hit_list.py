@@ -126,7 +126,7 @@ class HitList(tk.Frame):
         self.selection.forget(node)
         cell = self.editor.cell
         if cell is not None and cell.node == node:
-            self._actions.warn(f"What you were editing isn't a hit any more. You had typed: {self.editor.text}")
+            self._actions.warn(f"What you were editing is no longer a hit. You had typed: {self.editor.text}")
             self.editor.end()
 
     def paint(self) -> None:
@@ -304,7 +304,7 @@ class HitList(tk.Frame):
             return "break"
         if not can:
             self._actions.warn(
-                "What these columns show comes from the files themselves. Choose others in the menu Attributes to edit them")
+                "These columns show what the files themselves contain. To edit attributes, choose other columns in the Attributes menu")
             return "break"
         column = self._clicked if self._clicked in can else can[0]
         assert column is not None

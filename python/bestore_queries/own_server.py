@@ -63,7 +63,7 @@ class OwnServer:
                 said = self._said.read().decode(errors="replace").strip()
                 raise CannotStart(f"bestored ended at once: {said or self._process.returncode}")
             if time.monotonic() > end:
-                raise CannotStart(f"bestored doesn't listen at {path} after {PATIENCE:g} seconds")
+                raise CannotStart(f"bestored still isn't listening at {path} after {PATIENCE:g} seconds")
             time.sleep(0.02)
 
     def close(self) -> None:

@@ -103,5 +103,5 @@ class SavedQueries:
 def _read_one(parts: Any) -> Saved:
     name, query, columns = parts["name"], parts["query"], tuple(parts.get("columns", ()))
     if not all(isinstance(it, str) for it in (name, query, *columns)):
-        raise ValueError("a name, a query or a column isn't a text")
+        raise ValueError("a name, a query or a column isn't a string")
     return Saved(name, query, columns)

@@ -211,7 +211,7 @@ class ServerSource(Source):
         self.path = SocketPath.find(path)
         if path is None and not own_server.listens(self.path):
             self._server = own_server.OwnServer(self.path)
-        self.title = "files" if self._server is None else "files of a server of its own"
+        self.title = "files" if self._server is None else "files on its own server"
 
     def open(self) -> Session:
         user = bestore.connect(self.path)

@@ -152,12 +152,12 @@ def fault_of(error: bestore.Error, query: TypedQuery, indices: Mapping[str, best
     if isinstance(error, bestore.QuerySyntax):
         return Fault(_missing(query.typed, _place(error, query)), _place(error, query))
     if isinstance(error, bestore.BadPattern):
-        return Fault("the [ isn't closed, or its set is empty or runs backwards; \\[ is a plain [", _place(error, query))
+        return Fault("the [ isn't closed, or its set is empty, or a range in it descends; \\[ is a literal [", _place(error, query))
     if isinstance(error, bestore.NotCovered):
         return _not_covered(error, query, indices)
     return Fault({
         bestore.TooLong: "the query is too long: the limit is 4,096 bytes", bestore.TooMany: "more than 256 comparisons",
-        bestore.TooDeep: "more than 64 ( or ! within one another",
+        bestore.TooDeep: "( and ! are nested more than 64 levels deep",
     }.get(type(error), error.summary), _place(error, query))
 
 
@@ -167,7 +167,7 @@ def _place(error: bestore.QueryError, query: TypedQuery) -> Optional[int]:
 
 def _not_covered(error: bestore.NotCovered, query: TypedQuery, indices: Mapping[str, bestore.Kind]) -> Fault:
     known = ", ".join(error.indices or indices)
-    have = f"Those that have one: {known}" if known else "There are no indices at all"
+    have = f"Indexed names: {known}" if known else "There are no indices"
     if error.missing is None:
         return Fault(f"no attribute of this query has an index. {have}")
     return Fault(f"“{error.missing}” has no index. {have}", _place(error, query))

@@ -409,7 +409,7 @@ class Window:
         condition = self._source.condition
         faults = [self._warning] if self._warning else []
         if self._lost:
-            faults.insert(0, f"The store isn't there: {self._lost}. It is looked for again each second")
+            faults.insert(0, f"The store can't be reached: {self._lost}. Trying again every second")
         elif condition.is_fault:
             faults.insert(0, condition.text)
         text = "\n".join(faults)

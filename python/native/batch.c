@@ -24,7 +24,7 @@ static bool make_room(Batch *batch, size_t length)
 {
     void *moved;
     if (length > UINT32_MAX - batch->length) {
-        PyErr_SetString(PyExc_OverflowError, "the names and values of a batch have 2^32 bytes at most");
+        PyErr_SetString(PyExc_OverflowError, "the names and values of a batch can have at most 2^32 bytes");
         return false;
     }
     if (batch->count == batch->room) {

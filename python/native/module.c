@@ -97,7 +97,7 @@ static int fill(PyObject *module)
     static bool is_filled;
     PyTypeObject *reader;
     if (is_filled) {
-        PyErr_SetString(PyExc_ImportError, "bestore is imported by one interpreter of a process");
+        PyErr_SetString(PyExc_ImportError, "only one interpreter in a process can import bestore");
         return -1;
     }
     handle_type = add_type(module, &handle_spec);

@@ -51,7 +51,7 @@ bool read_number(PyObject *object, uint64_t *number)
     if (read_in_range(object, number))
         return true;
     if (!PyErr_Occurred())
-        PyErr_SetString(PyExc_OverflowError, "64 bits don't hold the number");
+        PyErr_SetString(PyExc_OverflowError, "the number doesn't fit in 64 bits");
     return false;
 }
 

@@ -240,7 +240,7 @@ class Asking(unittest.TestCase):
             return session
         with mock.patch.object(MadeSource, "open", open_another):
             reports = self.written(bestore.Disconnected("p", "gone"), count=3)
-        self.assertEqual({it.fault for it in reports}, {"another store is there now"})
+        self.assertEqual({it.fault for it in reports}, {"there is a different store now"})
         self.assertEqual(self.types(), [None] * 3)
 
     def test_stores_of_servers(self) -> None:
@@ -275,7 +275,7 @@ class OverServer(unittest.TestCase):
     def test_writes(self) -> None:
         """The writes are made in the next run if it has the same nodes."""
         self.assertEqual([it.fault for it in self.reports("--keep", "FOLDER/file")], [None, None])
-        self.assertEqual([it.fault for it in self.reports()], ["another store is there now"] * 2)
+        self.assertEqual([it.fault for it in self.reports()], ["there is a different store now"] * 2)
 
 
 if __name__ == "__main__":

@@ -46,7 +46,7 @@ impl Added {
         };
         let places: Vec<Place> = rest.map(Place::from).collect();
         match (new, places.is_empty()) {
-            (true, false) => return Err("--new makes the node, so none can be given".into()),
+            (true, false) => return Err("--new makes the node, so no node can be given".into()),
             (false, true) => return Err("the nodes are missing".into()),
             _ => {}
         }
@@ -110,7 +110,7 @@ fn warn_of_index(client: &mut Client, name: &str, value: &Value) -> Result<(), F
             let (taken, given) = (kind_name(kind), kind_name(value.kind()));
             let name = escaped(name);
             complain(&format!(
-                "warning: the index {name} takes {taken} and leaves out this {given}"
+                "warning: the index {name} holds {taken}, so it omits this {given}"
             ));
         }
         _ => {}

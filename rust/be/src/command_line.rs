@@ -290,7 +290,7 @@ const MOST_SECONDS: f64 = 86_400.0;
 fn seconds(text: &str) -> Result<Duration, String> {
     match text.parse() {
         Ok(seconds) if (0.0..=MOST_SECONDS).contains(&seconds) => Ok(Duration::from_secs_f64(seconds)),
-        _ => Err(format!("a time has 0 to {MOST_SECONDS} seconds")),
+        _ => Err(format!("a time can be 0 to {MOST_SECONDS} seconds")),
     }
 }
 
@@ -299,7 +299,7 @@ fn until(text: &str) -> Result<(u32, u64), String> {
     let (volume, entry) = text.split_once(':').unwrap_or(("0", text));
     match (volume.parse(), entry.parse()) {
         (Ok(volume), Ok(entry)) => Ok((volume, entry)),
-        _ => Err("this is the number of an entry, such as 17, or a volume and an entry, such as 2:17".into()),
+        _ => Err("give the number of an entry, such as 17, or a volume and an entry, such as 2:17".into()),
     }
 }
 

@@ -34,7 +34,7 @@ const YEARS: RangeInclusive<i32> = 1..=9999;
 
 const NO_YEAR: &str = "it is outside the calendar";
 const NO_MONTH: &str = "a year has 12 months";
-const NO_DAY: &str = "that month doesn't have so many days";
+const NO_DAY: &str = "that month doesn't have that many days";
 
 /// The maximum number of seconds by which a clock is ever put back.
 const TURNED: i64 = 86_400;
@@ -390,7 +390,7 @@ fn iso(words: &str, _: NaiveDateTime) -> Read {
 fn dotted(words: &str, _: NaiveDateTime) -> Read {
     let parts: Vec<&str> = words.split('/').collect();
     if parts.len() == 3 && parts.iter().all(|part| digits(part, 1..=4).is_some()) {
-        return Err(Some("it has two meanings; type 2024-01-31"));
+        return Err(Some("it is ambiguous; type a date like 2024-01-31"));
     }
     let parts: Vec<&str> = words.split('.').collect();
     let (day, month, year) = match parts[..] {

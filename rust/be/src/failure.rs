@@ -35,10 +35,10 @@ pub enum Failure {
     #[error("{}: {1}", shown(.0))]
     File(PathBuf, io::Error),
     /// A file has no node.
-    #[error("{}: the file has no node\n  be import FOLDER makes one for each file of a folder", shown(.0))]
+    #[error("{}: the file has no node\n  be import FOLDER makes one for each file in a folder", shown(.0))]
     NotImported(PathBuf),
     /// The path is too long for an imported folder.
-    #[error("{}: a path has up to 255 bytes, but this one has more", shown(.0))]
+    #[error("{}: a path can have up to 255 bytes, and this one has more", shown(.0))]
     LongPath(PathBuf),
     /// A folder can't be watched.
     #[error("{}", follow::shown(.0, .1))]
@@ -158,8 +158,8 @@ fn shown(path: &Path) -> String {
 /// Returns the message for bytes that aren't a value of this type.
 fn value_fault(kind: &str) -> String {
     match kind {
-        "string" | "mime" => format!("the value isn't valid UTF-8, as a {kind} is; the type raw takes any bytes"),
-        _ => format!("the value doesn't fit the type {kind}, which takes the digits of a whole number in its range"),
+        "string" | "mime" => format!("the value isn't valid UTF-8, as a {kind} must be; the type raw takes any bytes"),
+        _ => format!("the value doesn't fit the type {kind}, which takes a whole number in its range"),
     }
 }
 

@@ -37,7 +37,7 @@ fn hint(text: &str, comparison: &Comparison, kind: Kind) -> Option<Hint> {
         _ => format!("and {value} isn't a whole number"),
     };
     let help = match span_of(value, &Clock::of_machine()) {
-        Ok(_) if comparison.form != Form::Number => format!("; a date is typed %{value}%"),
+        Ok(_) if comparison.form != Form::Number => format!("; write a date as %{value}%"),
         _ => String::new(),
     };
     let never = if comparison.negated {
@@ -81,7 +81,7 @@ mod tests {
                 "2026-11-01",
                 Form::Text,
                 Kind::Int64,
-                "t >= 2026-11-01 is never true: t is int64, and 2026-11-01 isn't a whole number; a date is typed %2026-11-01%",
+                "t >= 2026-11-01 is never true: t is int64, and 2026-11-01 isn't a whole number; write a date as %2026-11-01%",
             ),
             ("!(t>=0)", 2, "0", Form::Number, Kind::Uint32, "t>=0 finds nothing: t is uint32, from 0 to 4294967295"),
         ] {

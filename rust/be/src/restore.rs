@@ -96,7 +96,7 @@ impl<'b, 'c> Restoring<'b, 'c> {
             true => Ok(()),
             false => Err(differs(
                 Place::State(0),
-                "the next node of the state differs from the one that it names",
+                "the state's next node number differs from the recorded one",
             )),
         }
     }
@@ -130,7 +130,7 @@ impl<'b, 'c> Restoring<'b, 'c> {
         let is_same = |(node, made): (u64, &u64)| node == Node::from(*made).number;
         match made.zip(&written.nodes).all(is_same) {
             true => Ok(()),
-            false => Err(differs(place, "it makes other nodes now")),
+            false => Err(differs(place, "it makes different nodes now")),
         }
     }
 }

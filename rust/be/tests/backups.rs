@@ -189,7 +189,7 @@ fn a_changed_backup_is_refused_with_the_place() {
             true,
         ),
     ] {
-        if let Some(entries) = restore_changed(change, "is damaged: its checksum doesn't fit") {
+        if let Some(entries) = restore_changed(change, "is damaged: its checksum doesn't match") {
             assert_eq!(entries, 0, "{change}");
         }
         let change = format!("{REMOVE_CHECKSUMS}{change}");
@@ -237,7 +237,7 @@ fn what_comes_before_a_damaged_entry_is_restored() {
     let restored = server!(Server::start());
     refused(
         &restored.be(&["restore", text(&kept)]),
-        "kept: entry 3 is damaged: its checksum doesn't fit; what comes before it is restored by be restore --until 2",
+        "kept: entry 3 is damaged: its checksum doesn't match; what comes before it is restored by be restore --until 2",
     );
     refused(&restored.be(&["restore", "--until", "3", text(&kept)]), "--until 2");
     let said = restored.be(&["restore", "--until", "x", text(&kept)]);

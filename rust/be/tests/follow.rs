@@ -294,7 +294,7 @@ fn a_follower_waits_for_its_server_and_catches_up() {
         folder.rename("renamed", "a/other");
         folder.rename("a", "z");
         server.start_again();
-        follower.wait_until_it_says("the server is there again");
+        follower.wait_until_it_says("the server is back");
         soon("what has changed meanwhile", || {
             same(&server, &folder) && server.paths("size==10").len() == 1
         });
@@ -334,7 +334,7 @@ fn a_server_that_is_killed_again_and_again_is_caught_up_with() {
             server.end();
             follower.wait_until_it_says("waiting for the server");
             server.start_again();
-            follower.wait_until_it_says("the server is there again");
+            follower.wait_until_it_says("the server is back");
         }
         ended.store(true, Ordering::Relaxed);
     });

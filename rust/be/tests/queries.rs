@@ -210,7 +210,7 @@ fn a_comparison_that_is_never_true_is_a_warning() {
         ),
         (
             "size>=2026-11-01",
-            "size>=2026-11-01 is never true: size is int64, and 2026-11-01 isn't a whole number; a date is typed %2026-11-01%",
+            "size>=2026-11-01 is never true: size is int64, and 2026-11-01 isn't a whole number; write a date as %2026-11-01%",
             "size>=2026-11-01",
             "^",
         ),

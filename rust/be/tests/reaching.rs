@@ -76,7 +76,7 @@ fn a_server_that_does_not_reply_is_given_up() {
         (said.status, said.error.as_str()),
         (
             1,
-            "be: the server didn't reply within 50ms; whether a write was made is not known\n"
+            "be: the server didn't reply within 50ms; a write may or may not have been made\n"
         )
     );
 }

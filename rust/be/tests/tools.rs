@@ -79,7 +79,7 @@ fn values_that_do_not_fit_are_refused() {
         (said.status, said.error.as_str()),
         (
             2,
-            "be: the value doesn't fit the type int32, which takes the digits of a whole number in its range\n"
+            "be: the value doesn't fit the type int32, which takes a whole number in its range\n"
         )
     );
     let mut command = server.command(&["addattr", "t"]);

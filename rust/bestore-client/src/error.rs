@@ -26,7 +26,7 @@ pub enum Error {
     #[error("the server sent a line that doesn't follow the protocol: {0}")]
     BadLine(String),
     /// The server didn't reply within this time, and the connection was closed. A write may or may not have taken effect.
-    #[error("the server didn't reply within {0:?}; whether a write was made is not known")]
+    #[error("the server didn't reply within {0:?}; a write may or may not have been made")]
     TimedOut(Duration),
     /// The server at the default path runs as another user. Nothing was sent to it.
     #[error(

@@ -58,7 +58,7 @@ impl Pushes {
     /// Returns the final push of this push's watch, which reports that lines were lost.
     fn end_of(&self, push: Push) -> Push {
         let message = format!(
-            "more than {} bytes of pushes wait to be taken, and those of watch {} are lost; begin it again",
+            "more than {} bytes of pushes were waiting to be read, and those of watch {} were dropped; start it again",
             self.most, push.watch
         );
         Push {

@@ -137,7 +137,7 @@ impl<'a> Reader<'a> {
                 return self.bad(
                     1,
                     if is_version {
-                        "the batch has another version of the format; version 1 can be read"
+                        "the batch's format has another version; only version 1 can be read"
                     } else {
                         "the bytes don't begin with BEB, as those of a batch do"
                     },
@@ -158,7 +158,7 @@ impl<'a> Reader<'a> {
     fn operation(&mut self, batch: &mut Batch) -> Result<()> {
         let kind = u32::from(self.byte()?);
         if kind > sys::BES_REMOVE_INDEX {
-            return self.bad(1, "no operation has this number; they are 0 to 5");
+            return self.bad(1, "no operation has this number; operations are numbered 0 to 5");
         }
         let node = if has_node(kind) {
             u64::from_le_bytes(self.array()?)
@@ -303,9 +303,9 @@ mod tests {
             let (offset, part) = words.split_once(' ').unwrap();
             let why = match part {
                 "beginning" => "the bytes don't begin with BEB, as those of a batch do",
-                "version" => "the batch has another version of the format; version 1 can be read",
+                "version" => "the batch's format has another version; only version 1 can be read",
                 "count" => "a batch has 1 to 64 operations",
-                "operation" => "no operation has this number; they are 0 to 5",
+                "operation" => "no operation has this number; operations are numbered 0 to 5",
                 "kind" => "no kind has this type code",
                 _ => "the batch ends here, and more bytes follow",
             };

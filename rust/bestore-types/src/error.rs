@@ -256,7 +256,7 @@ impl fmt::Display for Error {
             Error::Query(error) => error.fmt(f),
             Error::InVolume { volume, error } => write!(f, "volume {volume}: {error}"),
             #[cfg(feature = "saved")]
-            Error::NotSaved(error) => write!(f, "the write is in memory, and couldn't be saved: {error}"),
+            Error::NotSaved(error) => write!(f, "the write is in memory, but couldn't be saved: {error}"),
             #[cfg(feature = "saved")]
             Error::Stopped(error) => write!(f, "the store takes no more writes: {error}"),
             Error::Other(error) => error.fmt(f),
@@ -274,7 +274,7 @@ impl fmt::Display for Error {
 
 /// The library's store has one more pass.
 const BAD_LIMITS: &str =
-    "a limit of the store is out of its range; it has 8 to 16,384 pages, 1 to 63 passes and 1 to 4,294,967,295 commits";
+    "a limit of the store is out of range; a store has 8 to 16,384 pages, 1 to 63 passes and 1 to 4,294,967,295 commits";
 
 impl Error {
     /// Formats an error from the library.
@@ -283,7 +283,7 @@ impl Error {
         f.write_str(meaning.what)?;
         match self {
             Error::Busy { pass } => write!(f, " (pass {pass})")?,
-            Error::Full { oldest } => write!(f, " (the oldest snapshot that may be read is {oldest})")?,
+            Error::Full { oldest } => write!(f, " (the oldest snapshot that may still be read is {oldest})")?,
             Error::NameLength { operation } | Error::DataLength { operation } | Error::HasNul { operation } => {
                 at_operation(f, operation)?;
             }
@@ -308,17 +308,17 @@ impl Error {
                 write!(f, "there is no volume {volume}; there are {volumes}, counted from 0")
             }
             Error::OtherVolume { volume, operation } => {
-                write!(f, "a node isn't in volume {volume}, which is written")?;
+                write!(f, "a node isn't in volume {volume}, which the batch is for")?;
                 at_operation(f, operation)?;
-                f.write_str("; a batch has nodes of one volume")
+                f.write_str("; a batch can only have nodes of one volume")
             }
             Error::PartialIndex { operation } => {
-                f.write_str("an index is made in all volumes")?;
+                f.write_str("an index has to be made or removed in all volumes")?;
                 at_operation(f, &Some(*operation))?;
                 f.write_str("; it needs a batch without other operations")
             }
             Error::OtherStore => f.write_str("the witness belongs to another store; join one of this store"),
-            Error::NodesSpent => f.write_str("the volume has used up its node numbers; write in another one"),
+            Error::NodesSpent => f.write_str("the volume has used up its node numbers; write to another one"),
             _ => f.write_str("the handle belongs to the process that this one was forked from; open a store here"),
         }
     }
@@ -499,7 +499,7 @@ mod tests {
     fn a_caret_stands_under_the_character() {
         let error = QueryError::new("size<5 || größe==[", QueryFault::BadPattern, Some(19));
         let said = concat!(
-            "this pattern isn't valid here; a set such as [a-d] ends with ], isn't empty, and its ranges rise\n",
+            "this pattern isn't valid here; a set such as [a-d] must be closed by ], must not be empty, and its ranges must ascend\n",
             "  size<5 || größe==[\n                   ^"
         );
         assert_eq!(error.to_string(), said);

@@ -217,7 +217,7 @@ mod tests {
     fn what_is_no_query_is_refused() {
         let bad = attribute("a").lt(1) & attribute("b").eq("x[");
         let said = concat!(
-            "this pattern isn't valid here; a set such as [a-d] ends with ], isn't empty, and its ranges rise\n",
+            "this pattern isn't valid here; a set such as [a-d] must be closed by ], must not be empty, and its ranges must ascend\n",
             "  x["
         );
         assert_eq!(bad.prepare().unwrap_err().to_string(), said);

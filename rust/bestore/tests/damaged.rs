@@ -193,7 +193,7 @@ fn a_damaged_entry_is_named_and_the_part_before_it_can_be_read() {
     let refused = folder.refusal();
     assert!(
         refused.to_string().ends_with(
-            "test.bestore: entry 6 is damaged: its checksum doesn't fit; what comes before it is restored by be restore --until 5"
+            "test.bestore: entry 6 is damaged: its checksum doesn't match; what comes before it is restored by be restore --until 5"
         ),
         "{refused}"
     );

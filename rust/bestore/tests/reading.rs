@@ -166,7 +166,7 @@ fn a_querys_error_has_its_text_and_place() {
     assert_eq!(bad.fault(), QueryFault::BadPattern);
     assert_eq!((bad.offset(), bad.column()), (Some(19), Some(17)));
     let said = concat!(
-        "this pattern isn't valid here; a set such as [a-d] ends with ], isn't empty, and its ranges rise\n",
+        "this pattern isn't valid here; a set such as [a-d] must be closed by ], must not be empty, and its ranges must ascend\n",
         "  size<5 || größe==[\n                   ^"
     );
     assert_eq!(bad.to_string(), said);

@@ -42,7 +42,7 @@ impl Disk {
         (free < self.spare).then(|| {
             let [free, spare] = [free, self.spare].map(|bytes| bytes >> 10);
             format!(
-                "the disk of {} has {free} KiB free, and {spare} KiB have to stay free",
+                "the disk of {} has {free} KiB free, and {spare} KiB must stay free",
                 self.folder.to_string_lossy()
             )
         })

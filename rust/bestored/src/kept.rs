@@ -172,7 +172,7 @@ impl Kept {
 
     #[cfg(not(feature = "log"))]
     fn open_log(_: Opening<'_>) -> Result<Option<Self>, Box<dyn Error>> {
-        Err("this program is built without the feature log".into())
+        Err("this program was built without the feature log".into())
     }
 
     /// Returns the volumes in memory. Writes are kept only if they go through a pass from [`pass`](Self::pass).
@@ -208,7 +208,7 @@ impl Kept {
         match self {
             Kept::File(files) if files.is_over.load(Ordering::Relaxed) => Err(Failure::new(
                 ErrorName::Stopped,
-                "a commit has failed, and the server ends",
+                "a commit has failed, and the server is stopping",
             )),
             _ => Ok(()),
         }

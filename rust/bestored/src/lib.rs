@@ -73,8 +73,8 @@ fn start(options: Options) -> Result<ExitCode, Box<dyn Error>> {
 fn place(options: &Options) -> Result<Place, Box<dyn Error>> {
     match os::passed_socket()? {
         None => Ok(Place::find(&options.socket())?),
-        Some(_) if options.socket.is_some() => Err("--socket is given, and systemd has passed a socket".into()),
-        Some(_) if options.background => Err("--background is given, and systemd has passed a socket".into()),
+        Some(_) if options.socket.is_some() => Err("--socket can't be used, because systemd has passed a socket".into()),
+        Some(_) if options.background => Err("--background can't be used, because systemd has passed a socket".into()),
         Some(listener) => Ok(Place::Passed(listener)),
     }
 }

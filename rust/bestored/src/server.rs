@@ -94,7 +94,7 @@ pub fn run(
     shared.carrying.end();
     for (what, thread) in [("the live queries", watching), ("the journals", carrying)] {
         if thread.join().is_err() {
-            eprintln!("bestored: the thread of {what} has ended by a fault");
+            eprintln!("bestored: the thread for {what} has crashed");
         }
     }
     shared.kept.finish()
@@ -152,7 +152,7 @@ fn welcome(shared: &Arc<Shared>, stream: Arc<UnixStream>) {
         other => {
             let other = other.map_or_else(|error| error.to_string(), |user| format!("user {user}"));
             let process = peer_process(&stream).unwrap_or(0);
-            eprintln!("bestored: process {process} of {other} is refused: the server belongs to another user");
+            eprintln!("bestored: process {process} of {other} was refused: the server belongs to another user");
             return refuse(&stream, &Failure::named(ErrorName::NotAllowed));
         }
     }
@@ -183,7 +183,7 @@ fn refuse_for_now(shared: &Shared, stream: &UnixStream) {
     if said.map_or(true, |said| said.elapsed() >= SAID) {
         *said = Some(Instant::now());
         let process = peer_process(stream).unwrap_or(0);
-        eprintln!("bestored: process {process} is refused: {}", failure.0.message);
+        eprintln!("bestored: process {process} was refused: {}", failure.0.message);
     }
     drop(said);
     refuse(stream, &failure);
@@ -260,7 +260,7 @@ fn take_visit(shared: &Shared) -> Option<MutexGuard<'_, ShelfPass>> {
 /// Creates the error for a client that can't get a pass because all of them are taken.
 pub fn no_pass(shared: &Shared) -> Failure {
     let clients = shared.options.passes;
-    let message = format!("every place for a client is taken ({clients}); try again once one is free");
+    let message = format!("{clients} clients are connected, the most allowed; try again once one has disconnected");
     Failure::new(ErrorName::NoPass, message).with("clients", clients)
 }
 

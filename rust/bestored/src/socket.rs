@@ -127,7 +127,7 @@ fn open_folder(folder: &Path) -> io::Result<File> {
     if writable && !sticky {
         return Err(wrong(
             folder,
-            "others may write in the folder; chmod go-w takes that right away",
+            "others may write to the folder; chmod go-w removes that permission",
         ));
     }
     Ok(opened)
@@ -151,7 +151,7 @@ fn open_own_folder(folder: &Path) -> io::Result<File> {
     if found.mode() & 0o022 != 0 {
         return Err(wrong(
             folder,
-            "others may write in the folder; chmod go-w takes that right away",
+            "others may write to the folder; chmod go-w removes that permission",
         ));
     }
     Ok(opened)
@@ -181,7 +181,7 @@ fn lock(folder: File) -> io::Result<File> {
     }
     Err(io::Error::new(
         ErrorKind::WouldBlock,
-        "another program keeps the lock of the folder",
+        "another program holds the folder's lock",
     ))
 }
 

@@ -32,7 +32,7 @@ fn write_once(
     view: &mut View<'_, '_>,
 ) -> Result<wire::Written, Failure> {
     if volumes::is_for_all(write, view.volumes()) {
-        let why = "a batch that is written in each volume takes no token; it can be sent again without one";
+        let why = "a batch that is written to every volume takes no token; it can be sent again without one";
         return Err(Failure::bad_request(why));
     }
     match shared.tokens.begin(token.as_str()) {

@@ -304,7 +304,7 @@ fn a_wrong_outcome_is_named_with_its_entry() {
     }
     database.sql("UPDATE bestore_entry SET batch = set_byte(batch, 6, 99) WHERE number = 10");
     follower.server.signal("CONT");
-    let why = "entry 10 of the log: it has something that no store wrote: it makes other nodes here";
+    let why = "entry 10 of the log: it contains something that no store wrote: it makes different nodes here";
     let said = follower.end();
     assert!(said.contains(why), "{said}");
     let said = Member::start(&database, "--follow").end();
@@ -321,11 +321,11 @@ fn a_wrong_outcome_is_named_with_its_entry() {
         ),
         (
             "DELETE FROM bestore_entry WHERE number = 3",
-            "entry 3 of the log: it has something that no store wrote: the entry is missing",
+            "entry 3 of the log: it contains something that no store wrote: the entry is missing",
         ),
         (
             "DELETE FROM bestore_entry",
-            "entry 1 of the log: it has something that no store wrote: the entry is missing",
+            "entry 1 of the log: it contains something that no store wrote: the entry is missing",
         ),
     ] {
         database.sql(change);
@@ -630,13 +630,13 @@ fn the_state_is_written_and_read() {
     database.sql("UPDATE bestore_state SET batch = 'BEC' WHERE place = 3");
     let said = Member::start(&database, "--follow").end();
     assert!(
-        said.contains("batch 2 of the state of the log: it has something that no store wrote"),
+        said.contains("batch 2 of the state of the log: it contains something that no store wrote"),
         "{said}"
     );
     database.sql("DELETE FROM bestore_state WHERE place > 1");
     let said = Member::start(&database, "--follow").end();
     assert!(
-        said.contains("of the log: it has something that no store wrote"),
+        said.contains("of the log: it contains something that no store wrote"),
         "{said}"
     );
 }

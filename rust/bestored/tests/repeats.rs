@@ -113,7 +113,7 @@ fn tokens_are_of_the_whole_server_and_outlive_it() {
         server.talk().check(
             r#""batch":{"operations":[["index","a","text"]],"token":"b"}"#,
             concat!(
-                r#""error":{"name":"BadRequest","message":"a batch that is written in each volume takes no token; "#,
+                r#""error":{"name":"BadRequest","message":"a batch that is written to every volume takes no token; "#,
                 r#"it can be sent again without one","class":"mine"}"#
             ),
         );

@@ -317,7 +317,7 @@ impl Import<'_> {
                 Err(failure) if failure.is_of_connection() => pause = (2 * pause).min(longest),
                 again => {
                     *self = again?;
-                    complain("the server is there again");
+                    complain("the server is back");
                     return Ok(());
                 }
             }

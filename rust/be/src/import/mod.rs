@@ -199,7 +199,7 @@ fn make_indices(client: &mut Client) -> Result<BTreeMap<String, Kind>, Failure> 
                 _ => {}
             },
             Some(other) if *other != kind => complain(&format!(
-                "warning: the index {name} takes {} and leaves out each {} of a file",
+                "warning: the index {name} holds {}, so it omits each file's {}",
                 kind_name(*other),
                 kind_name(kind)
             )),
@@ -209,7 +209,7 @@ fn make_indices(client: &mut Client) -> Result<BTreeMap<String, Kind>, Failure> 
     let all = kinds(server::indices(client)?);
     for (name, _) in INDICES.iter().filter(|(name, _)| !all.contains_key(*name)) {
         complain(&format!(
-            "warning: the volumes have the index {name} with different types, or some lack it"
+            "warning: the index {name} has different types in different volumes, or some lack it"
         ));
     }
     Ok(all)

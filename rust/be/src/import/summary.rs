@@ -139,7 +139,7 @@ impl Summary {
                 } = self;
                 let counts = format!("{new} new, {changed} changed, {renamed} renamed, {removed} removed");
                 output.line(format!("{files} files: {counts}").as_bytes())?;
-                output.line(format!("types by {types}").as_bytes())?;
+                output.line(format!("types from {types}").as_bytes())?;
             }
         }
         self.complain();
@@ -164,7 +164,7 @@ impl Summary {
         complain_of(refused, "can't be written");
         if self.xattrs_left > 0 {
             complain(&format!(
-                "{} extended attributes are left out: their values or names are too long",
+                "{} extended attributes were left out, because their names or values are too long",
                 self.xattrs_left
             ));
         }

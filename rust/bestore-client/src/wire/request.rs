@@ -321,7 +321,7 @@ fn read_object<'de, T: FromObject<'de>, D: Deserializer<'de>>(from: D) -> Result
 struct Object<T>(T);
 
 impl<'de, T: Deserialize<'de>> FromObject<'de> for Object<T> {
-    const EXPECTED: &'static str = "an object of parameters";
+    const EXPECTED: &'static str = "an object with parameters";
 
     fn read_from<A: MapAccess<'de>>(map: A) -> Result<Self, A::Error> {
         T::deserialize(MapAccessDeserializer::new(map)).map(Object)
@@ -450,7 +450,7 @@ impl<'de: 'a, 'a> Deserialize<'de> for Request<'a> {
 }
 
 impl<'de> FromObject<'de> for Request<'de> {
-    const EXPECTED: &'static str = "an object of an id and a command";
+    const EXPECTED: &'static str = "an object with an id and a command";
 
     fn read_from<A: MapAccess<'de>>(mut map: A) -> Result<Self, A::Error> {
         let (mut id, mut command) = (None, None);
@@ -458,7 +458,7 @@ impl<'de> FromObject<'de> for Request<'de> {
             if key.0 == "id" {
                 let number: u64 = map.next_value()?;
                 if number > super::EXACT {
-                    return Err(de::Error::custom("the id is too great"));
+                    return Err(de::Error::custom("the id is too large"));
                 }
                 if id.replace(number).is_some() {
                     return Err(de::Error::custom("there are two ids"));

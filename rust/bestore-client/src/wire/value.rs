@@ -93,7 +93,7 @@ impl<'de> Visitor<'de> for JsonVisitor {
     type Value = Json;
 
     fn expecting(&self, f: &mut fmt::Formatter<'_>) -> fmt::Result {
-        f.write_str("a text, an integer, or an object of a kind and a value")
+        f.write_str("a string, an integer, or an object with a kind and a value")
     }
 
     fn visit_str<E: de::Error>(self, text: &str) -> Result<Json, E> {
@@ -110,7 +110,7 @@ impl<'de> Visitor<'de> for JsonVisitor {
 
     fn visit_u64<E: de::Error>(self, number: u64) -> Result<Json, E> {
         let number = i64::try_from(number)
-            .map_err(|_| E::custom("the integer doesn't fit an int64; a greater one is written as {\"uint64\":5}"))?;
+            .map_err(|_| E::custom("the integer doesn't fit an int64; a larger one is written as {\"uint64\":5}"))?;
         Ok(Json(number.into()))
     }
 
@@ -145,7 +145,7 @@ fn raw<E: de::Error>(text: Text<'_>) -> Result<Vec<u8>, E> {
 pub(super) struct Text<'a>(#[serde(borrow)] pub(super) Cow<'a, str>);
 
 /// What an integer of a given kind must look like in JSON.
-const INTEGER: &str = "an integer of its kind, or the digits of one as a text, such as \"-5\"";
+const INTEGER: &str = "an integer in the kind's range, or its digits as a string, such as \"-5\"";
 
 /// An integer, read from a JSON number or from a string of digits.
 struct Integer<T>(T);

@@ -206,7 +206,7 @@ impl Error {
             path: path.to_owned(),
             place,
             until,
-            why: "its checksum doesn't fit".into(),
+            why: "its checksum doesn't match".into(),
         }
     }
 
@@ -282,26 +282,26 @@ impl fmt::Display for Error {
             Error::Held { path } => write!(f, "{}: the file is open in another process or store; close it there first", path.display()),
             Error::Exists { path } => write!(
                 f,
-                "{}: this file or folder exists, and isn't overwritten; remove it, or name another",
+                "{}: this file or folder exists, and won't be overwritten; remove it, or name another",
                 path.display()
             ),
             Error::DiskFull { path } => write!(f, "{}: the disk is full", path.display()),
             Error::Damaged { path, place, until, why } => {
                 write!(f, "{}: {place} is damaged: {why}; ", path.display())?;
                 match until {
-                    Some(until) => write!(f, "what comes before it is restored by be restore --until {until}"),
+                    Some(until) => write!(f, "be restore --until {until} restores what comes before it"),
                     None => f.write_str("restore a backup"),
                 }
             }
             Error::CutOff { path, last, had } => write!(
                 f,
-                "{0}: the file ends with entry {last}, and it has had entry {had}: {0}-wal is damaged or missing; put it back, or \
-                 restore what is left by be restore --until {last}. If the file is an older copy, remove {0}-last",
+                "{0}: the file ends with entry {last}, but it once had entry {had}: {0}-wal is damaged or missing; put it back, or \
+                 restore what is left with be restore --until {last}. If the file is an older copy, remove {0}-last",
                 path.display()
             ),
             Error::NotWithin { path, until, first, .. } if until < first => write!(
                 f,
-                "{}: entry {until} can't be the last one: the file has the state after entry {first}, so {first} is the least",
+                "{}: entry {until} can't be the last one: the file has the state after entry {first}, so the lowest is {first}",
                 path.display()
             ),
             Error::NotWithin { path, until, last, .. } => write!(
@@ -321,7 +321,7 @@ impl fmt::Display for Error {
                 volumes.saturating_sub(1)
             ),
             Error::Differs { place, why } => {
-                write!(f, "{place}: the file has something that no store wrote: {why}")
+                write!(f, "{place}: the file contains something that no store wrote: {why}")
             }
             Error::TooLarge { place, error } => {
                 write!(f, "{place}: the file doesn't fit the limits of the store: {error}")

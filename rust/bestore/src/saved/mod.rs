@@ -193,7 +193,7 @@ fn load(file: &File, store: &Store, until: u64) -> Result<u64> {
     if own.pin()?.next_node()? != state.next {
         return Err(Error::differs(
             Place::State(0),
-            "the next node of the state differs from the one that it names",
+            "the state's next node number differs from the recorded one",
         ));
     }
     let mut last = state.entries;
@@ -209,7 +209,7 @@ fn repeat(pass: &Pass, number: u64, batch: &Batch) -> Result<()> {
     let place = Place::Entry(number);
     match pass.repeat(batch) {
         Ok(true) => Ok(()),
-        Ok(false) => Err(Error::differs(place, "it makes other nodes now")),
+        Ok(false) => Err(Error::differs(place, "it makes different nodes now")),
         Err(error) => Err(Error::refused(place, error)),
     }
 }

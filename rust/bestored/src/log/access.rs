@@ -55,7 +55,7 @@ fn config(in_log: &InLog) -> Result<Config> {
     let mut config: Config = in_log.url.parse().map_err(Error::Url)?;
     match (config.get_password(), std::env::var("PGPASSWORD")) {
         (Some(_), _) => eprintln!(
-            "bestored: the password in the URL is in the list of processes; leave it out, and write it into a file for --passfile"
+            "bestored: the password in the URL is visible in the list of processes; leave it out, and write it to a file for --passfile"
         ),
         (None, Ok(password)) => drop(config.password(password)),
         (None, Err(_)) => add_password(&mut config, in_log.passfile.as_deref())?,

@@ -22,7 +22,7 @@ pub enum Error {
     Url(#[source] tokio_postgres::Error),
     /// The URL asks for TLS.
     #[error(
-        "the connection to the log has no TLS, which sslmode={mode} asks for; use a Unix socket or a tunnel, with sslmode=disable"
+        "connections to the log don't support TLS, which sslmode={mode} requires; use a Unix socket or a tunnel, with sslmode=disable"
     )]
     NoTls { mode: String },
     /// The password file has no password for the URL, or other users may read the file.
@@ -58,10 +58,10 @@ pub enum Error {
     #[error("the database has a different log from before")]
     Replaced,
     /// The log has fewer entries than before, or more than any server can have added.
-    #[error("the log has {found} entries, and {known} of them are known here")]
+    #[error("the log has {found} entries, but this server has {known}")]
     Length { known: u64, found: u64 },
     /// The log contains something that no store wrote.
-    #[error("{place} of the log: it has something that no store wrote: {why}")]
+    #[error("{place} of the log: it contains something that no store wrote: {why}")]
     Differs {
         place: Place,
         #[source]
@@ -134,10 +134,10 @@ impl fmt::Display for Shown<'_> {
 #[derive(Clone, Debug, thiserror::Error)]
 pub enum Refused {
     /// This server is a follower.
-    #[error("this server follows, and {leader} leads")]
+    #[error("this server is a follower; {leader} leads the log")]
     NotLeader { leader: String },
     /// The write was made in memory, but may or may not be in the log.
-    #[error("the write may be in the log or not: {0}")]
+    #[error("the write may or may not be in the log: {0}")]
     NotSaved(Arc<Error>),
     /// Nothing was written, because the log can't be written to.
     #[error("nothing was written: {0}")]

@@ -123,7 +123,7 @@ impl Member {
     fn note(&self, error: Error) {
         let text = error.to_string();
         if self.line.trouble(error, self.tried) {
-            eprintln!("bestored: {text}; it is tried again");
+            eprintln!("bestored: {text}; trying again");
         }
     }
 
@@ -206,7 +206,7 @@ impl Member {
     async fn gets_lock(&self, head: &Head) -> Result<bool> {
         if head.silence.map_or(false, |silence| silence >= LEASE) && self.database.end_leader(LEASE).await? {
             eprintln!(
-                "bestored: {} leads and has said nothing for {LEASE} seconds; its session is ended",
+                "bestored: {} leads, but has been silent for {LEASE} seconds; ending its session",
                 head.leader
             );
         }
@@ -283,7 +283,7 @@ impl Member {
                 self.add_token(entry, &written);
                 Ok(())
             }
-            false => Err(Error::differs(place, "it makes other nodes here")),
+            false => Err(Error::differs(place, "it makes different nodes here")),
         }
     }
 

@@ -72,7 +72,7 @@ impl Log {
                 Err(error) if error.is_unreachable() => {
                     opening.notifier.waits(&error.to_string());
                     if !mem::replace(&mut is_said, true) {
-                        eprintln!("bestored: {error}; it is tried again");
+                        eprintln!("bestored: {error}; trying again");
                     }
                 }
                 begun => return begun.map(Some),
@@ -259,7 +259,7 @@ fn within(milliseconds: Option<u64>) -> std::result::Result<Duration, Failure> {
         time @ 0..=60_000 => Ok(Duration::from_millis(time)),
         _ => Err(Failure::new(
             ErrorName::BadRequest,
-            "within has 0 to 60000 milliseconds, and this is more",
+            "within can be up to 60000 milliseconds, and this is more",
         )),
     }
 }

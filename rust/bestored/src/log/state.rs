@@ -19,7 +19,7 @@ pub async fn load(database: &mut Database, pass: &mut Pass) -> Result<u64> {
     if pass.pin()?.next_node()? != head.next {
         return Err(Error::differs(
             last,
-            "the next node of the state differs from the one that it names",
+            "the state's next node number differs from the recorded one",
         ));
     }
     Ok(head.entries)
