@@ -370,8 +370,8 @@ class WhatIsMissing(unittest.TestCase):
         with bestore.open(64, 1, 100) as store:
             store.new_node()
             for value, kind, said in [
-                (True, None, "True isn't a value of an attribute: write int(True), which is 1, or a text"),
-                (False, bestore.INT32, "False isn't a value of an attribute: write int(False), which is 0, or a text"),
+                (True, None, "True isn't an attribute's value: write int(True), which is 1, or a string"),
+                (False, bestore.INT32, "False isn't an attribute's value: write int(False), which is 0, or a string"),
                 (1.5, None, "1.5 isn't an attribute's value, which is a str, bytes or an int"),
                 (None, bestore.STRING, "None isn't an attribute's value, which is a str, bytes or an int"),
                 ("5", bestore.INT32, "'5' can't be of the kind INT32: a str is STRING or MIME"),

@@ -91,7 +91,7 @@ class Changes(unittest.TestCase):
                 store.change(disturbed, attempts=5)
             conflict = fault.exception.__cause__
             self.assertEqual((fault.exception.attempts, conflict.expected, conflict.found), (5, 6, 7))
-            self.assertEqual(str(fault.exception), "other writes came between at each of 5 attempts; try again, or allow more")
+            self.assertEqual(str(fault.exception), "another write came first at each of 5 attempts; try again, or allow more attempts")
             with store.pin() as version:
                 self.assertEqual(version.get(node, "count"), 0)
 

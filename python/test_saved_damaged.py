@@ -81,8 +81,8 @@ class Damaged(Files):
         damaged = self.refusal()
         assert isinstance(damaged, saved.Damaged)
         self.assertEqual((damaged.entry, damaged.batch, damaged.until), (6, None, 5))
-        self.assertEqual(str(damaged), f"{self.path}: entry 6 is damaged: its checksum doesn't match; what comes before it is restored by "
-                                       "be restore --until 5")
+        self.assertEqual(str(damaged), f"{self.path}: entry 6 is damaged: its checksum doesn't match; be restore --until 5 "
+                                       "restores what comes before it")
 
     def test_parts(self) -> None:
         """Every part of a row is checked."""

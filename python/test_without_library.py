@@ -86,7 +86,7 @@ CLIENT = """
         try:
             call()
         except ImportError as error:
-            assert "no compiled part" in str(error) or "_native" in str(error), error
+            assert "compiled part" in str(error) or "_native" in str(error), error
         else:
             raise AssertionError("the engine was there")
     print("done")

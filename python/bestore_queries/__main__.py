@@ -18,8 +18,8 @@ def parser() -> argparse.ArgumentParser:
     made = argparse.ArgumentParser(
         prog="bestore-queries",
         description="A window that finds files by their attributes, and follows them as they come and go.",
-        epilog="Without --socket and --folder it asks the server at BESTORE_SOCKET, otherwise at its usual socket. If none "
-        "listens there it starts bestored for itself.")
+        epilog="Without --socket and --folder, it uses the server at BESTORE_SOCKET, or at the usual socket if that isn't set. If no "
+        "server is listening there, it starts its own.")
     where = made.add_mutually_exclusive_group()
     where.add_argument("--socket", metavar="PATH", help="the socket of the server to search")
     where.add_argument("--folder", metavar="FOLDER", help="read this folder, or Maildir, into the window's own store")

@@ -165,9 +165,9 @@ class Asking(unittest.TestCase):
         self.becomes("a")
         for write, fault in [
             (Write(node, "BEOS:TYPE", "x", None), None),
-            (Write(node, "BEOS:TYPE", "y", None), "another program has set it to “x” meanwhile"),
+            (Write(node, "BEOS:TYPE", "y", None), "another program has set it to “x” in the meantime"),
             (Write(node, "BEOS:TYPE", "", "x"), None),
-            (Write(node, "BEOS:TYPE", "", "x"), "another program has removed it meanwhile"),
+            (Write(node, "BEOS:TYPE", "", "x"), "another program has removed it in the meantime"),
             (Write(node, "BEOS:TYPE", "", None), None), (Write(999, "BEOS:TYPE", "x", None), "it is gone"),
             (Write(node, "size", "much", 1), "“much” isn't a whole number"),
             (Write(node, "n" * 64, "x", None), "a name is empty or has more than 63 bytes"),

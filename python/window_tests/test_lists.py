@@ -199,7 +199,7 @@ class SavedFile(unittest.TestCase):
         """If a file can't be read, the error names it and the place, and the file isn't overwritten."""
         os.makedirs(os.path.dirname(self.path))
         for text, reason in [
-            (b"{", "line 1, column 2"), (b"[]", "no list of queries"), (b'{"queries":[{"name":1,"query":"x"}]}', "isn't a text"),
+            (b"{", "line 1, column 2"), (b"[]", "no list of queries"), (b'{"queries":[{"name":1,"query":"x"}]}', "isn't a string"),
             (b'{"queries":[{}]}', "no list of queries"), (b"\xff", "no list of queries"), (b"[" * 100000, "no list of queries"),
         ]:
             with open(self.path, "wb") as file:

@@ -170,7 +170,7 @@ class Faults(OverStore):
         window = self.window("a")
         window.ask("size>0 || color==red")
         self.becomes(window, lambda: str(window.message["text"]).startswith(
-            "“color” has no index. Those that have one: BEOS:TYPE, last_modified, name, size"))
+            "“color” has no index. Indexed names: BEOS:TYPE, last_modified, name, size"))
         self.assertEqual(str(window.message["text"]).splitlines()[1:], ["size>0 || color==red", "          ^"])
 
 
@@ -342,7 +342,7 @@ class Editing(OverStore):
         window.root.update()
         self.assertIsNotNone(window.list.editor.cell)
         self.store.remove_node(1)
-        self.becomes(window, lambda: "isn't a hit any more. You had typed: text/plain" in str(window.notice["text"]))
+        self.becomes(window, lambda: "is no longer a hit. You had typed: text/plain" in str(window.notice["text"]))
         self.assertIsNone(window.list.editor.cell)
 
     def test_not_of_files(self) -> None:
@@ -571,7 +571,7 @@ class OverServer(OnDisplay):
         window.ask("size>=0")
         self.shows(window, "a", "b")
         self.server.kill()
-        self.becomes(window, lambda: "The store isn't there" in str(window.notice["text"]))
+        self.becomes(window, lambda: "The store can't be reached" in str(window.notice["text"]))
         self.assertEqual((shown(window), str(window.state["text"])), ([], ""))
         self.server.start()
         self.store = self.server.connect()

@@ -100,7 +100,7 @@ fn what_is_there_is_not_replaced() {
     let path = file(&server, "there");
     fs::write(&path, "mine").unwrap();
     let before = names();
-    refused(&server.be(&["backup", text(&path)]), "exists, and isn't overwritten");
+    refused(&server.be(&["backup", text(&path)]), "exists, and won't be overwritten");
     refused(&server.be(&["backup", "no/such/folder"]), "No such file");
     assert_eq!(fs::read_to_string(&path).unwrap(), "mine");
     assert_eq!(names(), before);
@@ -179,7 +179,7 @@ fn a_changed_backup_is_refused_with_the_place() {
         ),
         (
             "UPDATE about SET number = 9 WHERE what = 'next'",
-            "the next node of the state differs",
+            "the state's next node number differs",
             true,
         ),
         // An entry that removes node 77.
@@ -214,7 +214,7 @@ fn several_volumes_are_a_folder() {
     let about = back_up(&server, &path);
     assert_eq!(about["commits"], serde_json::json!([3, 3, 3]));
     assert_eq!(load(&path).pin().unwrap().query("name==a").unwrap().len(), 3);
-    refused(&server.be(&["backup", text(&path)]), "exists, and isn't overwritten");
+    refused(&server.be(&["backup", text(&path)]), "exists, and won't be overwritten");
 
     let restored = server!(Server::start_with(&options));
     let elsewhere = ["restore", "--until", "3:1", text(&path)];
@@ -237,7 +237,7 @@ fn what_comes_before_a_damaged_entry_is_restored() {
     let restored = server!(Server::start());
     refused(
         &restored.be(&["restore", text(&kept)]),
-        "kept: entry 3 is damaged: its checksum doesn't match; what comes before it is restored by be restore --until 2",
+        "kept: entry 3 is damaged: its checksum doesn't match; be restore --until 2 restores what comes before it",
     );
     refused(&restored.be(&["restore", "--until", "3", text(&kept)]), "--until 2");
     let said = restored.be(&["restore", "--until", "x", text(&kept)]);

@@ -86,7 +86,7 @@ fn a_second_import_writes_what_has_changed_alone() {
     assert_eq!(server.import(&folder), [0; 4]);
     let said = server.done(&["import", "--reread", &folder.all()]);
     assert!(
-        said.starts_with("6 files: 0 new, 0 changed, 0 renamed, 0 removed\ntypes by "),
+        said.starts_with("6 files: 0 new, 0 changed, 0 renamed, 0 removed\ntypes from "),
         "{said}"
     );
 }
@@ -461,7 +461,7 @@ fn extended_attributes_are_read_and_written() {
     let said = server.be(&["import", &folder.all()]);
     assert_eq!((said.status, said.error.lines().count()), (0, 1), "{said:?}");
     assert!(
-        said.error.starts_with("be: 2 extended attributes are left out"),
+        said.error.starts_with("be: 2 extended attributes were left out"),
         "{said:?}"
     );
     assert_eq!(server.paths("rating==5"), [file.clone()].into());

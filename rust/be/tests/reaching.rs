@@ -92,7 +92,7 @@ fn a_server_without_a_place_answers_short_commands() {
     assert!(server.done(&["status"]).contains("clients"));
     for words in [&["query", "--watch", "name==a"][..], &["import", "/dev"]] {
         let said = server.be(words);
-        let why = "be: every place for a client is taken (1); try again once one is free\n";
+        let why = "be: the maximum number of clients is connected (1); try again once one has disconnected\n";
         assert_eq!((said.status, said.error.as_str()), (1, why));
     }
     idle.hello().unwrap();

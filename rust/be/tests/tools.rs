@@ -89,7 +89,7 @@ fn values_that_do_not_fit_are_refused() {
         (said.status, said.error.as_str()),
         (
             2,
-            "be: the value isn't valid UTF-8, as a string is; the type raw takes any bytes\n"
+            "be: the value isn't valid UTF-8, as a string must be; the type raw takes any bytes\n"
         )
     );
     let said = server.fed(&["addattr", "-f", "-", "t", "1"], &[b'a'; 1 << 20]);
@@ -248,7 +248,7 @@ fn an_index_of_another_type_is_warned_of() {
     assert_eq!(said.status, 0);
     assert_eq!(
         said.error,
-        "be: warning: the index size takes int64 and leaves out this string\n"
+        "be: warning: the index size holds int64, so it omits this string\n"
     );
 }
 

@@ -308,7 +308,10 @@ impl Next {
         for entry in pass.journal_from(self.commit).take(most as usize) {
             let entry = entry?;
             if !self.pass.repeat(&entry.batch)? {
-                return Err(Error::other(format!("entry {} makes different nodes now", entry.number)));
+                return Err(Error::other(format!(
+                    "entry {} makes different nodes now",
+                    entry.number
+                )));
             }
             self.commit = entry.number;
         }

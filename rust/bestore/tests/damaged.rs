@@ -193,7 +193,7 @@ fn a_damaged_entry_is_named_and_the_part_before_it_can_be_read() {
     let refused = folder.refusal();
     assert!(
         refused.to_string().ends_with(
-            "test.bestore: entry 6 is damaged: its checksum doesn't match; what comes before it is restored by be restore --until 5"
+            "test.bestore: entry 6 is damaged: its checksum doesn't match; be restore --until 5 restores what comes before it"
         ),
         "{refused}"
     );
@@ -272,7 +272,7 @@ fn only_entries_that_are_there_can_be_the_last_one() {
     let said = "entry 10 can't be the last one: the file ends with entry 9";
     check_not_within(&folder, 10, (0, 9), said);
     drop(folder.open().unwrap());
-    let said = "entry 8 can't be the last one: the file has the state after entry 9, so 9 is the least";
+    let said = "entry 8 can't be the last one: the file has the state after entry 9, so the lowest is 9";
     check_not_within(&folder, 8, (9, 9), said);
     assert!(read_until(&folder, 9).is_ok());
     let refused = options().until(0, 9).until(1, 9).load(folder.file()).unwrap_err();

@@ -46,7 +46,8 @@ impl Copies {
                 volumes: Vec::new(),
             }),
             Err(_) => {
-                let message = format!("{MOST} clients are reading copies of snapshots, the most that can at the same time");
+                let message =
+                    format!("{MOST} clients are reading copies of snapshots, the most that can at the same time");
                 Err(Failure::new(ErrorName::TooManyCopies, message).with("most", MOST))
             }
         }

@@ -73,7 +73,9 @@ fn start(options: Options) -> Result<ExitCode, Box<dyn Error>> {
 fn place(options: &Options) -> Result<Place, Box<dyn Error>> {
     match os::passed_socket()? {
         None => Ok(Place::find(&options.socket())?),
-        Some(_) if options.socket.is_some() => Err("--socket can't be used, because systemd has passed a socket".into()),
+        Some(_) if options.socket.is_some() => {
+            Err("--socket can't be used, because systemd has passed a socket".into())
+        }
         Some(_) if options.background => Err("--background can't be used, because systemd has passed a socket".into()),
         Some(listener) => Ok(Place::Passed(listener)),
     }

@@ -83,14 +83,14 @@ fn command() -> Command {
                 .action(ArgAction::SetTrue)
                 .help("Returns once the server is listening in the background"),
         )
-        .arg(path("keep", "FILE").help("The file that keeps the writes, or the folder of several volumes"))
+        .arg(path("keep", "FILE").help("The file that stores the writes, or the folder if there are several volumes"))
         .arg(
             Arg::new("every")
                 .long("every")
                 .value_name("MS")
                 .value_parser(value_parser!(u64).range(1..=3_600_000))
                 .requires("keep")
-                .help("Replies to writes don't wait for the file, which gets them within this time"),
+                .help("Replies to writes don't wait for the file: a write reaches it within this time"),
         )
         .arg(
             Arg::new("spare")
@@ -101,7 +101,7 @@ fn command() -> Command {
                 .help("Writes stop while the file's disk has less than this free; 1024 by default"),
         )
         .arg(url("log", &["keep", "follow", "volumes"]).help("Leads a log in PostgreSQL that several machines share"))
-        .arg(url("follow", &["keep", "volumes"]).help("Follows such a log, and leads once nobody does"))
+        .arg(url("follow", &["keep", "volumes"]).help("Follows such a log, and takes over when no server leads it"))
         .group(ArgGroup::new("database").args(["log", "follow"]))
         .arg(path("passfile", "FILE").requires("database").help(
             "The password for PostgreSQL, in a line as in .pgpass; otherwise $PGPASSWORD, $PGPASSFILE or ~/.pgpass",
@@ -111,24 +111,27 @@ fn command() -> Command {
                 .long("volumes")
                 .value_name("N")
                 .value_parser(value_parser!(u32).range(1..=i64::from(MOST_VOLUMES)))
-                .help("Stores that one query searches; by default as many as the folder has, or 1"),
+                .help("The number of volumes, which each query searches; by default as many as the folder has, or 1"),
         )
-        .arg(number("pages", "N", 8..=16_384, "4096").help("Pages of 4 KiB, of each volume"))
-        .arg(number("passes", "N", 1..=61, "61").help("Clients at the same time"))
-        .arg(number("commits", "N", 1..=u32::MAX.into(), "4294967295").help("Entries of the journal, of each volume"))
+        .arg(number("pages", "N", 8..=16_384, "4096").help("Pages of 4 KiB in each volume"))
+        .arg(number("passes", "N", 1..=61, "61").help("How many clients may be connected at the same time"))
+        .arg(
+            number("commits", "N", 1..=u32::MAX.into(), "4294967295")
+                .help("How many entries each volume's journal may have in all"),
+        )
         .arg(
             Arg::new("journal")
                 .long("journal")
                 .value_name("KIB")
                 .value_parser(value_parser!(u64).range(1..=1 << 30))
-                .help("How much the entries of a volume may take in memory; by default half as much as its pages, 1024 at least"),
+                .help("Memory for the entries of a volume; by default half the size of its pages, but at least 1024"),
         )
         .arg(
             Arg::new("slow")
                 .long("slow")
                 .value_name("MS")
                 .value_parser(value_parser!(u64).range(1..=3_600_000))
-                .help("Reports requests that take longer than this on standard error"),
+                .help("Reports requests that take longer than this, on standard error"),
         )
         .arg(number("hold", "SECONDS", 1..=86_400, "60").help("How long a client may keep a snapshot"))
 }

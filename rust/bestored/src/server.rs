@@ -260,7 +260,8 @@ fn take_visit(shared: &Shared) -> Option<MutexGuard<'_, ShelfPass>> {
 /// Creates the error for a client that can't get a pass because all of them are taken.
 pub fn no_pass(shared: &Shared) -> Failure {
     let clients = shared.options.passes;
-    let message = format!("{clients} clients are connected, the most allowed; try again once one has disconnected");
+    let message =
+        format!("the maximum number of clients is connected ({clients}); try again once one has disconnected");
     Failure::new(ErrorName::NoPass, message).with("clients", clients)
 }
 

@@ -136,7 +136,7 @@ fn the_server_says_when_it_starts_refuses_and_is_slow() {
     let refused = saying.server.client().status().unwrap_err();
     assert!(refused.is(ErrorName::NoPass));
     saying.says(&format!(
-        "bestored: process {} is refused: every place for a client is taken (1)",
+        "bestored: process {} was refused: the maximum number of clients is connected (1)",
         process::id()
     ));
 

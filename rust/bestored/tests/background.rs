@@ -110,7 +110,7 @@ fn a_default_folder_that_others_can_change_is_refused() {
     fs::create_dir(&own).unwrap();
     for mode in [0o777, 0o1777, 0o720] {
         fs::set_permissions(&own, Permissions::from_mode(mode)).unwrap();
-        assert!(refused(&folder).contains("others may write in the folder"));
+        assert!(refused(&folder).contains("others may write to the folder"));
     }
     fs::set_permissions(&own, Permissions::from_mode(0o700)).unwrap();
     fs::rename(&own, folder.join("elsewhere")).unwrap();

@@ -647,20 +647,13 @@ fn a_server_waits_for_its_database() {
     database.postgres.end("INT");
     let [waiting, ended] = [(); 2].map(|()| {
         let member = Member::start(&database, "--log");
-        wait_within(SOON, "it says that it waits", || {
-            member.said().contains("it is tried again")
-        });
+        wait_within(SOON, "it says that it waits", || member.said().contains("trying again"));
         member
     });
     assert!(ended.server.end_by("TERM").success(), "{}", ended.said());
     database.postgres.begin();
     waiting.client().apply(Batch::new().new_node()).unwrap();
-    assert_eq!(
-        waiting.said().matches("it is tried again").count(),
-        1,
-        "{}",
-        waiting.said()
-    );
+    assert_eq!(waiting.said().matches("trying again").count(), 1, "{}", waiting.said());
     // If a fault can't go away by itself, the server exits with an error.
     let url = database.url().replace("///test", "///none");
     let said = Member::start_at(Folder::in_memory(), &url, "--log").end();
@@ -699,7 +692,7 @@ fn what_is_no_log_is_refused() {
         ),
         (
             "UPDATE bestore_log SET last = 1",
-            "the log has 1 entries, and 2 of them are known here",
+            "the log has 1 entries, but this server has 2",
         ),
     ] {
         let leader = Member::start(&database, "--log");

@@ -86,7 +86,7 @@ fn a_url_that_asks_for_tls_is_refused() {
         None,
     ));
     assert!(
-        refused.contains("has no TLS, which sslmode=verify-full asks for"),
+        refused.contains("don't support TLS, which sslmode=verify-full requires"),
         "{refused}"
     );
     let mut by_environment = server(&folder, "postgresql://bestore@127.0.0.1/letters", None);

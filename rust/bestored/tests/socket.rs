@@ -226,7 +226,7 @@ fn systemd_passes_the_socket() {
 }
 
 /// The reply that a client gets when every place is taken.
-const NO_PLACE: &str = r#"{"id":null,"error":{"name":"NoPass","number":68,"message":"every place for a client is taken (2); try again once one is free","class":"full","clients":2}}"#;
+const NO_PLACE: &str = r#"{"id":null,"error":{"name":"NoPass","number":68,"message":"the maximum number of clients is connected (2); try again once one has disconnected","class":"full","clients":2}}"#;
 
 /// Returns a server whose two places are taken.
 fn full_server(folder: &Folder) -> (Server, [Talk; 2]) {
@@ -287,7 +287,7 @@ fn idle_clients_keep_no_visitor_out() {
     for talk in &mut idle {
         talk.check(r#""next":{}"#, r#""ok":{"commit":0,"next":1}"#);
     }
-    let refused = r#"{"id":null,"error":{"name":"NoPass","number":68,"message":"every place for a client is taken (61); try again once one is free","class":"full","clients":61}}"#;
+    let refused = r#"{"id":null,"error":{"name":"NoPass","number":68,"message":"the maximum number of clients is connected (61); try again once one has disconnected","class":"full","clients":61}}"#;
     assert_eq!(server.talk().line(), refused);
     let visit = || {
         for _ in 0..5 {

@@ -54,7 +54,7 @@ fn a_leader_that_is_paused_is_replaced() {
     wait_until("the other one leads", || following.leads());
     assert!(following
         .said()
-        .contains("has said nothing for 9 seconds; its session is ended"));
+        .contains("has been silent for 9 seconds; ending its session"));
     let second = make(&mut following.client(), "b").unwrap();
     assert_eq!(second.nodes, [2]);
     paused.server.signal("CONT");

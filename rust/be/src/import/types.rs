@@ -58,7 +58,7 @@ impl Types {
     pub fn of_machine() -> Self {
         if let Ok(globs) = fs::read_to_string(Path::new(DATABASE).join("globs2")) {
             return Self {
-                source: "/usr/share/mime of shared-mime-info",
+                source: "/usr/share/mime (shared-mime-info)",
                 has_contents: ["magic", "aliases", "subclasses"]
                     .iter()
                     .all(|name| Path::new(DATABASE).join(name).exists()),
@@ -68,11 +68,11 @@ impl Types {
         }
         match fs::read_to_string(EXTENSIONS) {
             Ok(extensions) => Self {
-                source: "/etc/mime.types of media-types",
+                source: "/etc/mime.types (media-types)",
                 ..Self::from_extensions(&extensions)
             },
             Err(_) => Self {
-                source: "nothing: there is neither /usr/share/mime nor /etc/mime.types",
+                source: "no database, because there is neither /usr/share/mime nor /etc/mime.types",
                 ..Self::default()
             },
         }
