@@ -105,7 +105,7 @@ class Case(NamedTuple):
 
 CASES = [
     Case("kept store", kept, 1), Case("`sqlite3`", shared, 1), Case("`sqlite3`, `EXCLUSIVE`", exclusive, 1),
-    Case("kept store", kept, 8), Case("`sqlite3`, a connection a thread", each, 8),
+    Case("kept store", kept, 8), Case("`sqlite3`, a connection per thread", each, 8),
     Case("`sqlite3`, one connection and a lock", shared, 8), Case("the same, `EXCLUSIVE`", exclusive, 8),
 ]
 
@@ -118,7 +118,7 @@ def measure(folder: str, rounds: int, seconds: float) -> None:
             path = os.path.join(folder, f"{number}-{place}")
             found[case].append(case.run(path, case.writers, seconds))
             os.unlink(path)
-    print("| from Python | writers | writes a second | lowest to highest | kept store: times as fast |")
+    print("| from Python | writers | writes per second | lowest to highest | the kept store's speedup |")
     print("|---|---|---|---|---|")
     own = 0.0
     for case, rates in found.items():
@@ -150,9 +150,9 @@ def measure_opening(folder: str, rounds: int) -> None:
         with saved.open(path, pages=16384):
             times.append((time.perf_counter() - wall, time.process_time() - processor))
     entries, state = times[0], [statistics.median(column) for column in zip(*times[1:])]
-    print(f"\n| opening {FILES:,} files of 5 attributes, 3 indexed, from Python | seconds | of a processor |")
+    print(f"\n| opening {FILES:,} files of 5 attributes, 3 indexed, from Python | seconds | processor seconds |")
     print("|---|---|---|")
-    print(f"| from {FILES // 10:,} entries, whose state is written then | {entries[0]:.2f} | {entries[1]:.2f} |")
+    print(f"| from {FILES // 10:,} entries, then writing the state | {entries[0]:.2f} | {entries[1]:.2f} |")
     print(f"| from the state | {state[0]:.2f} | {state[1]:.2f} |")
 
 
@@ -165,8 +165,8 @@ def main() -> None:
     with tempfile.TemporaryDirectory(dir=chosen.folder, prefix="bestore-kept-") as folder:
         measure(folder, chosen.rounds, chosen.seconds)
         measure_opening(folder, chosen.rounds)
-    print(f"\nMedian of {chosen.rounds} rounds in turn, of {chosen.seconds} seconds each; SQLite {sqlite3.sqlite_version}; "
-          f"load of the machine {os.getloadavg()[0]:.1f}.")
+    print(f"\nMedians of {chosen.rounds} rounds, in which the cases took turns of {chosen.seconds} seconds; SQLite {sqlite3.sqlite_version}; "
+          f"load average {os.getloadavg()[0]:.1f}.")
 
 
 if __name__ == "__main__":

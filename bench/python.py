@@ -340,8 +340,8 @@ PEERS: Dict[str, Callable[[int], Peer]] = {"bestore": Bestore, "lmdb": Lmdb, "sq
 CASES: Dict[str, str] = {
     "get": "get", "set_plain": "set, not indexed", "set_size": "set, indexed", "by_name": "prepared query of 1 hit",
     "by_size": f"prepared query of {SIZES} hits", "kinds": f"{SIZES} hits with an attribute each",
-    "five": f"5 attributes of {SIZES} hits", "containing": "contains, over all names",
-    "page": f"the {SHOWN} of the greatest sizes, with 3 attributes each", "older": f"{SHOWN} such after a place",
+    "five": f"5 attributes of {SIZES} hits", "containing": "substring match over all names",
+    "page": f"the {SHOWN} largest sizes, with 3 attributes each", "older": f"the next {SHOWN} after a position",
 }
 FEW, MANY = 100, 600
 """How many calls are made where instructions are counted."""
@@ -406,7 +406,7 @@ def compare(peers: List[Peer], nodes: int) -> None:
         for seed in range(5):
             answers = [timed(peer, case, asked_of(peer, case, nodes, 1, random.Random(seed)))[1] for peer in peers]
             if any(answer != answers[0] for answer in answers):
-                sys.exit(f"{CASES[case]}: the peers answer otherwise than one another: {answers}")
+                sys.exit(f"{CASES[case]}: the peers' answers differ: {answers}")
 
 
 def rate(seconds: float) -> str:

@@ -84,7 +84,7 @@ def query_of(case: str, chance: random.Random) -> Query:
 
 
 CASES = {
-    "newest": "the newest 50", "middle": "50 after a date in the middle", "pattern": "the newest 50 of a tenth, by the front of their names",
+    "newest": "the newest 50", "middle": "50 after a date in the middle", "pattern": "the newest 50 of a tenth, by a prefix of their names",
     "type": "the newest 50 of an eighth, by their type",
 }
 

@@ -74,7 +74,7 @@ def by_nodes(results: Results, case: str, title: str) -> Panel:
 
 
 def by_readers(results: Results) -> Panel:
-    panel = Panel("Queries of 100 nodes, thousands in a second", "readers; dashed: beside a writer", READERS)
+    panel = Panel("Queries of 100 nodes, thousands per second", "readers; dashed: beside a writer", READERS)
     for peer in PEERS:
         for beside in ("", "-beside"):
             rates = [results.best(peer.name, f"readers-{readers}{beside}") for readers in READERS]
@@ -92,8 +92,8 @@ def legend(shown: list[str]) -> Iterator[str]:
 
 def write_plot(results: Results, path: str) -> None:
     panels = [
-        by_nodes(results, "set-indexed", "Sets, indexed, thousands in a second"),
-        by_nodes(results, "one-text", "Queries of one node, thousands in a second"),
+        by_nodes(results, "set-indexed", "Sets, indexed, thousands per second"),
+        by_nodes(results, "one-text", "Queries of one node, thousands per second"),
         by_readers(results),
     ]
     panels = [panel for panel in panels if panel.lines and len(panel.places) > 1]

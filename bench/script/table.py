@@ -8,23 +8,23 @@ from measure import Results, is_rate
 from peers import OURS, PEERS
 
 CASES = {
-    "create": "create: a node and three sets, an operation",
+    "create": "create: a node and three sets, per operation",
     "set-indexed": "set, indexed",
     "set-unindexed": "set, not indexed",
     "list": "set, in batches of 64",
-    "set-held": "set, indexed, while another pass is pinned all the time",
+    "set-held": "set, indexed, while another pass is pinned throughout",
     "set-many": "set, indexed, in a store of 26,000 nodes",
     "set-8": "set, indexed, with 8 indices in the store",
     "set-32": "set, indexed, with 32 indices in the store",
     "drop": "drop",
     "names-8": "set of a new name, in batches of 8 on a node",
     "names-64": "the same, in batches of 64",
-    "import-single": "import of 17,000 files of five attributes, three of them indexed: a file, each operation a commit",
-    "import-lists": "the same, ten files a commit",
+    "import-single": "import of 17,000 files of five attributes, three of them indexed, each operation a commit, per file",
+    "import-lists": "the same, ten files per commit",
     "import-one": "the same, all in one commit",
-    "dump": "reading the operations that make these files again: a file",
-    "restore": "writing these to an empty store: a file",
-    "bytes-file": "bytes of pages in use, a file",
+    "dump": "reading the operations that recreate these files, per file",
+    "restore": "writing them to an empty store, per file",
+    "bytes-file": "bytes of pages in use, per file",
     "one-text": '`name=="x"`, 1 node',
     "one-text-32": "the same, with 32 indices in the store",
     "parsed": "the same, parsed each time",
@@ -45,18 +45,18 @@ CASES = {
     "attributes": "`size>=a && size<b`, 100 nodes, and their five attributes",
     "first-50": "`size>=a`, 10,000 nodes: the first 50 of them, by their numbers",
     "any-50": "the same: any 50 of them",
-    "page-newest": "a page: the 50 greatest sizes of 10,000 nodes",
-    "page-middle": "50 after a place in the middle",
+    "page-newest": "a page: the 50 largest sizes of 10,000 nodes",
+    "page-middle": "50 after a position in the middle",
     "page-oldest": "the last 50",
-    "page-tenth": "the 50 greatest sizes of a tenth of the nodes, by a number that has an index",
-    "page-tenth-middle": "50 of these after a place in the middle",
-    "page-kind": "the 50 greatest sizes of an eighth, by a text that has no index",
-    "page-part": "the 50 greatest sizes of a tenth, by a pattern of their names",
-    "page-front-1000": "the 50 greatest sizes of 1,000 nodes, by the front of their names",
-    "page-front-100": "the same of 100 nodes",
-    "page-end": "the last 50 names that end with a text, of which there are 1,000",
-    "any-4": "4 comparisons by `\\|\\|`, 32 indices",
-    "any-256": "256 comparisons by `\\|\\|`, 32 indices",
+    "page-tenth": "the 50 largest sizes of a tenth of the nodes, filtered by an indexed number",
+    "page-tenth-middle": "50 of these after a position in the middle",
+    "page-kind": "the 50 largest sizes of an eighth, filtered by a string that has no index",
+    "page-part": "the 50 largest sizes of a tenth, filtered by a pattern on their names",
+    "page-front-1000": "the 50 largest sizes of 1,000 nodes, filtered by a prefix of their names",
+    "page-front-100": "the same for 100 nodes",
+    "page-end": "the last 50 of the 1,000 names with a given ending",
+    "any-4": "4 comparisons joined by `\\|\\|`, 32 indices",
+    "any-256": "256 comparisons joined by `\\|\\|`, 32 indices",
     "live-10": "refresh of a live query of 10 nodes after a write, with its pin",
     "live-query-10": "the query itself after a write, 10 nodes, with its pin",
     "live-1000": "refresh of one of 1,000 nodes",
@@ -75,22 +75,22 @@ CASES = {
     "commits-1": "commits beside 1 reader",
     "commits-2": "commits beside 2 readers",
     "commits-4": "commits beside 4 readers",
-    "writers-2": "commits of 2 writers together",
+    "writers-2": "commits by 2 writers",
     "mixed-rate": "4 threads, each with 19 one-node queries per write",
     "mixed-read-50": "the median of these queries, with their pins",
-    "mixed-read-99": "99 of 100 of them take no longer",
+    "mixed-read-99": "the 99th percentile of these queries",
     "mixed-read-max": "the longest of them",
     "mixed-write-50": "the median of these writes",
-    "mixed-write-99": "99 of 100 writes take no longer",
+    "mixed-write-99": "the 99th percentile of these writes",
     "mixed-write-max": "the longest write",
     "open-1024": "opening 1,024 pages",
     "open-16384": "opening 16,384 pages",
-    "peak-1024": "memory of the process for it, 1,024 pages",
-    "peak-16384": "memory of the process for it, 16,384 pages",
-    "journal-1": 'memory a commit of one operation, `set 1 "size" LLNG 5`',
-    "journal-64": "memory an operation of these in lists of 64",
+    "peak-1024": "peak memory of the process, 1,024 pages",
+    "peak-16384": "peak memory of the process, 16,384 pages",
+    "journal-1": 'memory per commit of one operation, `set 1 "size" LLNG 5`',
+    "journal-64": "memory per operation, in batches of 64",
     "median": "the median of a million commits: set, indexed, 1,000 nodes",
-    "worst": "the worst of them",
+    "worst": "the longest of them",
 }
 
 
@@ -136,8 +136,8 @@ def spread(results: Results, case: str) -> str:
 def table_lines(results: Results) -> Iterator[str]:
     peers = [peer for peer in PEERS if any(results.of(peer.name, case) for case in CASES)]
     rounds = max((len(values) for values in results.values.values()), default=0)
-    yield f"The best of {rounds} rounds in turn; load of the machine {min(results.loads):.1f} to {max(results.loads):.1f}."
-    yield "In brackets: how many times as fast, or as small, bestore is. Spread: the worst of its rounds by the best."
+    yield f"The best of {rounds} rounds, in which the programs took turns; load average {min(results.loads):.1f} to {max(results.loads):.1f}."
+    yield "In brackets: how many times as fast, or as small, bestore is. Spread: its worst round divided by its best."
     yield ""
     yield "| case | " + " | ".join(peer.title for peer in peers) + " | spread |"
     yield "|---|" + "---|" * (len(peers) + 1)

@@ -200,7 +200,7 @@ fn shown(what: &str, (seconds, counts): &(f64, serde_json::Value)) {
     let of = |name: &str| counts[name].as_u64().unwrap_or(0);
     let pages = of("used") as f64;
     println!(
-        "| {what} | {files} files, {} new, {} left out, in {seconds:.2} s ({:.0} a second); {:.2} files a page |",
+        "| {what} | {files} files, {} new, {} omitted, in {seconds:.2} s ({:.0} files per second); {:.2} files per page |",
         of("new"),
         of("left"),
         files / seconds,
@@ -250,7 +250,7 @@ fn follow(server: &Server) -> Result<()> {
         let mut times: Vec<u128> = times.iter().map(|times| times[at]).collect();
         times.sort_unstable();
         println!(
-            "| followed, a {what} file | {} ms, at most {} ms of {ROUNDS} |",
+            "| following a {what} file | {} ms, at most {} ms ({ROUNDS} files) |",
             times[ROUNDS / 2],
             times[ROUNDS - 1]
         );
@@ -266,10 +266,10 @@ fn main() -> Result<()> {
         Some(word) => word.parse()?,
         None => (count + FILES - 1) / FILES,
     };
-    println!("| {folder}, {volumes} volumes | {count} files by find |");
+    println!("| {folder}, {volumes} volumes | {count} files found by find |");
     let server = Server::start(volumes, false)?;
     shown("first import, in memory", &server.import(&folder)?);
-    shown("second import", &server.import(&folder)?);
+    shown("second import, with nothing new", &server.import(&folder)?);
     compare(&server, &folder)?;
     let rows = rows(&server)?;
     follow(&server)?;
@@ -277,13 +277,13 @@ fn main() -> Result<()> {
     let kept = Server::start(volumes, true)?;
     shown("first import, kept with --every 1000", &kept.import(&folder)?);
     println!(
-        "| SQLite in memory, one transaction, insertion alone | {} rows in {:.2} s |",
+        "| inserting the same attributes into SQLite, in one transaction, in memory | {} rows in {:.2} s |",
         rows.len(),
         sqlite(&rows, None)?
     );
     let file = kept.folder.join("sqlite");
     println!(
-        "| SQLite in a file, one transaction, insertion alone | {} rows in {:.2} s |",
+        "| the same, in a file | {} rows in {:.2} s |",
         rows.len(),
         sqlite(&rows, Some(&file))?
     );

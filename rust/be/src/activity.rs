@@ -58,7 +58,7 @@ fn lines(info: &Info) -> Vec<(&'static str, String)> {
         ("requests", info.requests.to_string()),
         (
             "writes",
-            format!("{}, {} a second", info.writes, info.writes_per_second),
+            format!("{}, {} per second", info.writes, info.writes_per_second),
         ),
         ("writes now", info.writing.to_string()),
         (

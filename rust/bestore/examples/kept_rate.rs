@@ -115,7 +115,7 @@ fn cases() -> Vec<Case> {
         case("rusqlite", 1, |path, writers| shared(path, writers, false)),
         case("rusqlite, `EXCLUSIVE`", 1, |path, writers| shared(path, writers, true)),
         case("kept store", 8, kept),
-        case("rusqlite, a connection a thread", 8, each),
+        case("rusqlite, a connection per thread", 8, each),
         case("rusqlite, one connection and a lock", 8, |path, writers| {
             shared(path, writers, false)
         }),
@@ -138,7 +138,7 @@ fn measure(folder: &Path, rounds: usize) -> Outcome<()> {
             fs::remove_dir_all(inner)?;
         }
     }
-    println!("| from Rust | writers | writes a second | lowest to highest | kept store: times as fast |");
+    println!("| from Rust | writers | writes per second | lowest to highest | the kept store's speedup |");
     println!("|---|---|---|---|---|");
     let mut own = 0.0;
     for case in &mut cases {
@@ -204,7 +204,7 @@ fn measure_opening(folder: &Path, rounds: usize) -> Outcome<()> {
     println!("\n| opening {FILES} files of 5 attributes, 3 indexed, from Rust | seconds |");
     println!("|---|---|");
     println!(
-        "| from {} entries, whose state is written then | {from_entries:.2} |",
+        "| from {} entries, then writing the state | {from_entries:.2} |",
         FILES / 10
     );
     println!("| from the state | {:.2} |", median(&mut from_state));
@@ -223,7 +223,7 @@ fn main() -> Outcome<()> {
     let measured = measure(&folder, rounds).and_then(|()| measure_opening(&folder, rounds));
     fs::remove_dir_all(&folder)?;
     println!(
-        "\nMedian of {rounds} rounds in turn, of {TIME:?} each; SQLite {}.",
+        "\nMedians of {rounds} rounds, in which the cases took turns of {TIME:?}; SQLite {}.",
         rusqlite::version()
     );
     measured

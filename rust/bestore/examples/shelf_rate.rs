@@ -91,7 +91,7 @@ fn main() -> Result<()> {
             best.iter_mut().zip(now).for_each(|(best, now)| *best = best.max(now));
         }
     }
-    println!("{nodes} nodes of five attributes, three of them indexed; queries a second");
+    println!("{nodes} nodes of five attributes, three of them indexed; queries per second");
     println!("| volumes | of 1 node | of 100 | of 100, prepared | of all | least free pages of a volume |");
     println!("|---|---|---|---|---|---|");
     for (volumes, pass, [one, hundred, prepared, all]) in &passes {

@@ -148,11 +148,11 @@ fn main() {
     let database = Postgres::on_disk().expect("PostgreSQL is installed").database();
     let load = fs::read_to_string("/proc/loadavg").unwrap_or_default();
     println!(
-        "{}; load of the machine {}",
+        "{}; load average {}",
         database.sql("SELECT version()"),
         load.trim()
     );
-    println!("| case | clients | a second | p50 µs | p99 µs |");
+    println!("| case | clients | per second | p50 µs | p99 µs |");
     println!("|---|---|---|---|---|");
     let folder = Folder::new();
     let file = folder.join("file");
