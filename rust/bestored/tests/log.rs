@@ -388,7 +388,7 @@ fn leave_leader(database: &Database, is_next_one_killed: bool) {
     if !is_next_one_killed {
         // A server can't start as the leader of a log that already has one.
         let said = Member::start_in(old.folder, database, "--log").end();
-        assert!(said.contains("the log is led by "), "{said}");
+        assert!(said.contains(" already leads the log; use --follow"), "{said}");
     }
 }
 

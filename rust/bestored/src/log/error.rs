@@ -44,7 +44,7 @@ pub enum Error {
     #[error("the log has format {format}, and format {known} is the one known here")]
     Newer { format: i32, known: i32 },
     /// Another server leads.
-    #[error("the log is led by {leader}; --follow follows it")]
+    #[error("{leader} already leads the log; use --follow to follow it")]
     Led { leader: String },
     /// An earlier session of this server still holds the lock.
     #[error("an earlier session of this server still has the leader's lock")]
