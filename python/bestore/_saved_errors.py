@@ -151,7 +151,7 @@ class CutOff(SavedError):
     error_class = ErrorClass.GONE
     _summary = (
         "the file ends with entry {last}, but it once had entry {had}: {path}-wal is damaged or missing; put it back, or restore what is "
-        "left by be restore --until {last}. If the file is an older copy, remove {path}-last")
+        "left with be restore --until {last}. If the file is an older copy, remove {path}-last")
 
     last: int
     """The last entry that it has."""

@@ -500,7 +500,7 @@ fn a_file_of_as_many_attributes_as_a_node_holds_is_imported() {
     }
     let said = server.be(&["import", "--json", &folder.all()]);
     assert_eq!((said.status, counts(&said.out)), (0, [6, 0, 0, 0]), "{said:?}");
-    assert!(said.error.contains("extended attributes are left out"), "{said:?}");
+    assert!(said.error.contains("extended attributes were left out"), "{said:?}");
     let count = || server.done(&["listattr", &folder.word("z")]).matches("\"a").count();
     assert!((50..60).contains(&count()), "{}", count());
     for number in 0..70 {

@@ -541,7 +541,7 @@ fn two_clients_read_copies_at_the_same_time() {
     let (copied, refused) = (
         r#""ok":{"commit":0,"next":1}"#,
         concat!(
-            r#""error":{"name":"TooManyCopies","message":"2 clients are reading copies, of snapshots, the most that "#,
+            r#""error":{"name":"TooManyCopies","message":"2 clients are reading copies of snapshots, the most that "#,
             r#"can at the same time","class":"retry","most":2}"#
         ),
     );
