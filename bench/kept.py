@@ -159,7 +159,7 @@ def measure_opening(folder: str, rounds: int) -> None:
 def main() -> None:
     parser = argparse.ArgumentParser(description=__doc__)
     parser.add_argument("--folder", help="where the files are made: on a disk, since in memory no commit waits for one")
-    parser.add_argument("--rounds", type=int, default=7, help="how often each case is measured")
+    parser.add_argument("--rounds", type=int, default=7, help="how many times each case is measured")
     parser.add_argument("--seconds", type=float, default=0.5, help="how long a case runs in a round")
     chosen = parser.parse_args()
     with tempfile.TemporaryDirectory(dir=chosen.folder, prefix="bestore-kept-") as folder:

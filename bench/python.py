@@ -457,7 +457,7 @@ def main() -> None:
     parser.add_argument("--one", nargs=3, metavar=("PEER", "CASE", "COUNT"), help=argparse.SUPPRESS)
     options = parser.parse_args()
     if options.nodes < SIZES or options.rounds < 1:
-        parser.error("it takes 100 nodes and a round at least")
+        parser.error("at least 100 nodes and one round are needed")
     if options.one:
         title, case, count = options.one
         asked = asked_of(peer := PEERS[title](options.nodes), case, options.nodes, MANY, random.Random(1))

@@ -129,7 +129,7 @@ class Server:
 
 def check(found: int, query: Query) -> None:
     if found != SHOWN:
-        sys.exit(f"{query} finds {found} files, and not {SHOWN}")
+        sys.exit(f"{query} finds {found} files instead of {SHOWN}")
 
 
 def milliseconds(ask: Callable[[Query], None], case: str, rounds: int) -> str:
@@ -162,7 +162,7 @@ def main() -> None:
     parser = argparse.ArgumentParser(description=__doc__, formatter_class=argparse.RawDescriptionHelpFormatter)
     parser.add_argument("folder", type=Path, help="the folder with bestored and be")
     parser.add_argument("--files", type=int, default=84_000, help="how many files there are (84,000)")
-    parser.add_argument("--rounds", type=int, default=100, help="how often each is asked (100)")
+    parser.add_argument("--rounds", type=int, default=100, help="how many times each query is run (100)")
     options = parser.parse_args()
     volumes = -(-options.files // IN_A_VOLUME)
     with Server(options.folder.resolve(), volumes) as server:

@@ -16,4 +16,4 @@ def _given(word: str) -> tuple[str, str]:
 def add_given(parser: argparse.ArgumentParser) -> None:
     """Adds the option that makes a program be used as it is instead of being built."""
     parser.add_argument("--program", type=_given, action="append", default=[], metavar="NAME=PATH",
-                        help="takes this program for a peer, and builds none for it")
+                        help="uses this program as a peer, instead of building one")

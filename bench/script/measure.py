@@ -126,7 +126,7 @@ def stop_on_other_answers(results: Results) -> None:
         if case.endswith("-answers"):
             said, answers = first.setdefault((nodes, case), (peer, values[0]))
             if any(value != answers for value in values):
-                sys.exit(f"{TITLES[peer]} answers otherwise than {TITLES[said]}: {case.removesuffix('-answers')}, {nodes} nodes")
+                sys.exit(f"the answers of {TITLES[peer]} and {TITLES[said]} differ: {case.removesuffix('-answers')}, {nodes} nodes")
 
 
 def run(words: list[str]) -> Said:
