@@ -757,7 +757,7 @@ def connect(path: Union[str, bytes, "os.PathLike[Any]", None] = None, timeout: O
     `NoPass` if the server has as many clients as it allows; `NotAllowed` if the server refuses this user; `ProtocolError`, `TimedOut`;
     a ValueError if `timeout` or `repeat` isn't above 0."""
     if timeout is not None and not timeout > 0:
-        raise ValueError(f"a timeout of {timeout} seconds")
+        raise ValueError(f"a timeout can't be {timeout} seconds; give more than 0")
     if repeat is not None and not repeat > 0:
-        raise ValueError(f"writes can't be repeated for {repeat} seconds")
+        raise ValueError(f"writes can't be repeated for {repeat} seconds; give more than 0")
     return ConnectedPass(SocketPath.find(path), timeout, repeat=repeat)

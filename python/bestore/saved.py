@@ -333,7 +333,7 @@ def open(path: Union[str, bytes, "os.PathLike[Any]"], pages: int = 4096, passes:
     if not 1 <= operator.index(passes) <= 63:
         raise BadLimits()
     if every is not None and not every >= 0:
-        raise ValueError(f"every {every} seconds")
+        raise ValueError(f"the file can't be written every {every} seconds; give 0 or more")
     with ExitStack() as opened:
         own = opened.enter_context(_local.open(pages, passes + 1, commits))
         file = File(os.fsdecode(path))
