@@ -352,7 +352,7 @@ class Editing(OverStore):
         self.shows(window, "a")
         self.begin(window, 0, "size")
         self.assertIsNone(window.list.editor.cell)
-        self.assertIn("from the files themselves", str(window.notice["text"]))
+        self.assertIn("what the files themselves contain", str(window.notice["text"]))
 
     def test_escape(self) -> None:
         window = self.window("a")
