@@ -1,4 +1,4 @@
-"""Changes to a store in this process: the library collects their operations, and reads attributes as these operations leave them."""
+"""Changes to a store in this process. The library collects their operations, and reads attributes as these operations leave them."""
 
 from __future__ import annotations
 
@@ -14,7 +14,7 @@ if TYPE_CHECKING:
 
 
 class LocalChange(Change):
-    """A change on a version. It reads attributes as the collected operations leave them."""
+    """A change that reads a version. It sees attributes as the collected operations leave them."""
 
     _snapshot: LocalVersion
 
