@@ -325,7 +325,7 @@ def python_ranges(surface: Surface) -> str:
 
 def python_integers(surface: Surface) -> str:
     def integer(it: Kind) -> str:
-        about = f"An integer of {it.bits} bits with{'' if it.sign else 'out'} a sign."
+        about = f"{'A signed' if it.sign else 'An unsigned'} {it.bits}-bit integer."
         return f'class {it.python_class}(Integer):\n    """{about}"""\n\n    kind = Kind.{it.python}\n'
     return "\n\n".join(map(integer, surface.numbers))
 

@@ -1,4 +1,4 @@
-"""A shared, multi-version store of nodes with attributes, indices and queries, in memory.
+"""A shared, in-memory, multi-version store of nodes with attributes, indices and queries.
 
     with bestore.open() as store:
         store.make_index("MAIL:from", bestore.STRING)

@@ -34,8 +34,8 @@ class ConnectedChange(Change):
         return self._batch
 
     def _collecting(self, node: Optional[int] = None) -> Batch:
-        """Returns the batch, to which one more operation can be added: on `node`, if given. Raises `OtherVolume` if the node
-        isn't in the same volume as the earlier operations' nodes."""
+        """Returns the batch, ready for one more operation, which is on `node` if given. Raises `OtherVolume` if the node isn't
+        in the same volume as the earlier operations' nodes."""
         if not self._snapshot._is_pinned:
             raise NotPinned()
         if len(self._batch) >= MOST_OPERATIONS:

@@ -64,7 +64,7 @@ class LocalChange(Change):
         return self._snapshot._value(node, name)
 
     def _operations_on_nodes(self) -> List[Tuple[int, int, bytes]]:
-        """Returns the collected operations on nodes, each with the node and the name of the attribute."""
+        """Returns the collected operations on nodes, each as its kind, the node, and the attribute's name."""
         if self._count == 0:
             return []
         return [(kind, node, name) for kind, _, node, _, name, _ in self._collected()._parts() if kind <= UNSET]

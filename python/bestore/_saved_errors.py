@@ -130,7 +130,7 @@ class Damaged(_AtPlace):
     error_class = ErrorClass.GONE
 
     until: Optional[int] = None
-    """The entry to give to `be restore --until`, or None if that can't read the file."""
+    """The entry to pass to `be restore --until`, or None if that can't read the file."""
 
     @property
     def place(self) -> str:
@@ -197,7 +197,7 @@ def _code(error: sqlite3.Error) -> Optional[int]:
 
 
 def of_sqlite(path: str, error: sqlite3.Error) -> SavedError:
-    """Converts an SQLite error to an error of this module."""
+    """Converts an SQLite error to one of this module's errors."""
     code = _code(error)
     if code in (_BUSY, _LOCKED):
         return Held(path)
@@ -217,7 +217,7 @@ def of_reading(path: str, error: sqlite3.Error, entry: Optional[int] = None, bat
 
 
 def refused(path: str, error: Error, entry: Optional[int] = None, batch: Optional[int] = None) -> SavedError:
-    """Converts an error from a store that replays the file's contents to an error of this module."""
+    """Converts an error from the store that is replaying the file's contents to one of this module's errors."""
     if isinstance(error, (Full, CommitsSpent, NoMemory)):
         return TooLarge(path, f"the file doesn't fit the limits of the store: {error}", entry, batch)
     return Differs(path, f"the file has something that no store wrote: {error}", entry, batch)

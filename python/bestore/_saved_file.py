@@ -82,7 +82,7 @@ class File:
 
     @contextmanager
     def _translated(self) -> Iterator[None]:
-        """Raises SQLite's errors as errors of the file."""
+        """Converts SQLite's errors to this file's errors."""
         try:
             yield
         except sqlite3.Error as error:
@@ -198,7 +198,7 @@ class File:
             raise Damaged(self.path, str(found).replace("\n", " "), until=last)
 
     def keep_last(self, last: int) -> None:
-        """From now on, also keeps the last entry's number next to the file. `last` is that number at present."""
+        """From now on, also keeps the last entry's number next to the file. `last` is its current value."""
         if self.has_checksums:
             self._last = LastEntry(self.path, self._about("file"))
             self._last.begin(last)

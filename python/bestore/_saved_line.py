@@ -8,7 +8,7 @@ from typing import Iterator, List, Optional
 
 
 class Turn:
-    """A thread's turn in the queue. It is either for a write, and then has the write's commit number, or for the file itself."""
+    """A thread's turn in the queue. A turn is either for a write, whose commit number it has, or for the file itself, with no number."""
 
     __slots__ = ("number", "_lock")
 

@@ -19,7 +19,7 @@ _NUMBERS, _CODES = frozenset(map(int, RANGES)), frozenset(KIND_OF)
 
 
 class Repeater:
-    """Applies batches to a store that nobody else uses. The names and values are used where they are in the batch's bytes."""
+    """Applies batches to a store that nobody else uses. The names and values are used in place, within the batch's bytes."""
 
     def __init__(self, user: LocalPass) -> None:
         self._user, self._made, self._number = user, (ctypes.c_uint64 * MOST_OPERATIONS)(), ctypes.c_uint64()
@@ -27,8 +27,9 @@ class Repeater:
         self._operations = (RawOperation * MOST_OPERATIONS).from_buffer(self._room)
 
     def repeat(self, data: bytes) -> Tuple[List[int], List[int]]:
-        """Applies a batch given as bytes. Returns two lists, each with the node that each operation created, or 0: the first as
-        recorded in the bytes, the second as created now. Raises what `Batch.from_bytes` and `Pass.apply` raise."""
+        """Applies a batch given as bytes. Returns two lists of the nodes that the operations created, with 0 for operations
+        that created none: first as recorded in the bytes, then as created now. Raises what `Batch.from_bytes` and `Pass.apply`
+        raise."""
         texts = data + _MORE
         kept = self._read(data, texts)
         if kept is None:

@@ -24,7 +24,7 @@ class Waiter:
         self._sleep.acquire(blocking=False)
 
     def wake(self) -> None:
-        """Ends the wait, or the next one."""
+        """Ends the current wait, or the next one."""
         with suppress(RuntimeError):  # another commit has released the lock
             self._sleep.release()
 

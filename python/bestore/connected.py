@@ -299,7 +299,7 @@ def _read_journal(ok: JSON) -> Tuple[List[Entry], Optional[int]]:
 
 
 def _take_push(watches: "WeakValueDictionary[int, ConnectedWatch]", push: JSON) -> None:
-    """Passes a push to its watch, if that watch still exists. The connection holds no reference to the pass, so an unreferenced
+    """Hands a push to its watch, if that watch still exists. The connection holds no reference to the pass, so an unreferenced
     pass is freed immediately."""
     watch = watches.get(push["watch"])
     if watch is not None:

@@ -51,7 +51,7 @@ class Forked(Error):
 
 
 class Nested(Error):
-    """A change's function writes through the same pass as the change, which could therefore never be committed."""
+    """A change's function writes through the change's own pass, so the change could never be committed."""
 
     def __str__(self) -> str:
         return "this pass is in a change: add the operation to the change, or write through another pass"

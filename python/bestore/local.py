@@ -117,7 +117,7 @@ class LocalVersion(_native.Reader, Version):
             return super().refresh(prepared)  # which raises
         prepared._check_process()
         with prepared._refreshing:
-            # The library reads the entries since the last refresh, so that refresh must have been in this store.
+            # The library reads the entries since the last refresh, so the last refresh must have been in this store.
             if prepared._refreshed_in is self._user._store:
                 return self._refreshed(prepared, self._refresh_changed)
             return self.refresh(prepared)

@@ -256,7 +256,7 @@ def _copied(kind: Type[Batch], operations: bytes, texts: bytes) -> Batch:
 
 
 def _read_back(kind: int, code: int, node: int, number: int, name: bytes, value: bytes) -> Operation:
-    """Returns the operation whose parts in a batch are these."""
+    """Returns the operation that has these parts in a batch."""
     if kind == NEW:
         return NewNode(node)
     if kind == REMOVE:

@@ -179,7 +179,7 @@ class _Saver:
                 self._file.write_state(number, version.next_node, (batch.to_bytes() for batch in version.state()))
 
     def _save_now_and_then(self, every: float) -> None:
-        """Saves what was written, `every` seconds after the first unsaved write, and so on until the end. Then closes the file."""
+        """Repeatedly saves what was written, `every` seconds after the first unsaved write. Closes the file at the end."""
         while not self._ending.is_set():
             self._work.wait()
             self._ending.wait(min(every, threading.TIMEOUT_MAX))
@@ -469,8 +469,8 @@ def _load(file: File, own: _local.LocalPass) -> int:
 
 def _repeat(path: str, repeater: Repeater, data: bytes, entry: Optional[int] = None,
             batch: Optional[int] = None) -> Tuple[List[int], List[int]]:
-    """Applies a batch from the file. Returns two lists, each with the node that each operation created, or 0: the first as
-    recorded in the file, the second as created now."""
+    """Applies a batch from the file. Returns two lists of the nodes that the operations created, with 0 for operations that
+    created none: first as recorded in the file, then as created now."""
     try:
         return repeater.repeat(data)
     except Error as error:

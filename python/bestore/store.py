@@ -72,8 +72,8 @@ class Entry(NamedTuple):
 
 
 class StandingBack:
-    """Yields to other threads, twice as many times on each call, up to 1,024 times. Without this, two passes that take turns
-    with each write would each wait for what the other has just written."""
+    """Yields to other threads, twice as many times on each call as on the previous one, up to 1,024 times. Without this, two
+    passes that take turns with each write would each wait for what the other has just written."""
 
     def __init__(self) -> None:
         self._turns = 1
@@ -120,7 +120,7 @@ def pause_at_full(pauses: int) -> None:
 
 class Witness(Owner, ABC):
     """Records what a pass has seen of its store, so that another thread's pass of the same store can join it. `Pass.witness`
-    creates a witness, and `Pass.join` joins it. A witness doesn't keep anything in the store."""
+    creates a witness, and `Pass.join` joins it. A witness doesn't hold on to any part of the store."""
 
     @abstractmethod
     def close(self) -> None:
@@ -331,9 +331,9 @@ class Pass(Owner, ABC):
         """Applies all operations of a batch or none, whatever other passes have written meanwhile. Returns the commit number
         and, for each operation, the new node's number or 0. For a write that depends on reads, use `change`.
 
-        While another pass is writing, the call retries, up to `tries` tries in total. With more than one try, it also waits up
-        to about five seconds on `Full` while another pass has the oldest snapshot. Uses memory for the operations, and new
-        pages on the path to each change in a tree.
+        While another pass is writing, the call is tried up to `tries` times. With more than one try, it also waits up to about
+        five seconds on `Full` while another pass has the oldest snapshot. Uses memory for the operations, and new pages on the
+        path to each change in a tree.
 
         With several volumes the batch is written to one of them: `volume` if it is given, otherwise the volume of the nodes
         that the batch names, otherwise the volume with the most free pages. The commit number is that volume's. A batch with

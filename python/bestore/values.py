@@ -60,25 +60,25 @@ class Integer(int):
 
 # surface.toml: classes of integers
 class Int32(Integer):
-    """An integer of 32 bits with a sign."""
+    """A signed 32-bit integer."""
 
     kind = Kind.INT32
 
 
 class Int64(Integer):
-    """An integer of 64 bits with a sign."""
+    """A signed 64-bit integer."""
 
     kind = Kind.INT64
 
 
 class UInt32(Integer):
-    """An integer of 32 bits without a sign."""
+    """An unsigned 32-bit integer."""
 
     kind = Kind.UINT32
 
 
 class UInt64(Integer):
-    """An integer of 64 bits without a sign."""
+    """An unsigned 64-bit integer."""
 
     kind = Kind.UINT64
 # surface.toml: end

@@ -232,7 +232,7 @@ class Version(ABC):
         return self._part_of(prepared, by=by, descending=descending, limit=limit, after=after, start=start)
 
     def count(self, query: Union[str, Prepared]) -> int:
-        """Returns how many nodes match the query, given as text or prepared. Costs as much as the query, except for the list."""
+        """Returns how many nodes match the query, given as text or prepared. Costs as much as the query, but builds no list."""
         return self._count_of(query)
 
     def pairs(self, name: str) -> int:

@@ -1,4 +1,4 @@
-"""Watches: queries on whose changes a program can wait."""
+"""Watches: queries whose changes a program can wait for."""
 
 from __future__ import annotations
 
