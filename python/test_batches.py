@@ -127,7 +127,7 @@ class Bytes(unittest.TestCase):
                 bestore.Batch.from_bytes(whole[:end])
 
     def test_anything(self):
-        """Bytes changed at random are either a valid batch, which encodes to the same bytes, or raise `BadBytes`."""
+        """Randomly changed bytes either are a valid batch, which encodes to the same bytes, or raise `BadBytes`."""
         chance, read = random.Random(2), 0
         for _ in range(3000):
             data = bytearray(bestore.Batch([random_operation(chance) for _ in range(3)]).to_bytes())

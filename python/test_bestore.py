@@ -78,7 +78,7 @@ class Values(unittest.TestCase):
 
 
 class OutOfRange(unittest.TestCase):
-    """A number that doesn't fit in 64 bits isn't a node's number. If truncated, some of these would become node 1."""
+    """A number that doesn't fit in 64 bits isn't a node's number. If they were truncated, some of these numbers would become node 1."""
 
     numbers = (-1, 1 - 2**64, 2**64, 2**64 + 1)
 

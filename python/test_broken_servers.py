@@ -25,8 +25,8 @@ HELLO = {
 
 
 class Fake:
-    """A server that responds to each request as a test specifies: with bytes, with a pause in seconds, or with None to close
-    the connection."""
+    """A server that responds to each request as a test specifies: by sending bytes, by pausing for some seconds, or, for None,
+    by closing the connection."""
 
     def __init__(self, *answers, hello=None):
         self.folder = tempfile.mkdtemp(prefix="bestored-")

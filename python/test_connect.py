@@ -50,7 +50,7 @@ UNFIT = {
 
 
 def over_server(cls):
-    """Returns versions of these test classes that run against servers."""
+    """Returns a version of a test class that runs against servers."""
     def unfit(reason):
         return lambda self: self.skipTest(reason)
     members = {name: unfit(reason) for name, reason in UNFIT.items() if hasattr(cls, name)}

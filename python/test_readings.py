@@ -80,7 +80,7 @@ class Readings(unittest.TestCase):
         self.chance = random.Random(self.seed)
 
     def test_comparisons_of_what_the_library_takes(self) -> None:
-        """A query has the same comparisons as its canonical text, in the same order, except for a `!` before them. Each is
+        """A query has the same comparisons as its canonical text, in the same order, apart from any `!` before them. Each is
         written as it would be on its own."""
         queries = 0
         for _ in range(TEXTS):

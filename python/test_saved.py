@@ -573,7 +573,7 @@ class Failures(Files):
         self.assertEqual(len(sql(self.path, "SELECT number FROM entry")), store._saver._line.saved)
 
     def test_interrupted(self):
-        """If the wait of a write is interrupted, the next write saves it, unless it is already in the file."""
+        """If a write is interrupted while it waits, the next write saves it, unless it is already in the file."""
         for after in (False, True):
             append = File.append
 

@@ -1,5 +1,4 @@
-"""A queue, from which workers claim jobs one at a time, with a change, until none is left. No two workers claim the same
-job."""
+"""A queue: workers claim jobs one at a time, each with a change, until none is left. No two workers claim the same job."""
 
 import threading
 

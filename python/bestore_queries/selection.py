@@ -8,7 +8,7 @@ from .sorted_hits import Node, SortedHits
 
 
 class Selection:
-    """The selected hits, the current hit, from which keys move, and the hit where a range begins."""
+    """The selected hits, the current hit (from which keys move), and the hit where a range begins."""
 
     def __init__(self, hits: SortedHits) -> None:
         self._hits = hits

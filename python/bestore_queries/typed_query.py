@@ -199,7 +199,7 @@ def _ends_comparison(before: List[_Token]) -> bool:
 
 
 def _open_quote(typed: str) -> bool:
-    """Returns whether an unclosed quotation begins after the last token."""
+    """Returns whether an unclosed quoted string begins after the last token."""
     found = _tokens(typed)
     return typed[found[-1].end if found else 0:].strip()[:1] in ('"', "'")
 

@@ -151,7 +151,7 @@ class Window:
         self._typing = self.root.after(TYPING_PAUSE, self._ask)
 
     def _ask(self) -> None:
-        """Runs the query in the line. The old answer disappears immediately, even if there is no query to run."""
+        """Runs the entered query. The old answer disappears immediately, even if there is no query to run."""
         if self._typing:
             self.root.after_cancel(self._typing)
         self._typing = ""

@@ -59,7 +59,7 @@ static void give_turn(Handle *handle)
     PyThread_release_lock(waiter->lock);
 }
 
-/* Waits in the queue until the turn or a signal comes. */
+/* Waits in the queue for a turn or a signal. */
 static void wait_in_line(Handle *handle, Waiter *waiter)
 {
     line_up(handle, waiter);

@@ -194,7 +194,7 @@ bool add_operation(Batch *batch, bes_operation operation, const uint8_t *name, s
                    size_t value_length);
 PyObject *batch_of(const Listed *listed);
 
-/* The methods of the types: handle.c, batch.c, reader.c, queries.c, drafts.c, writes.c. */
+/* The types' methods: handle.c, batch.c, reader.c, queries.c, drafts.c, writes.c. */
 extern PyType_Spec handle_spec, batch_spec, reader_spec;
 PyObject *after_fork(PyObject *module, PyObject *nothing);
 PyObject *handle_apply(PyObject *self, PyObject *const *given, Py_ssize_t count);

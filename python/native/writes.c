@@ -1,4 +1,4 @@
-/* Writes and the journal, for passes whether pinned or not. */
+/* Writes and the journal, for both pinned and unpinned passes. */
 #include "native.h"
 
 #include <string.h>

@@ -120,7 +120,7 @@ class OnDisplay(unittest.TestCase):
         self.assertTrue(wait_for(is_so, seconds), f"{shown(window)} {window.state['text']} {window.message['text']}")
 
     def shows(self, window: "Window", *names: str) -> None:
-        """Fails unless the first column comes to contain these names."""
+        """Fails unless the first column shows these names in time."""
         self.becomes(window, lambda: [row[0] for row in window.list.shown()] == list(names))
 
 

@@ -123,7 +123,7 @@ class Full(InFolder):
     pages = 128
 
     def test_store(self) -> None:
-        """The reader counts what doesn't fit, what is in the store stays there, and room that becomes available is used."""
+        """The reader counts the files that don't fit, keeps those in the store, and uses room that becomes available."""
         for number in range(500):
             write(self.path(f"{number:03}"), "")
         self.reader.start()
