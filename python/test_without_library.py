@@ -110,7 +110,7 @@ class Clients(unittest.TestCase):
 
 
 class PlainBatch(bestore.Batch):
-    """A batch that isn't the extension's."""
+    """A batch class that isn't the extension's."""
 
 
 class Plain:

@@ -12,8 +12,8 @@
             print(version.query("MAIL:from==ann"))
 
 A `Pass` is a session: one thread's handle on the store. Give each thread its own pass, because calls on the same pass wait for
-each other. The thread that opened the store creates each pass with `another`, before the new thread starts. Errors are raised
-as subclasses of `Error`; each of the library's error numbers has its own class, such as `Busy` or `QuerySyntax`.
+each other. The thread that opened the store creates each pass with `another`, before that pass's thread starts. Errors are
+raised as subclasses of `Error`; each of the library's error numbers has its own class, such as `Busy` or `QuerySyntax`.
 
 For a store that programs share through the server bestored, use `connect` instead of `open`: see `help(bestore.connected)`. A
 function that takes a `Pass` or a `Version` works with either kind of store. The module `bestore.saved` keeps a store in a file.

@@ -286,7 +286,7 @@ class ShelfWitness(Witness):
             witness.close()
 
     def __del__(self) -> None:
-        """Each witness is closed when nothing refers to it any more."""
+        """Each witness is closed once it is no longer referenced."""
 
 
 class Shelf(ThreadPass):
@@ -344,7 +344,7 @@ class Shelf(ThreadPass):
         ends.__exit__(kind, value, trace)
 
     def __del__(self) -> None:
-        """Each pass is closed when nothing refers to it any more."""
+        """Each pass is closed once it is no longer referenced."""
 
     def finish(self) -> str:
         """Closes the volumes one after another, and returns their journals. After an error, the volumes before the failing one
@@ -494,8 +494,7 @@ def taken(takes: Iterable[Callable[[], _Taken]]) -> List[_Taken]:
 
 def open(volumes: int, pages: int = 4096, passes: int = PASSES, commits: int = 2**32 - 1) -> Shelf:
     """Opens a new store in memory with this many volumes, 1 to 64. The limits apply to each volume, as in
-    `bestore.open`. `bestore.open_shelf` is this function. Raises `BadLimits` if a limit is out of its range, or
-    `NoMemory`."""
+    `bestore.open`. `bestore.open_shelf` is this function. Raises `BadLimits` if a limit is out of range, or `NoMemory`."""
     if not 1 <= volumes <= MOST_VOLUMES:
         raise BadLimits()
     from . import local  # needs the library

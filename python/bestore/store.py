@@ -155,8 +155,8 @@ class Pass(Owner, ABC):
     @abstractmethod
     def another(self) -> Pass:
         """Returns a pass of the same store for another thread. Unused passes belong to the pass that `open` returned, so its
-        thread calls this for each other thread, before that thread starts. Any pass can hand out a pass that was closed. Raises
-        `NoPass` if no pass is left."""
+        thread calls this on behalf of every other thread, before that thread starts. Any pass can hand out a pass that was
+        closed. Raises `NoPass` if no pass is left."""
 
     @abstractmethod
     def close(self) -> None:
@@ -177,8 +177,8 @@ class Pass(Owner, ABC):
 
     @abstractmethod
     def witness(self) -> Witness:
-        """Returns a witness to all journal entries that the pass has seen so far, including its own. Give the witness to
-        another thread, whose pass joins it. May raise `NoMemory`."""
+        """Returns a witness that records all journal entries that the pass has seen so far, including its own. Give the witness
+        to another thread, whose pass joins it. May raise `NoMemory`."""
 
     @abstractmethod
     def join(self, witness: Witness) -> int:

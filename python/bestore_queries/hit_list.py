@@ -169,7 +169,7 @@ class HitList(tk.Frame):
         self._paint_from(self._top)
 
     def shown(self) -> List[List[str]]:
-        """The visible rows' texts."""
+        """The text of each visible row."""
         rows = self.tree.get_children()
         return [[str(self.tree.item(it, "text"))[1:], *map(str, self.tree.item(it, "values"))] for it in rows]
 

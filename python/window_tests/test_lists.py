@@ -42,7 +42,7 @@ class Sorted(unittest.TestCase):
         self.assertEqual([hits.place_of(node) for node in nodes], list(range(len(nodes))))
 
     def test_at_random(self) -> None:
-        """Whatever joins, changes or leaves, even during re-sorting, the order is the same as that of a plain sort."""
+        """Whatever joins, changes or leaves, even during re-sorting, the order matches that of a plain sort."""
         for seed in range(30):
             chance, hits, model = random.Random(seed), SortedHits(), {}  # type: random.Random, SortedHits, Dict[int, Hit]
             for _ in range(400):
