@@ -33,7 +33,7 @@ _BUSY, _FULL = int(ErrorNumber.BUSY), int(ErrorNumber.FULL)
 
 
 def check_one_volume(volume: Optional[int]) -> None:
-    """Raises `NoVolume` if a call names a volume other than the only one."""
+    """Raises `NoVolume` if a call names a volume other than the store's only volume."""
     if volume:
         raise NoVolume(volume, 1)
 

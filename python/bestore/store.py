@@ -267,7 +267,7 @@ class Pass(Owner, ABC):
             node = store.change(file)
 
         Returns what the function's last run returned; `committed` is then the commit number. If the function collects no
-        operation, nothing is written. The function may run up to `attempts` times, so it shouldn't do anything else that
+        operation, nothing is written. The function may run up to `attempts` times, so it shouldn't have other effects that
         mustn't happen twice. If the function raises, nothing is written.
 
         With several volumes, a change reads all volumes and writes to one: `volume` if it is given, otherwise the volume of the
@@ -338,8 +338,8 @@ class Pass(Owner, ABC):
         With several volumes the batch is written to one of them: `volume` if it is given, otherwise the volume of the nodes
         that the batch names, otherwise the volume with the most free pages. The commit number is that volume's. A batch with
         only `make_index` and `remove_index` operations is written to one volume after another: to each that lacks the index to
-        create, or has the index to remove. If a volume refuses, the volumes before it have been written, and applying the same
-        batch again writes the others. For such a batch, the commit number is the sum of the volumes' numbers.
+        create, or has the index to remove. If a volume refuses the batch, the volumes before it have already been written, and
+        applying the same batch again writes the others. For such a batch, the commit number is the sum of the volumes' numbers.
 
         Raises `Busy`, `BadCount` or `NoMemory`; `NameLength`, `DataLength`, `HasNul`, `NotUTF8`, `NoKind` or `NoValue`, with
         the first invalid operation; `NoNode`, `NoAttribute`, `TooManyAttributes`, `IndexExists`, `NoIndex`, `TooManyIndices` or
