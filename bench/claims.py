@@ -1,15 +1,15 @@
 #!/usr/bin/env python3
-"""Measures how fast workers claim one job each from a queue in Python, compared with sqlite3 in memory. Prints a table in
-Markdown.
+"""Measures how fast workers in Python claim one job each from a queue, compared with sqlite3 in memory. Prints a Markdown
+table.
 
     /usr/bin/python3 bench/claims.py                          queues of 500, 2,000 and 16,000 jobs, one worker and eight
     /usr/bin/python3 bench/claims.py --queued 500 --rounds 1  a trial run
     /usr/bin/python3 bench/claims.py --instructions           instead, the instructions per claim of one worker, by perf or valgrind
 
-It needs the package (PYTHONPATH=python). A claim reads a waiting job and marks it as claimed in one step. In bestore, that is
+It needs the package (PYTHONPATH=python). A claim reads a waiting job and marks it as claimed, in one step. In bestore, this is
 a `change`, for any job or for the most urgent one, which then loses its urgency, as in examples/python/jobs.py. In SQLite, it
-is one UPDATE with RETURNING. Claimed jobs are queued again between rounds, so the queue has the same length each time. All
-workers share one SQLite connection, guarded by a lock.
+is a single UPDATE with RETURNING. Claimed jobs are queued again between rounds, so that the queue always has the same length.
+All workers share one SQLite connection, guarded by a lock.
 """
 
 from __future__ import annotations
@@ -29,9 +29,9 @@ from instructions import instructions_a_call
 from timing import seconds_of
 
 CLAIMS = 400
-"""How many jobs are claimed in a round."""
+"""How many jobs are claimed per round."""
 FEW, MANY = 100, 400
-"""How many claims are made where instructions are counted."""
+"""How many claims are made when instructions are counted."""
 WAYS = ("any_job", "urgent_job")
 Claim = Callable[[], Optional[int]]
 
@@ -41,7 +41,7 @@ def urgency_of(number: int) -> int:
 
 
 class Bestore:
-    """Jobs as nodes. `claimers` are the ways to claim one."""
+    """Jobs as nodes. `claimers` are the ways to claim a job."""
 
     def __init__(self, queued: int) -> None:
         self._store = bestore.open(16384)
@@ -51,7 +51,7 @@ class Bestore:
         self.queue_again(list(self._urgencies))
 
     def any_job(self) -> Claim:
-        """Claims any job through its own pass."""
+        """Claims any job, through the worker's own pass."""
         user, waiting = self._store.another(), bestore.prepare("job:state==waiting")
 
         def claim(change: bestore.Change) -> Optional[int]:
@@ -116,7 +116,7 @@ STORES: Dict[str, Callable[[int], Union[Bestore, Sqlite]]] = {"bestore": Bestore
 
 
 def work(claim: Claim, count: int, begin: threading.Barrier, claimed: List[int]) -> None:
-    """Claims this many jobs, once all workers are ready."""
+    """Claims this many jobs once all workers are ready."""
     begin.wait()
     for _ in range(count):
         job = claim()
@@ -139,7 +139,7 @@ def rate(claims: List[Claim], queue_again: Callable[[List[int]], None]) -> float
 
 
 def measured(queued: int, workers: int, rounds: int) -> Dict[str, float]:
-    """Returns the best rate of each way to claim."""
+    """Returns the best rate for each way to claim."""
     best: Dict[str, float] = {}
     for title, made in STORES.items():
         store = made(queued)
@@ -150,7 +150,7 @@ def measured(queued: int, workers: int, rounds: int) -> Dict[str, float]:
 
 
 def instructions(queued: int) -> Dict[str, str]:
-    """Returns the instructions per claim of one worker, for each way."""
+    """Returns one worker's instructions per claim, for each way."""
     own = [sys.executable, os.path.abspath(__file__), "--queued", str(queued), "--one"]
     return {f"{title} {way}": instructions_a_call([*own, title, way], FEW, MANY) for title in STORES for way in WAYS}
 

@@ -1,5 +1,5 @@
 #!/usr/bin/env python3
-"""Measures how fast a kept store in Python writes, compared with `sqlite3`, and how fast it opens. bench/README.md explains
+"""Measures how fast a saved store in Python writes, compared with `sqlite3`, and how fast it opens. bench/README.md explains
 it."""
 
 from __future__ import annotations
@@ -23,13 +23,13 @@ from timing import seconds_of
 
 FILES = 15_000
 ROW = len(bestore.Batch().set(1, "size", 1).to_bytes())
-"""How many bytes an entry of the kept store has, and so the rows of sqlite3."""
+"""How many bytes an entry of the saved store has, and hence each row in sqlite3."""
 
 Write = Callable[[int], object]
 
 
 def rate(writes: List[Write], seconds: float) -> float:
-    """Returns how many writes per second these threads make. Each calls its function repeatedly for this time."""
+    """Returns how many writes per second these threads make when each calls its function repeatedly for this time."""
     counts, start = [0] * len(writes), threading.Barrier(len(writes) + 1)
 
     def work(writer: int, write: Write) -> None:
@@ -45,7 +45,7 @@ def rate(writes: List[Write], seconds: float) -> float:
 
 
 def kept(path: str, writers: int, seconds: float) -> float:
-    """A kept store, with one pass per thread."""
+    """A saved store, with one pass per thread."""
     with saved.open(path) as store:
         store.new_node()
         passes = [store] + [store.another() for _ in range(writers - 1)]
@@ -56,7 +56,7 @@ def kept(path: str, writers: int, seconds: float) -> float:
 
 
 def connected(path: str, is_exclusive: bool = False) -> sqlite3.Connection:
-    """Opens a connection in WAL mode whose commits wait for fsync."""
+    """Opens a connection in WAL mode, whose commits wait for fsync."""
     connection = sqlite3.connect(path, timeout=600, isolation_level=None, check_same_thread=False)
     if is_exclusive:
         connection.execute("PRAGMA locking_mode = EXCLUSIVE")
@@ -72,7 +72,7 @@ def inserts(connection: sqlite3.Connection) -> Write:
 
 
 def shared(path: str, writers: int, seconds: float, is_exclusive: bool = False) -> float:
-    """sqlite3 with one connection, whose lock the threads wait for."""
+    """sqlite3 with one connection, guarded by a lock for which the threads wait."""
     with closing(connected(path, is_exclusive)) as connection:
         insert, lock = inserts(connection), threading.Lock()
 
@@ -83,12 +83,12 @@ def shared(path: str, writers: int, seconds: float, is_exclusive: bool = False) 
 
 
 def exclusive(path: str, writers: int, seconds: float) -> float:
-    """Like `shared`, but the file is locked while it is open, as a kept store's file is."""
+    """Like `shared`, but the file is locked while it is open, like a saved store's file."""
     return shared(path, writers, seconds, True)
 
 
 def each(path: str, writers: int, seconds: float) -> float:
-    """sqlite3 with one connection per thread. Each waits while another one writes."""
+    """sqlite3 with one connection per thread. Each thread waits while another writes."""
     connections = [connected(path) for _ in range(writers)]
     try:
         return rate([inserts(connection) for connection in connections], seconds)
@@ -111,7 +111,7 @@ CASES = [
 
 
 def measure(folder: str, rounds: int, seconds: float) -> None:
-    """Runs all cases in turn, and prints the table."""
+    """Runs all cases in turn and prints the table."""
     found: Dict[Case, List[float]] = {case: [] for case in CASES}
     for number in range(rounds):
         for place, case in enumerate(CASES):
@@ -129,7 +129,7 @@ def measure(folder: str, rounds: int, seconds: float) -> None:
 
 
 def file_batch(first: int, count: int) -> bestore.Batch:
-    """Makes files with five attributes each, one per node."""
+    """Returns a batch that creates files with five attributes each, one per node."""
     batch = bestore.Batch()
     for node in range(first, first + count):
         batch.new_node().set(node, "name", f"file{node:05d}.txt").set(node, "size", node * 7)
@@ -138,7 +138,7 @@ def file_batch(first: int, count: int) -> bestore.Batch:
 
 
 def measure_opening(folder: str, rounds: int) -> None:
-    """Prints how long a store with many files takes to open: first with its entries, and then with only its state."""
+    """Prints how long it takes to open a store with many files, first from its entries and then from its state alone."""
     path, times = os.path.join(folder, "files"), []
     with saved.open(path, pages=16384, every=3600) as store:
         for name, kind in (("name", bestore.STRING), ("size", bestore.INT64), ("when", bestore.INT64)):

@@ -1,15 +1,15 @@
 #!/usr/bin/env python3
-"""Measures how fast the package for Python is, compared with sqlite3 in memory and lmdb. Prints a table in Markdown.
+"""Measures how fast the Python package is, compared with sqlite3 in memory and lmdb. Prints a Markdown table.
 
     /usr/bin/python3 bench/python.py                    measures five rounds, with one peer after another in each
     /usr/bin/python3 bench/python.py --rounds 1 --nodes 1000 --seconds 0.05     a trial run
     /usr/bin/python3 bench/python.py --processor        measures processor time, for a machine that runs something else too
     /usr/bin/python3 bench/python.py --instructions     counts instructions per call instead of time, by perf or valgrind
 
-It needs the package (PYTHONPATH=python, or also BESTORE_LIBRARY), and for LMDB Debian's python3-lmdb. If a peer is missing, it
-is skipped, and a line says so. Each peer does what a program would do: it makes its keys from a node's number and a name, and
-returns texts as str and numbers as int. Each query has a new text or number, in a random order that is the same for all peers.
-The peers' answers are compared.
+It needs the package (PYTHONPATH=python, perhaps with BESTORE_LIBRARY), and for LMDB Debian's python3-lmdb. A missing peer is
+skipped, and a line says so. Each peer does what a program would do: it makes its keys from a node's number and a name, and
+returns strings as str and numbers as int. Each query has a new string or number, in a random order that is the same for all
+peers. The peers' answers are compared.
 """
 
 from __future__ import annotations
@@ -31,7 +31,7 @@ sys.path[:0] = [os.path.join(os.path.dirname(os.path.abspath(__file__)), folder)
 from instructions import instructions_a_call
 
 TEXTS = ("kind", "from", "to", "subject", "status")
-"""The names of five attributes that have no index."""
+"""The names of five attributes without an index."""
 SIZES = 100
 """How many nodes have the same size."""
 SHOWN = 20
@@ -43,7 +43,7 @@ def name_of(node: int) -> str:
 
 
 class Peer:
-    """A store with a node for each number from 1 on: a name and a size, both indexed, and five texts."""
+    """A store with a node for each number, starting from 1. Each node has a name and a size, both indexed, and five strings."""
 
     title = ""
 
@@ -76,11 +76,11 @@ class Peer:
         raise NotImplementedError
 
     def containing(self, asked: Any) -> List[int]:
-        """Returns the nodes whose names contain a text."""
+        """Returns the nodes whose names contain a string."""
         raise NotImplementedError
 
     def page(self, asked: Any) -> List[Tuple[Any, ...]]:
-        """Returns the rows with the largest sizes, or those after a place, in descending order of sizes and nodes."""
+        """Returns the rows with the largest sizes, or those after a position, in descending order of size and node."""
         raise NotImplementedError
 
     older = page
@@ -94,7 +94,7 @@ class Peer:
     def close(self) -> None:
         raise NotImplementedError
 
-    # The queries, made before the clock starts.
+    # The queries, prepared before the clock starts.
 
     def name(self, node: int) -> Any:
         return name_of(node)
@@ -106,7 +106,7 @@ class Peer:
         return name_of(node)[-5:]
 
     def place(self, size: int, node: int) -> Any:
-        """Returns a place in the order of sizes."""
+        """Returns a position in the order of sizes."""
         return size, node
 
 
@@ -256,7 +256,7 @@ class Lmdb(Peer):
     older = page
 
     def _move_before(self, size: int, node: int) -> bool:
-        """Moves the cursor over sizes to the last place before this one."""
+        """Moves the cursor over sizes to the last position before this one."""
         cursor = self._size_cursor
         if cursor.set_range_dup(struct.pack(">q", size), struct.pack(">Q", node)):
             return cursor.prev()  # type: ignore[no-any-return]
@@ -344,7 +344,7 @@ CASES: Dict[str, str] = {
     "page": f"the {SHOWN} largest sizes, with 3 attributes each", "older": f"the next {SHOWN} after a position",
 }
 FEW, MANY = 100, 600
-"""How many calls are made where instructions are counted."""
+"""How many calls are made when instructions are counted."""
 MOST_ASKED = {"get": 200_000, "set_plain": 200_000, "set_size": 200_000, "by_name": 20_000, "containing": 2_000}
 
 
@@ -368,7 +368,7 @@ def asked_of(peer: Peer, case: str, nodes: int, count: int, chance: random.Rando
 
 
 def timed(peer: Peer, case: str, asked: List[Tuple[Any, ...]], now: Callable[[], float] = time.perf_counter) -> Any:
-    """Returns the seconds that these calls take, and what the last one found."""
+    """Returns how many seconds these calls take, and what the last one found."""
     call, found = getattr(peer, case), None
     if not case.startswith("set"):
         peer.begin()
@@ -386,7 +386,7 @@ def measured(peers: List[Peer], options: argparse.Namespace) -> Dict[str, Dict[s
     now = time.process_time if options.processor else time.perf_counter
     taken: Dict[str, Dict[str, List[float]]] = {case: {peer.title: [] for peer in peers} for case in CASES}
     counts: Dict[str, Dict[str, int]] = {case: {} for case in CASES}
-    for number in range(-1, options.rounds):  # the first round finds out how many calls fill the time
+    for number in range(-1, options.rounds):  # the first round determines how many calls fill the time
         for case in CASES:
             for peer in peers:
                 count = counts[case].get(peer.title, 20)
@@ -401,7 +401,7 @@ def measured(peers: List[Peer], options: argparse.Namespace) -> Dict[str, Dict[s
 
 
 def compare(peers: List[Peer], nodes: int) -> None:
-    """Checks that all peers answer alike."""
+    """Checks that all peers return the same answers."""
     for case in CASES:
         for seed in range(5):
             answers = [timed(peer, case, asked_of(peer, case, nodes, 1, random.Random(seed)))[1] for peer in peers]
@@ -414,7 +414,7 @@ def rate(seconds: float) -> str:
 
 
 def print_times(taken: Dict[str, Dict[str, List[float]]], peers: List[Peer]) -> None:
-    """Prints the table: calls per second, the best of the rounds; how many times faster bestore is; and its worst round relative
+    """Prints the table: the calls per second in the best round, how many times faster bestore is, and its worst round relative
     to its best."""
     others = [peer.title for peer in peers if peer.title != "bestore"]
     print("| case | " + " | ".join(others) + " | bestore | spread |\n|---" + "|---" * (len(others) + 2) + "|")

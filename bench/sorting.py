@@ -1,6 +1,6 @@
 #!/usr/bin/env python3
-"""Measures how long `be query --sort` takes for the first 50 of a server's 84,000 files, and the server's share. Prints a table
-in Markdown.
+"""Measures how long `be query --sort` takes for the first 50 of a server's 84,000 files, and the server's share of that time.
+Prints a Markdown table.
 
     /usr/bin/python3 bench/sorting.py FOLDER                             FOLDER has bestored and be, such as rust/target/release
     /usr/bin/python3 bench/sorting.py FOLDER --files 10000 --rounds 20   a trial run
@@ -42,7 +42,7 @@ Query = Dict[str, Any]
 
 
 def add_file(batch: Batch, node: int, number: int, chance: random.Random) -> None:
-    """Adds a file with this number as a node."""
+    """Adds a file with this number, as a node."""
     batch.new_node()
     when = NEWEST - chance.randrange(10**8)
     values: Dict[str, Any] = {
@@ -54,7 +54,7 @@ def add_file(batch: Batch, node: int, number: int, chance: random.Random) -> Non
 
 
 def fill(place: str, volumes: int, files: int) -> None:
-    """Makes the files, with equally many in each volume."""
+    """Creates the files, the same number in each volume."""
     chance = random.Random(1)
     with bestore.connect(place) as store:
         for name, kind in INDICES.items():
@@ -90,7 +90,7 @@ CASES = {
 
 
 class Server:
-    """A server in its own folder, during a `with`."""
+    """A server in its own folder, for the duration of a `with` block."""
 
     def __init__(self, programs: Path, volumes: int) -> None:
         self._folder = Path(tempfile.mkdtemp(prefix="bestore-sorting-"))
@@ -109,7 +109,7 @@ class Server:
         shutil.rmtree(self._folder)
 
     def ask_by_tool(self, query: Query) -> None:
-        """Runs `be query`."""
+        """Sends a query with `be query`."""
         words = [str(self._programs / "be"), "--socket", self.place, "query", "--sort", query["by"], "--reverse", "--limit", str(SHOWN), query["query"]]
         found = subprocess.run(words, check=True, stdout=subprocess.PIPE).stdout.splitlines()
         check(len(found), query)
@@ -133,7 +133,7 @@ def check(found: int, query: Query) -> None:
 
 
 def milliseconds(ask: Callable[[Query], None], case: str, rounds: int) -> str:
-    """Returns the median and the maximum time of this many queries."""
+    """Returns the median and the maximum time over this many queries."""
     chance, times = random.Random(case), []
     for _ in range(rounds):
         query = query_of(case, chance)

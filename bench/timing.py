@@ -1,11 +1,11 @@
-"""Measures how long threads take that begin together."""
+"""Measures the time taken by threads that begin together."""
 import threading
 import time
 from typing import List
 
 
 def seconds_of(threads: List[threading.Thread], begin: threading.Barrier) -> float:
-    """Starts the threads, which wait at `begin` along with this one. Returns how long it takes from then until the last of them
+    """Starts the threads, which wait at `begin` along with this one, and returns the time from then until the last of them
     ends."""
     for thread in threads:
         thread.start()

@@ -1,10 +1,10 @@
-"""Checks that random batches have the same outcomes through the library and through `bestore run`.
+"""Checks that random batches have the same outcomes in the library and in `bestore run`.
 
     python3 alike.py PROGRAM [LISTS [SEED]]
 
-PROGRAM is crates/bestore/out/bestore. Each list is a batch of 1 to 6 operations, then a query and a look at the store's
-content. The journals have to be the same too, and `bestore check` has to accept the library's. If anything differs, it prints
-what, with the script's file, and the status is 1.
+PROGRAM is crates/bestore/out/bestore. Each list consists of a batch of 1 to 6 operations, a query, and commands that show the
+store's contents. The journals have to be identical too, and `bestore check` has to accept the library's. If anything differs,
+alike.py prints the difference and the script's file, and exits with status 1.
 """
 
 import os
@@ -22,7 +22,7 @@ LISTS_A_SCRIPT = 500
 
 
 def value_of(chance, kind):
-    """Returns a random value of this kind, and how a script writes it."""
+    """Returns a random value of this kind, and its form in a script."""
     if kind in (bestore.STRING, bestore.MIME):
         text = chance.choice(["", "ann", "Ann B", "x" * 255, "é"])
         return text, f'"{text}"'
@@ -36,7 +36,7 @@ def value_of(chance, kind):
 
 
 def written(value):
-    """Writes a value as a reply shows it after the kind."""
+    """Formats a value as a reply shows it after the kind."""
     if isinstance(value, str):
         return f'"{value}"'
     if isinstance(value, bytes):
@@ -45,7 +45,7 @@ def written(value):
 
 
 def add(chance, batch, nodes):
-    """Adds an operation to the batch, and returns its line in a script."""
+    """Adds a random operation to the batch, and returns its line in a script."""
     node, name, kind = chance.randrange(1, nodes + 3), chance.choice(NAMES), chance.choice(list(KINDS))
     what = chance.randrange(12)
     if what < 3:
@@ -69,12 +69,12 @@ def add(chance, batch, nodes):
 
 
 def refused(error):
-    """Returns the part of a script's error reply that the library reports too."""
+    """Returns the part of a script's error reply that the library also reports."""
     return f"refused {error.number}"
 
 
 def one_list(chance, store, nodes):
-    """Returns a list's lines, and the replies that the library gives."""
+    """Returns a list's lines and the library's replies."""
     batch, lines, replies = bestore.Batch(), ["begin"], ["ok"]
     for _ in range(chance.randrange(1, 7)):
         lines.append(add(chance, batch, nodes))
@@ -110,7 +110,7 @@ def one_list(chance, store, nodes):
 
 
 def script(chance, count):
-    """Returns the lines of this many lists, run on their own store, with their replies and the store's journal."""
+    """Runs this many lists on a new store, and returns their lines, their replies and the store's journal."""
     lines, replies, nodes = [], [], 0
     with bestore.open(1024, 1, 1000000) as store:
         for _ in range(count):
@@ -121,7 +121,7 @@ def script(chance, count):
 
 
 def agrees(reply, said):
-    """Compares replies; for an error, only its number."""
+    """Compares replies. For errors, compares only the numbers."""
     return (said + " ").startswith(reply + " ") if reply.startswith("refused ") else reply == said
 
 
@@ -131,7 +131,7 @@ def told(program, *words):
 
 
 def file_of(text):
-    """Makes a file with this text."""
+    """Creates a file with this text."""
     with tempfile.NamedTemporaryFile("w", encoding="utf-8", newline="", delete=False) as file:
         file.write(text)
     return file.name

@@ -1,4 +1,4 @@
-"""A pass that another thread is using, to test calls that wait for it."""
+"""Keeps a pass in use by another thread, to test calls that wait for it."""
 import threading
 from contextlib import contextmanager
 from typing import Iterator
@@ -8,8 +8,7 @@ import bestore
 
 @contextmanager
 def used_by_a_thread(store: bestore.Pass) -> Iterator[None]:
-    """Keeps another thread in a call on this pass until the `with` ends, or for up to 20
-    seconds."""
+    """Keeps another thread in a call on this pass until the `with` block ends, for up to 20 seconds."""
     begun, ended = threading.Event(), threading.Event()
 
     def call(handle: object) -> int:

@@ -1,4 +1,4 @@
-"""Starts servers for tests. BESTORED names the program bestored."""
+"""Starts servers for tests. The variable BESTORED names the server program."""
 
 import os
 import shutil
@@ -11,12 +11,12 @@ from unittest import mock
 import bestore
 
 BESTORED = os.environ.get("BESTORED")
-MEMORY = "/dev/shm" if os.access("/dev/shm", os.W_OK) else None  # a folder where a server's file doesn't wait for a disk
+MEMORY = "/dev/shm" if os.access("/dev/shm", os.W_OK) else None  # a folder in which a server's file doesn't wait for a disk
 PATIENCE = 30  # seconds that anything may take on a busy machine
 
 
 class Server:
-    """A server in its own folder, which is killed at the end."""
+    """A server in its own folder. It is killed at the end."""
 
     def __init__(self, *options):
         self.folder = tempfile.mkdtemp(prefix="bestored-", dir=MEMORY)
@@ -28,7 +28,7 @@ class Server:
         self.process = subprocess.Popen([BESTORED, "--socket", self.path, *self.options], stdin=subprocess.DEVNULL)
 
     def connect(self, **options):
-        """Returns a pass, once the server listens and has one free."""
+        """Returns a pass as soon as the server is listening and has a free one."""
         until = time.monotonic() + PATIENCE
         while True:
             try:
@@ -55,7 +55,7 @@ class Server:
 
 @unittest.skipUnless(BESTORED, "BESTORED names no bestored")
 class OverServer(unittest.TestCase):
-    """Makes `bestore.open` open a new server's store."""
+    """A test case in which `bestore.open` opens a new server's store."""
 
     def setUp(self):
         super().setUp()

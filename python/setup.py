@@ -1,8 +1,7 @@
-"""Compiles the extension, puts the library's shared object into the wheel, and names the platform that both need.
+"""Compiles the extension, includes the library's shared object in the wheel, and names the platform that both require.
 
-BESTORE_LIBRARY names the shared object. Without it, in the repository, setup takes the one that `make -C c` builds. If the
-variable is empty, or in an unpacked source distribution, the wheel has none. The package then loads the system's
-libbestore.so.0.
+BESTORE_LIBRARY names the shared object. If it isn't set, setup uses the one that `make -C c` builds in the repository. If it is
+empty, or in an unpacked source distribution, the wheel contains none, and the package loads the system's libbestore.so.0.
 """
 
 import glob
@@ -23,7 +22,7 @@ except ImportError:  # setuptools older than 70.1
 SONAME = "libbestore.so.0"
 HERE = os.path.dirname(os.path.abspath(__file__))
 REPOSITORY = os.path.join(HERE, "..", "c")
-OLDEST = "cp310"  # the Python whose limited API native/native.h uses
+OLDEST = "cp310"  # the Python version whose limited API native/native.h uses
 
 
 def library() -> Optional[str]:
@@ -40,7 +39,7 @@ def library() -> Optional[str]:
 
 
 def platform_tag(paths: List[str]) -> str:
-    """Returns the tag of the oldest GNU libc that has every symbol version these shared objects need."""
+    """Returns the tag of the oldest GNU libc with all symbol versions that these shared objects need."""
     asked: List[Tuple[int, int]] = []
     for path in paths:
         with open(path, "rb") as file:
@@ -54,8 +53,8 @@ def platform_tag(paths: List[str]) -> str:
 
 
 def extension() -> Extension:
-    """The part that is written in C. It calls the library at the addresses where it was loaded, and isn't linked with it. It
-    contains no folder names, so that builds are reproducible."""
+    """The part of the package that is written in C. It isn't linked with the library, but calls it at the addresses where it
+    was loaded. It contains no folder names, so that builds are reproducible."""
     folders = [folder for folder in ("include", os.path.join("..", "include")) if os.path.isdir(os.path.join(HERE, folder))]
     sources = sorted(os.path.relpath(path, HERE) for path in glob.glob(os.path.join(HERE, "native", "*.c")))
     return Extension(
@@ -74,7 +73,7 @@ class BuildWithLibrary(build_py):
 
 
 class PlatformWheel(bdist_wheel):
-    """A wheel for one platform, and for Pythons from the one whose limited API the extension uses."""
+    """A wheel for one platform, and for Python versions from the one whose limited API the extension uses."""
 
     def finalize_options(self) -> None:
         self.py_limited_api = OLDEST

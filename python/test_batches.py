@@ -1,4 +1,4 @@
-"""Tests reading batches back, as operations and as bytes, and reading entries of the journal."""
+"""Tests of reading batches back, as operations and as bytes, and of reading journal entries."""
 
 import os
 import random
@@ -19,7 +19,7 @@ TABLE = os.path.join(os.path.dirname(os.path.abspath(__file__)), "..", "tests", 
 
 
 def table(mark):
-    """Returns the lines with this mark from the table that every language's encoder is tested against: their bytes and words."""
+    """Returns the bytes and words from the lines with this mark, in the table that every language's encoder is tested against."""
     with open(TABLE, encoding="utf-8") as file:
         rows = [line.split(f" {mark} ") for line in file if not line.startswith("#")]
     return [(bytes_of(row[0]), row[1].split()) for row in rows if len(row) == 2]
@@ -32,7 +32,7 @@ def bytes_of(words):
 
 
 def add_words(batch, words):
-    """Adds the operation that these words describe."""
+    """Adds the operation described by these words."""
     kind, node, name, code, number, value = words
     code = int.from_bytes(code.replace("-", "").encode(), "big")
     batch._add_encoded(int(kind), int(node), bytes_of(name), code, int(number) % 2**64, bytes_of(value))
@@ -80,7 +80,7 @@ class Bytes(unittest.TestCase):
         self.assertEqual((list(again), again.to_bytes()), (list(batch), data))
 
     def test_table(self):
-        """Checks the encoding byte by byte, as the tests of the other languages do."""
+        """Checks the encoding byte by byte, as the other languages' tests do."""
         whole, together = bestore.Batch(), b""
         for operation, words in table("="):
             one = bestore.Batch()
@@ -127,7 +127,7 @@ class Bytes(unittest.TestCase):
                 bestore.Batch.from_bytes(whole[:end])
 
     def test_anything(self):
-        """Random changes to the bytes give either a valid batch, which encodes to the same bytes, or `BadBytes`."""
+        """Randomly changed bytes either are a valid batch, which encodes to the same bytes, or raise `BadBytes`."""
         chance, read = random.Random(2), 0
         for _ in range(3000):
             data = bytearray(bestore.Batch([random_operation(chance) for _ in range(3)]).to_bytes())
@@ -154,7 +154,7 @@ class Bytes(unittest.TestCase):
             self.assertIn(fault.exception.operation, (None, 1))
 
     def test_what_is_no_text(self):
-        """Text that isn't valid UTF-8 is found when the batch is read back or applied."""
+        """Text that isn't valid UTF-8 is detected when the batch is read back or applied."""
         data = bestore.Batch([bestore.SetAttribute(1, "ab", "xy", bestore.STRING)]).to_bytes()
         for broken in (data.replace(b"ab", b"\xff\xfe"), data.replace(b"xy", b"\xff\xfe")):
             batch = bestore.Batch.from_bytes(broken)

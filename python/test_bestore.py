@@ -1,4 +1,4 @@
-"""Tests of the module. Build the library in ../c first, then run `python3 -m unittest` in this folder."""
+"""Tests of the module. First build the library in ../c, then run `python3 -m unittest` in this folder."""
 
 import gc
 import os
@@ -78,7 +78,7 @@ class Values(unittest.TestCase):
 
 
 class OutOfRange(unittest.TestCase):
-    """A number that doesn't fit in 64 bits isn't a node's number. If it were truncated, some of these would become node 1."""
+    """A number that doesn't fit in 64 bits isn't a node's number. If they were truncated, some of these numbers would become node 1."""
 
     numbers = (-1, 1 - 2**64, 2**64, 2**64 + 1)
 
@@ -149,7 +149,7 @@ class Versions(unittest.TestCase):
                 self.assertEqual(second.attributes(1), {})
 
     def test_gone(self):
-        """A version that nothing refers to is unpinned. A refused pin doesn't end the version that was pinned before."""
+        """A version without references is unpinned. A refused pin doesn't end the version that was pinned before."""
         with bestore.open(64, 1, 100) as store:
             self.assertEqual(store.pin().nodes(), [])
             gc.collect()
@@ -425,7 +425,7 @@ class Whole(unittest.TestCase):
 
 
 def carried_on(version, store):
-    """Writes the version's state into an empty store, and returns the store."""
+    """Writes the version's state to an empty store and returns the store."""
     for batch in version.state():
         store.apply(batch, tries=1)
     return store
@@ -444,8 +444,8 @@ def operations_of(version):
 
 class States(unittest.TestCase):
     def test_carried_on(self):
-        """The state has the next node number, the nodes, attributes of each kind, the indices, and attributes missing from their
-        index."""
+        """The state includes the next node number, the nodes, attributes of each kind, the indices, and attributes missing from
+        their index."""
         with bestore.open(64, 1, 100) as store, bestore.open(64, 1, 100) as other:
             store.apply(bestore.Batch().new_node().new_node().new_node().remove_node(2))
             store.apply(bestore.Batch().set(1, "k", "before").set(1, "r", b"\0\xff"))
@@ -477,7 +477,7 @@ class States(unittest.TestCase):
                 next(second)
 
     def test_while_others_write(self):
-        """The old store's pin can still be read. A query first refreshed there finds no change in the new store."""
+        """The old store's pin can still be read. A query that was first refreshed there finds no change in the new store."""
         with bestore.open(4096, 3, 100000) as store, store.another() as first, store.another() as second:
             store.apply(bestore.Batch().make_index("n", bestore.INT64).new_node().new_node().set(1, "n", 1).set(2, "n", 2))
 
@@ -527,7 +527,7 @@ class WhatIsCarried(unittest.TestCase):
             self.assertEqual(full.exception.least, 1)
 
     def test_busy(self):
-        """Busy names the pass that is writing: here always the other one, pass 1."""
+        """`Busy` names the pass that is writing, which here is always the other one, pass 1."""
         with bestore.open(64, 2) as store, store.another() as other:
             node, holders = store.new_node(), set()
 
@@ -571,7 +571,7 @@ class Threads(unittest.TestCase):
                 self.assertEqual(version.number, 200)
 
     def test_one_pass(self):
-        """Concurrent calls on one pass, or on one prepared query, wait for one another. A later pin doesn't make an ended version
+        """Concurrent calls on a pass, or on a prepared query, wait for each other. A later pin doesn't make an ended version
         readable."""
         with bestore.open(4096, 1) as store, bestore.prepare("k >= 0") as query:
             store.apply(bestore.Batch().make_index("k", bestore.INT64).new_node().set(1, "k", 0))
@@ -597,8 +597,7 @@ class Threads(unittest.TestCase):
                 self.assertEqual((faults, version.number), ([], 401))
 
     def test_gone_beside_a_call(self):
-        """If a version is dropped while another thread is using its pass, dropping it doesn't wait. That thread then ends the
-        pin."""
+        """Dropping a version doesn't wait for a thread that is using its pass. That thread then ends the pin."""
         with bestore.open(64, 1, 10) as store:
             version = store.pin()
             begun, gone, waits = threading.Event(), threading.Event(), []

@@ -1,4 +1,4 @@
-"""Tests of connections to servers that break the protocol or drop the connection."""
+"""Tests of connections to servers that violate the protocol or drop the connection."""
 
 import contextlib
 import json
@@ -25,8 +25,8 @@ HELLO = {
 
 
 class Fake:
-    """A server that sends what a test specifies after each request: bytes, or a pause in seconds, or None to close the
-    connection."""
+    """A server that responds to each request as a test specifies: by sending bytes, by pausing for some seconds, or, for None,
+    by closing the connection."""
 
     def __init__(self, *answers, hello=None):
         self.folder = tempfile.mkdtemp(prefix="bestored-")
@@ -64,7 +64,7 @@ class Fake:
         requests.readline()
 
     def connect(self, timeout=PATIENCE):
-        """Connects, and retries if the first reply is late on a busy machine."""
+        """Connects, and retries if the first reply is late because the machine is busy."""
         until = time.monotonic() + PATIENCE
         while True:
             try:
@@ -95,10 +95,10 @@ def push(commit, created, removed, **others):
 
 
 class Broken(unittest.TestCase):
-    """Servers that break the protocol or drop the connection."""
+    """Servers that violate the protocol or drop the connection."""
 
     def fault(self, call, answer, timeout=PATIENCE):
-        """Returns the error that a call raises. After it, the connection can't be used."""
+        """Returns the error that a call raises. Afterwards the connection can't be used."""
         with Fake(answer) as fake, fake.connect(timeout) as store:
             with self.assertRaises(bestore.Error) as fault:
                 call(store)
@@ -183,7 +183,7 @@ class Broken(unittest.TestCase):
                 {"query": "k==1"}, {"query": "k==1", "from": 4}, {"query": "k==1", "from": 9}])
 
     def test_columns(self):
-        """Rows may arrive in several replies. Each reply has rows only for nodes that were requested."""
+        """Rows may arrive in several replies. Each reply has rows only for requested nodes."""
         pinned = [line(2, {"commit": 0, "next": 1})]
         with Fake(pinned, [line(3, {"commit": 0, "rows": [[1, "a"], [2, None]]})], [line(4, {"commit": 0, "rows": [[3, "c"]]})],
                   [line(5, {})]) as fake, fake.connect() as store:
@@ -213,7 +213,7 @@ class Broken(unittest.TestCase):
 
 
     def test_push_at_once(self):
-        """A new watch receives a push even if it arrives while the same call ends a dropped version's pin."""
+        """A new watch receives a push even if the push arrives while the same call ends a dropped version's pin."""
         read_first, pinned = connected.ConnectedWatch._read_first, []
 
         def forget_and_read(watch, ok):
@@ -232,7 +232,7 @@ class Broken(unittest.TestCase):
 
 
     def test_more_nodes_than_the_server_has_room_for(self):
-        """A page has 512 words, and a node takes at least one, so a push with more nodes is an error."""
+        """A page has 512 words, and each node takes at least one, so a push with more nodes is an error."""
         for pushed, error in [(push(2, list(range(8 * 512)), []), None), (push(2, list(range(8 * 512 + 1)), []), bestore.ProtocolError),
                               (push(2, [], list(range(8 * 512 + 1))), bestore.ProtocolError)]:
             with Fake([line(2, {"watch": 1, "commit": 1, "nodes": []}) + pushed]) as fake, fake.connect() as store:
@@ -245,7 +245,7 @@ class Broken(unittest.TestCase):
                 self.assertRaises(bestore.Disconnected, store.new_node)
 
     def reach(self, within, times, *answers):
-        """Returns what `reach` returned, how long it asked the server to wait each time, and what it raised. The clock shows
+        """Returns the result of `reach`, how long it asked the server to wait each time, and what it raised. The clock shows
         `times`."""
         clock = mock.Mock(monotonic=mock.Mock(side_effect=times))
         with Fake(*([json.dumps({"id": number, **answer}).encode() + b"\n"] for number, answer in enumerate(answers, 2))) as fake:
@@ -261,7 +261,7 @@ class Broken(unittest.TestCase):
                 return reached, [it["reach"] for it in fake.asked[1:]], raised
 
     def test_reach(self):
-        """`reach` asks the server repeatedly, so that each reply comes within the connection's timeout."""
+        """`reach` asks the server repeatedly, so that each reply arrives within the connection's timeout."""
         later = {"error": {"name": "NotReached", "message": "why", "expected": 7, "found": 5}}
         reached, asked, raised = self.reach(2.5, [10, 10, 11, 12], later, later, later)
         self.assertEqual((reached, [it["within"] for it in asked]), (None, [1000, 1000, 500]))
@@ -273,8 +273,8 @@ class Broken(unittest.TestCase):
 
 
 class Interrupt:
-    """Raises KeyboardInterrupt once, as a signal might: at the start of a function of the package, or at a line of one that takes
-    pushes."""
+    """Raises KeyboardInterrupt once, as a signal might: at the start of one of the package's functions, or at a line of one
+    that takes pushes."""
 
     files = {_connection.__file__, connected.__file__}
     taking = {it.__code__ for it in (
@@ -282,7 +282,7 @@ class Interrupt:
         _connection.Connection._receive, _connection.Connection._take_other, connected.ConnectedWatch._take)}
 
     def __init__(self, place):
-        self.left = place  # how many places to pass before it raises
+        self.left = place  # how many places to pass before raising
 
     def __enter__(self):
         sys.settrace(self.trace)
@@ -301,7 +301,7 @@ class Interrupt:
 class Interrupted(unittest.TestCase):
     """Calls that an exception interrupts at every possible place."""
 
-    answers = {1: {1}, 2: {2}, 3: {3, 4}, 4: {5}}  # what the watched query finds at each commit number
+    answers = {1: {1}, 2: {2}, 3: {3, 4}, 4: {5}}  # the watched query's answer at each commit number
     pushes = push(2, [2], [1]) + push(3, [3], [2], more=True) + push(3, [4], []), push(4, [5], [3, 4])
 
     def fake(self):
@@ -309,7 +309,7 @@ class Interrupted(unittest.TestCase):
         return Fake([line(2, {"watch": 1, "commit": 1, "nodes": [1]}), 0.002, first + last[:9], 0.002, last[9:]])
 
     def waits(self, place):
-        """Waits for pushes, and is interrupted at this place. Returns whether that happened, and whether the connection is still
+        """Waits for pushes, with an interrupt at this place. Returns whether that happened, and whether the connection is still
         open."""
         found, was_interrupted = set(), False
         with self.fake() as fake, fake.connect() as store, store.watch("k==1") as watch:
@@ -353,7 +353,7 @@ class Interrupted(unittest.TestCase):
             place += 1
 
     def test_a_handler_that_raises(self):
-        """If a push handler raises, the pass is disconnected, even if the error is one that the system raises too."""
+        """If a push handler raises, the pass is disconnected, even if the system raises the same error."""
         with self.fake() as fake, fake.connect(timeout=None) as store, store.watch("k==1") as watch:
             store._connection._take_push = lambda push: self.fail_by(TimeoutError("by a handler"))
             watch.wait(0)

@@ -1,4 +1,4 @@
-"""Runs the cases of tests/changes.txt, which specify what a change does in each language."""
+"""Runs the cases in tests/changes.txt, which specify what a change does in each language."""
 
 import os
 import unittest
@@ -9,7 +9,7 @@ CASES = os.path.join(os.path.dirname(os.path.abspath(__file__)), "..", "tests", 
 
 
 def cases():
-    """Returns each case's lines by its title."""
+    """Returns the lines of each case, by title."""
     found = {}
     with open(CASES, encoding="utf-8") as file:
         for line in file:
@@ -22,7 +22,7 @@ def cases():
 
 
 def value_of(kind, text):
-    """Converts a text to a value of this kind. LONG64 stands for a text of 64 bytes."""
+    """Converts a string to a value of this kind. LONG64 stands for a string of 64 bytes."""
     if text.startswith("LONG"):
         text = "x" * int(text[4:])
     if kind in ("STRING", "MIME"):
@@ -76,7 +76,7 @@ class Case:
                 collect(self.other, words[1:])
 
     def change(self, lines, end):
-        """Runs the lines in a change, with one attempt."""
+        """Runs the lines in a change with a single attempt."""
         numbers = []
 
         def function(change):
@@ -94,7 +94,7 @@ class Case:
                 self.test.assertEqual(version.number, self.store.status().entries)
 
     def step(self, change, words):
-        """Runs one line inside a change."""
+        """Runs a line inside a change."""
         if words[0] == "write":
             collect(self.other, words[1:])
         elif words[0] == "fill":
@@ -113,7 +113,7 @@ class Case:
             collect(change, words)
 
     def refused(self, change, words, error):
-        """Checks that an operation is refused, and that the change doesn't keep it."""
+        """Checks that an operation is refused and that the change doesn't collect it."""
         before = change.room
         with self.test.assertRaises(bestore.Error, msg=words) as fault:
             collect(change, words)

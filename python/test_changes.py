@@ -1,4 +1,4 @@
-"""Tests of writes that are based on reads: `change`, `apply_if`, and the functions built on them."""
+"""Tests of writes that depend on reads: `change`, `apply_if`, and the functions built on them."""
 
 import sys
 import threading
@@ -11,7 +11,7 @@ WRITERS, ROUNDS = 4, 60
 
 
 def counted(store, name="count"):
-    """Makes a node with a counter at 0."""
+    """Creates a node with a counter at 0."""
     node = store.new_node()
     store.set(node, name, 0)
     return node
@@ -190,7 +190,7 @@ class Kinds(unittest.TestCase):
                 self.assertEqual(version.attributes(1, kinds=True)["INT32"], bestore.Typed(-(2**31), bestore.INT32))
 
     def test_wrong_kind(self):
-        """A value under an index of another kind is refused, and the message names both kinds."""
+        """A value whose index has another kind is refused, and the message names both kinds."""
         with bestore.open(64, 1, 100) as store:
             store.make_index("size", bestore.INT32)
             store.make_index("name", bestore.STRING)
@@ -235,7 +235,7 @@ class Reindexing(unittest.TestCase):
                 store.reindex("name")
 
     def test_beside_a_writer(self):
-        """A value that another pass sets meanwhile isn't overwritten."""
+        """A value that another pass sets in the meantime isn't overwritten."""
         with bestore.open(4096, 2, 100000) as store, store.another() as other:
             nodes = store.new_nodes(100)
             for node in nodes:
@@ -255,7 +255,7 @@ class Reindexing(unittest.TestCase):
 
 
 class Writers(unittest.TestCase):
-    """Four threads make nodes with two attributes, and add 1 to a shared counter each time. They switch as often as possible."""
+    """Four threads create nodes with two attributes, adding 1 to a shared counter each time. They switch as often as possible."""
 
     def setUp(self):
         self.addCleanup(sys.setswitchinterval, sys.getswitchinterval())
@@ -293,7 +293,7 @@ class Writers(unittest.TestCase):
         self.assertEqual(self.run_writers(write), (0, 0, WRITERS * ROUNDS))
 
     def test_guess(self):
-        """Guessing the next node number mixes nodes up. A plain `set` of a value based on a read loses increments."""
+        """Guessing the next node number mixes nodes up. A plain `set` of a value that depends on a read loses increments."""
         def write(user, counter, name):
             with user.pin() as version:
                 node, count = version.next_node, version.get(counter, "count")

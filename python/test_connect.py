@@ -1,7 +1,7 @@
-"""Tests of a server's stores. BESTORED names the program bestored; without it, they are skipped.
+"""Tests of a server's stores. BESTORED names the server program; without it, the tests are skipped.
 
-Tests for stores in this process also run against servers, if they apply. Then come tests for what only servers have, and
-programs that run both ways."""
+Tests for stores in this process also run against servers, if they apply. They are followed by tests for what only servers have,
+and by programs that run both ways."""
 
 import contextlib
 import os
@@ -50,7 +50,7 @@ UNFIT = {
 
 
 def over_server(cls):
-    """Makes test classes run against servers."""
+    """Returns a version of a test class that runs against servers."""
     def unfit(reason):
         return lambda self: self.skipTest(reason)
     members = {name: unfit(reason) for name, reason in UNFIT.items() if hasattr(cls, name)}
@@ -87,7 +87,7 @@ class WithServer(unittest.TestCase):
         self.store.make_index("size", bestore.INT64)
 
     def sized(self, store, *sizes):
-        """Makes nodes with these sizes."""
+        """Creates nodes with these sizes."""
         def make(change):
             nodes = []
             for size in sizes:
@@ -122,7 +122,7 @@ class Connecting(WithServer):
                 self.store.another()
         other = self.store.another()
         version, watch = other.pin(), other.watch()
-        del other, version, watch  # the pass is closed once nothing refers to it
+        del other, version, watch  # the pass is closed once it has no references
         self.server.connect().close()
 
     def test_no_server(self):
@@ -168,7 +168,7 @@ class Connecting(WithServer):
         self.assertEqual(str(bestore.Unavailable("p", "meet")), "p: `meet` can't be called through a server; only a store in this process has it")
 
     def test_copies_of_a_child_keep_no_pass(self):
-        """The server sees that a pass is closed, even if a forked child has a copy of its socket."""
+        """The server notices that a pass is closed even if a forked child has a copy of its socket."""
         child = os.fork()
         if child == 0:
             time.sleep(PATIENCE)
@@ -203,7 +203,7 @@ class Reading(WithServer):
             self.assertEqual(sum(isinstance(it, bestore.SetAttribute) for it in operations), 24 * 64)
 
     def test_columns(self):
-        """Columns are the same as those of a store in this process."""
+        """Columns are the same as for a store in this process."""
         def columns(store):
             store.apply(bestore.Batch().new_node().new_node().set(1, "a", "x").set(2, "a", 2).set(2, "b", b"\0"))
             nodes, names = [2, 1, 3, 2], ["b", "a", "none"]
@@ -236,7 +236,7 @@ class Reading(WithServer):
 
     @contextlib.contextmanager
     def asked(self):
-        """Collects the commands of the requests that are sent during the `with`."""
+        """Collects the commands of the requests that are sent during the `with` block."""
         commands, ask = [], _connection.Connection.ask
 
         def listed(connection, command, *others, **named):
@@ -252,7 +252,7 @@ class Reading(WithServer):
             self.assertEqual(version.columns([1], ["size"]), [[None]])
 
     def test_rows(self):
-        """Rows are the same as those of a store in this process, even if they arrive in several replies."""
+        """Rows are the same as for a store in this process, even if they arrive in several replies."""
         names = ["b", "a", "none"]
 
         def rows(store):
@@ -360,12 +360,12 @@ class Dying(WithServer):
     """The server is stopped or killed while a call waits for its reply."""
 
     def stop(self):
-        """Stops the server's process, so that it no longer replies."""
+        """Suspends the server's process, so that it no longer replies."""
         self.server.process.send_signal(signal.SIGSTOP)
         os.waitpid(self.server.process.pid, os.WUNTRACED)
 
     def in_call(self, call, end, error):
-        """Returns the error of a call that is waiting when the server ends."""
+        """Returns the error from a call that is waiting when the server ends."""
         self.stop()
         timer = threading.Timer(0.1, end)
         timer.start()
@@ -403,7 +403,7 @@ class Dying(WithServer):
         self.assertEqual((fault.may_be_done, fault.reason), (True, "no reply within 0.5 seconds"))
 
     def test_signals(self):
-        """A signal handler can't use a pass that is in a call."""
+        """A signal handler can't use a pass while a call on it is in progress."""
         said = []
 
         def use(*_):
@@ -436,7 +436,7 @@ class Dying(WithServer):
             self.store.status()
 
     def test_interrupted(self):
-        """If an exception interrupts a call, the next call doesn't read the rest of its reply."""
+        """If an exception interrupts a call, the next call doesn't read the rest of that call's reply."""
         def interrupt(*_):
             raise KeyboardInterrupt
         before = signal.signal(signal.SIGALRM, interrupt)
@@ -459,8 +459,8 @@ class Following(WithServer):
     """Live queries while a second client writes."""
 
     def test_refresh_in_versions(self):
-        """A refresh finds what the version has, wherever the query was last refreshed: here, through another pass, or in a store
-        in this process."""
+        """A refresh finds the version's answer, wherever the query was last refreshed: here, through another pass, or in a
+        store in this process."""
         self.sized(self.store, 5, 1)
         with bestore.prepare("size>=5") as live, self.store.another() as other, _open(64, 1, 100) as local:
             with self.store.pin() as version:
@@ -485,7 +485,7 @@ class Following(WithServer):
                         call(live)
 
     def test_prepare(self):
-        """A query that a server has parsed works on any server's store. If the server is too old to parse one, the library
+        """A query that was parsed by a server works on any server's store. If the server is too old to parse it, the library
         does."""
         self.sized(self.store, 5, 1)
         with self.store.prepare("size>=5 && size>=4") as query, _open(64, 1, 100) as local:
@@ -514,7 +514,7 @@ class Following(WithServer):
             self.assertEqual(query.text, '"size">="5"')
 
     def test_names_of_a_query(self):
-        """A query on many names that was refreshed in this process can be refreshed on a server next."""
+        """A query on many names that was refreshed in this process can then be refreshed on a server."""
         names = [f"n{number}" for number in range(30)]
         with _open(1024, 1, 200) as local, bestore.prepare(" || ".join(f"{name}==1" for name in names)) as live:
             for store in (local, self.store):
@@ -547,7 +547,7 @@ class Following(WithServer):
         self.assertEqual(self.store.watch("size>=9").wait(PATIENCE).created, [5])
 
     def after(self, seconds, call, value):
-        """Lets a thread make the call later, and returns the value."""
+        """Has a thread make the call later, and returns the value."""
         timer = threading.Timer(seconds, call)
         timer.start()
         self.addCleanup(timer.join)
@@ -584,7 +584,7 @@ class Following(WithServer):
         self.assertEqual(self.store.new_node(), 1)
 
     def test_how_many(self):
-        """Watches that nothing refers to are closed when a new one begins."""
+        """Watches without references are closed when a new one begins."""
         for _ in range(70):
             self.store.watch("size>=5")
         kept = [self.store.watch() for _ in range(32)]
@@ -594,7 +594,7 @@ class Following(WithServer):
         self.store.watch().close()
 
     def test_adds_up(self):
-        """While two others write, each refresh adds up to the version's answer, whatever was pushed meanwhile."""
+        """While two other clients write, the refreshes always add up to the version's answer, whatever was pushed meanwhile."""
         def write(store, ending):
             nodes = []
             while not ending.is_set():
@@ -714,7 +714,7 @@ class Programs(unittest.TestCase):
         return run.stdout.decode()
 
     def changed(self, text, opened, path):
-        """Puts `connect` into the first line that opens a store."""
+        """Replaces the call in the first line that opens a store with `connect`."""
         self.assertIn(opened, text)
         return text.replace(opened, f"bestore.connect({path!r})", 1)
 
@@ -731,7 +731,7 @@ class Programs(unittest.TestCase):
                 self.assertTrue(self.run_both_ways(file.read(), opened))
 
     def test_unread(self):
-        """The example of a watch prints changes that another program writes."""
+        """The example for watches prints changes that another program writes."""
         with Server() as server, server.connect() as store:
             store.make_index("MAIL:status", bestore.STRING)
             words = [sys.executable, "-W", "error", os.path.join(EXAMPLES, "unread.py"), server.path]
@@ -747,7 +747,7 @@ class Programs(unittest.TestCase):
         self.assertIn("\n73 NewNode(", self.run_both_ways(FOLLOWED, "bestore.open()"))
 
     def test_journal_and_another_store(self):
-        """The program prints its pass's number. A server's only client gets the same number as the only pass of a store in this
+        """The program prints its pass's number. A server's only client gets the same number as a store's only pass in this
         process."""
         with open(os.path.join(EXAMPLES, "follow.py"), encoding="utf-8") as file:
             text = file.read()
@@ -758,7 +758,7 @@ class Programs(unittest.TestCase):
             self.assertEqual(self.run_program(folder, self.changed(text, opened, server.path)), printed)
 
     def test_folder(self):
-        """A live query runs on files that a second pass writes."""
+        """A live query follows files that a second pass writes."""
         printed = []
         for is_changed in (False, True):
             with tempfile.TemporaryDirectory() as folder, Server("--pages", 64) as server:

@@ -1,6 +1,5 @@
-"""Tests of pages in an index's order from a server's store. BESTORED names the program bestored; without it, they are skipped.
-
-If a test of random pages fails, it shows its seed. `SEED=NUMBER` repeats that run."""
+"""Tests of pages in an index's order from a server's store. BESTORED names the server program; without it, the tests are
+skipped. If a test of random pages fails, it prints its seed. `SEED=NUMBER` repeats that run."""
 
 import os
 import random
@@ -18,7 +17,7 @@ QUERIES = ['text=="*"', 'text=="[ab]*"', "int32>=0", "int64<2 || uint32==1", "ui
 
 
 def value_of(chance, kind):
-    """Returns a value of this kind. The choice is small, so many nodes share a value."""
+    """Returns a value of this kind. There are few to choose from, so many nodes share a value."""
     if kind == bestore.STRING:
         return chance.choice(["", "a", "ab", "b", "ö", "é" * 127])
     low, high = bestore.values.RANGES[kind][0], bestore.values.RANGES[kind][-1]
@@ -41,7 +40,7 @@ class OfServer(unittest.TestCase):
             self.store.make_index(name, kind)
 
     def make(self, volume=0, **attributes):
-        """Makes a node with these attributes."""
+        """Creates a node with these attributes."""
         def made(change):
             node = change.new()
             for name, value in attributes.items():
@@ -172,7 +171,7 @@ class RandomPages(OfServer):
         self.nodes = []
 
     def write(self):
-        """Makes, changes or removes a node at random."""
+        """Creates, changes or removes a node at random."""
         chance = self.chance
         some = {name: value_of(chance, kind) for name, kind in KINDS.items() if chance.randrange(6)}
         if chance.randrange(3) or len(self.nodes) < 9:
@@ -192,7 +191,7 @@ class RandomPages(OfServer):
         self.store = self.server.connect()
 
     def compare(self):
-        """Compares every page of a query with the plain way, and writes in between."""
+        """Compares every page of a query with the sorted answer, with writes in between."""
         chance = self.chance
         order = pages.Order(chance.choice(list(KINDS)), bool(chance.randrange(2)))
         query, limit, after = chance.choice(QUERIES), chance.randrange(1, 30), None
@@ -213,7 +212,7 @@ class RandomPages(OfServer):
                 self.restart()
 
     def test_cursors_of_no_page(self):
-        """A cursor may name a position that no node has, or that none can have."""
+        """A cursor may name a position that no node has, or that no node can have."""
         for _ in range(60):
             self.write()
         for _ in range(150):

@@ -14,7 +14,7 @@ ROOT = os.path.join(os.path.dirname(os.path.abspath(__file__)), "..")
 
 
 def text_of(*path):
-    """Reads a file of the C library."""
+    """Reads one of the C library's files."""
     with open(os.path.join(ROOT, *path), encoding="utf-8") as file:
         return file.read()
 

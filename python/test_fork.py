@@ -15,10 +15,10 @@ from busy_passes import used_by_a_thread
 @unittest.skipUnless(hasattr(os, "fork"), "there is no fork")
 class Forks(unittest.TestCase):
     def in_child(self, work):
-        """Runs this in a forked child, which has to succeed within 20 seconds."""
+        """Runs this in a forked child, which must succeed within 20 seconds."""
         reading, writing = os.pipe()
         with warnings.catch_warnings():
-            warnings.simplefilter("ignore")  # Python 3.12 and later warn about forking beside threads
+            warnings.simplefilter("ignore")  # Python 3.12 and later warn about forking in a process with threads
             child = os.fork()
         if child == 0:
             try:
@@ -90,7 +90,7 @@ class Forks(unittest.TestCase):
             self.assertEqual(store.join(kept[0]), 1)
 
     def test_lock_of_a_thread_that_is_not_there(self):
-        """If a thread of the parent is in a call during the fork, the child doesn't wait for it."""
+        """If one of the parent's threads is in a call during the fork, the child doesn't wait for it."""
         with bestore.open(64, 1, 100) as store:
             def work():
                 with self.assertRaises(bestore.Forked):

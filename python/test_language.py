@@ -11,7 +11,7 @@ SPECIAL = "*?[]^-\\\"' =!<>&|()\n\tné漢a"
 
 
 def store_of(values, kind=bestore.STRING):
-    """Makes a store with an index on `k`, whose node n has the nth of these values."""
+    """Opens a store with an index on `k`, in which node n has the nth of these values."""
     store = bestore.open(256, 1, 1000)
     store.make_index("k", kind)
     for node, value in zip(store.new_nodes(len(values)), values):
@@ -20,7 +20,7 @@ def store_of(values, kind=bestore.STRING):
 
 
 def quoted(chance, text):
-    """Quotes a text, or leaves it as a plain word if that means the same."""
+    """Quotes a string, or leaves it as a plain word if that means the same."""
     quote = chance.choice("\"'")
     return quote + "".join("\\" + it if it in (quote, "\\") or chance.random() < 0.1 else it for it in text) + quote
 
@@ -30,7 +30,7 @@ def random_text(chance, least=0):
 
 
 def random_query(chance, depth=3):
-    """Returns a random query's text, and its comparisons as names and operators."""
+    """Returns a random query's text, and its comparisons as pairs of name and operator."""
     if depth > 0 and chance.random() < 0.5:
         left, some = random_query(chance, depth - 1)
         right, more = random_query(chance, depth - 1)
@@ -75,7 +75,7 @@ class Texts(unittest.TestCase):
             ("größe", "==", "[ä]", 0), ("(x", "!=", 'a\\"b', 19)])
 
     def test_against_the_parser(self):
-        """The comparisons found in a text are those that the library parses: the same names and operators, from left to right."""
+        """The comparisons found in a text are the ones that the library parses, with the same names and operators, from left to right."""
         chance = random.Random(2)
         for _ in range(1000):
             text, expected = random_query(chance)
@@ -118,7 +118,7 @@ class Texts(unittest.TestCase):
 
 class Covered(unittest.TestCase):
     def not_covered(self, ask, query):
-        """Returns the place and the name of the comparison that isn't covered, and the query's text."""
+        """Returns the position and the name of the comparison that isn't covered, and the query's text."""
         with self.assertRaises(bestore.NotCovered) as fault:
             ask(query)
         return fault.exception.offset, fault.exception.missing, fault.exception.query
@@ -172,7 +172,7 @@ class Counts(unittest.TestCase):
                         version.pairs("none")
 
     def test_room(self):
-        """A query has room for as many nodes as there can be, and the next query does too."""
+        """A query has room for the maximum number of nodes, and so does the next query."""
         with bestore.open(4096, 1, 1000) as store:
             store.make_index("k", bestore.INT64)
             for _ in range(160):
@@ -217,7 +217,7 @@ class Hints(unittest.TestCase):
                     version.hints("size>")
 
     def test_is_never_true(self):
-        """A comparison that gets a hint finds nothing. One that gets no hint finds at least one of these numbers."""
+        """A comparison with a hint finds nothing. A comparison without one finds at least one of these numbers."""
         chance = random.Random(4)
         for kind in (bestore.INT32, bestore.INT64, bestore.UINT32, bestore.UINT64):
             bits = 32 if kind in (bestore.INT32, bestore.UINT32) else 64

@@ -1,4 +1,4 @@
-"""Tests of refreshes that look only at what was written, compared with refreshes that run the whole query."""
+"""Tests of refreshes that examine only what was written, compared with refreshes that run the whole query."""
 
 import random
 import threading
@@ -9,12 +9,12 @@ from bestore import local
 from servers import PATIENCE, OverServer
 
 NODES = 300
-"""How many nodes there are: answers have at least 96 nodes, below which the whole query is asked."""
+"""The number of nodes. Answers have at least 96 nodes; with fewer, the whole query is run."""
 
 
 def change(store, chance):
-    """Writes once at random. Sets, which may match the query or not, go to new or existing nodes; the others unset a value or
-    remove a node."""
+    """Makes one random write. It sets a value, which may match the query or not, on a new or existing node, unsets a value, or
+    removes a node."""
     node = chance.randrange(1, NODES)
     try:
         what = chance.random()
@@ -31,7 +31,7 @@ def change(store, chance):
 
 
 def fill(store, chance):
-    """Fills a store, so that queries find 96 nodes or more."""
+    """Fills a store so that queries find 96 nodes or more."""
     store.make_index("size", bestore.INT64)
     while store.new_node() < NODES:
         pass
@@ -40,7 +40,7 @@ def fill(store, chance):
 
 
 class Refreshes(unittest.TestCase):
-    """Each step compares the results of both ways, and compares what they add up to with the query's answer."""
+    """Each step compares the results of both kinds of refresh with each other, and their sum with the query's answer."""
 
     def setUp(self):
         super().setUp()
@@ -63,7 +63,7 @@ class Refreshes(unittest.TestCase):
             self.compare(version)
 
     def compare_both(self, other):
-        """Compares while now one store is written and read, now the other."""
+        """Compares while writing and reading two stores in turn."""
         self.addCleanup(other.close)
         fill(other, self.chance)
         for _ in range(30):

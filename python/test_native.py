@@ -23,7 +23,7 @@ except ImportError:
 
 
 def fill(store, first, last):
-    """Makes nodes for this range of numbers, each with its number in an index and a text."""
+    """Creates nodes for this range of numbers, each with its number, which is indexed, and a string."""
     for begin in range(first, last + 1, 20):
         batch = bestore.Batch()
         for node in range(begin, min(begin + 20, last + 1)):
@@ -32,7 +32,7 @@ def fill(store, first, last):
 
 
 def filled(store, nodes):
-    """Makes an index, and this many nodes."""
+    """Creates an index and this many nodes."""
     store.make_index("k", bestore.INT64)
     fill(store, 1, nodes)
 
@@ -153,7 +153,7 @@ class Arguments(unittest.TestCase):
             self.assertEqual((list(made)[:3], len(batch), len(made)), (list(batch), 3, 4))
 
     def test_batch_that_is_changed_at_once(self):
-        """Two threads can add to one batch while a third writes it, without disturbing one another."""
+        """Two threads can add to a batch while a third writes it, without disturbing each other."""
         with bestore.open(256, 1) as store:
             batch, faults = bestore.Batch(), []
 
@@ -205,7 +205,7 @@ class Queries(unittest.TestCase):
 
 class Guards(unittest.TestCase):
     def test_one_version_in_many_threads(self):
-        """Threads read with and without the GIL, while the pin ends."""
+        """Threads read with and without the GIL while the pin ends."""
         with bestore.open(4096, 1) as store, bestore.prepare("k > 0") as query:
             filled(store, 2000)
             version, faults = store.pin(), []
@@ -258,7 +258,7 @@ class Guards(unittest.TestCase):
             del version
 
     def test_interrupted_wait(self):
-        """A signal interrupts waiting for a thread that is using the pass."""
+        """A signal interrupts the wait for a thread that is using the pass."""
         def interrupt(number, frame):
             raise KeyboardInterrupt
         with bestore.open(64, 1, 100) as store:
@@ -285,7 +285,7 @@ class Guards(unittest.TestCase):
                 version.column([1, Node(), 1], "k")
 
     def test_in_a_cycle(self):
-        """A version that only a cycle refers to is unpinned when the cycle is collected."""
+        """A version that is referenced only by a cycle is unpinned when the cycle is collected."""
         with bestore.open(64, 1, 100) as store:
             holder = [store.pin()]
             holder.append(holder)
@@ -320,7 +320,7 @@ with bestore.open(64, 1, 100) as store:
 
     @unittest.skipIf(_testcapi is None, "there is no _testcapi")
     def test_each_request(self):
-        """If Python is refused memory, each such request raises MemoryError, and the next call works as before."""
+        """Each request for memory that fails raises MemoryError, and the next call works as before."""
         with bestore.open(1024, 2) as store, store.another() as other, bestore.prepare("k > 0") as query:
             filled(store, 60)
             with store.pin() as version:
@@ -373,7 +373,7 @@ with bestore.open(64, 1, 100) as store:
             for _ in range(600):
                 use()
             gc.collect()
-            self.assertLess(sys.getallocatedblocks() - before, 600)  # about what one leaked object per call would add
+            self.assertLess(sys.getallocatedblocks() - before, 600)  # roughly what one leaked object per call would add
 
 
 if __name__ == "__main__":

@@ -1,4 +1,4 @@
-"""Pages in an index's order agree with the whole answer, sorted and cut, in one store and in a shelf."""
+"""Pages in an index's order agree with the whole answer, sorted and cut, both in a store and in a shelf."""
 
 import random
 import threading
@@ -20,7 +20,7 @@ QUERIES = ["i64>=-3", 'text=="*a*"', "u32<2", 'text>"a" && i64<2', "text!=ab && 
 
 
 def opened(volumes):
-    """Opens a store, or a shelf of this many, with an index of each kind, and nodes that were made before the indices."""
+    """Opens a store, or a shelf of this many volumes, with an index of each kind and nodes that are older than the indices."""
     store = bestore.open() if volumes == 0 else bestore.open_shelf(volumes)
     for volume in range(max(volumes, 1)):
         store.apply(bestore.Batch().new_node().set(store.pin()._next_in(volume), "i64", 5), **({"volume": volume} if volumes else {}))
@@ -31,7 +31,7 @@ def opened(volumes):
 
 
 def write(store, chance, volumes, count):
-    """Makes a few writes: makes and removes nodes, and changes values."""
+    """Makes a few writes that create and remove nodes and change values."""
     for _ in range(count):
         volume = chance.randrange(max(volumes, 1))
         with store.pin() as version:
@@ -66,7 +66,7 @@ def plain(version, query, order):
 
 
 def cut(found, order, after, limit):
-    """Returns the page after a cursor, and whether there are more."""
+    """Returns the page after a cursor, and whether more nodes follow."""
     if after is not None and after.node is not None:
         at = keyed(order.by, after.value), after.node
         found = [it for it in found if (it < at if order.descending else it > at)]
@@ -75,7 +75,7 @@ def cut(found, order, after, limit):
 
 class Random(unittest.TestCase):
     def alike(self, volumes, seed):
-        """Compares each page of all queries and orders with the whole answer in its version, and writes in between."""
+        """Compares each page of all queries and orders with the whole answer in its version, with writes in between."""
         chance = random.Random(seed)
         with opened(volumes) as store:
             write(store, chance, volumes, 120)
@@ -264,7 +264,7 @@ class Parts(unittest.TestCase):
 
 
 class Cursors(unittest.TestCase):
-    def test_a_text_is_as_the_format_says(self):  # Rust's tests check the same text
+    def test_a_text_is_as_the_format_says(self):  # the Rust tests check the same text
         cursor = Cursor(Order("MAIL:when", True), check_of('"MAIL:to"=="ann"'), bestore.INT64, 1_700_000_000, 17)
         self.assertEqual(str(cursor), "AQEDCU1BSUw6d2hlbrFkq6-AAAAAZVPxAAAAAAAAAAARURq1_A")
         self.assertEqual(Cursor.parse(str(cursor)), cursor)
@@ -294,7 +294,7 @@ class Cursors(unittest.TestCase):
 
 class Threads(unittest.TestCase):
     def test_pages_beside_writes(self):
-        """Each page of a version shows that version, while others write."""
+        """Each page of a version shows that version while other passes write."""
         chance, ends = random.Random(9), threading.Event()
         with opened(0) as store, store.another() as other:
             write(store, chance, 0, 60)

@@ -1,8 +1,5 @@
-"""Tests of freeing pages: pages that no version has become free again, whatever was written and
-read meanwhile.
-
-Each run makes different writes. If one fails, the message has the seed: BESTORE_SEED=seed
-repeats that run.
+"""Tests of freeing pages: pages that no version uses become free again, whatever was written and read meanwhile. Each run makes
+different writes. If a run fails, the message contains its seed: BESTORE_SEED=seed repeats that run.
 """
 
 from __future__ import annotations
@@ -18,7 +15,7 @@ PAGES = 160
 NODES = 100
 ROUNDS = 3000
 SPARE = 30
-"""When this few pages are free, the readers move to the current version."""
+"""When only this many pages are free, the readers move to the current version."""
 
 
 class Pages(unittest.TestCase):
@@ -27,8 +24,7 @@ class Pages(unittest.TestCase):
         self.chance = random.Random(self.seed)
 
     def empty(self, store: bestore.Store, nodes: List[int]) -> None:
-        """Removes everything from the store, and writes once more, so that the retired pages become
-        free."""
+        """Removes everything from the store and then writes once more, so that the retired pages become free."""
         for node in nodes:
             store.remove_node(node)
         store.remove_index("a")
@@ -56,7 +52,7 @@ class Pages(unittest.TestCase):
             self.empty(store, [])
             free = store.status().free
             readers = [store.another() for _ in range(3)]
-            pinned = [reader.pin() for reader in readers]  # keeps references, since a version without any is unpinned
+            pinned = [reader.pin() for reader in readers]  # keeps references, because a version without any is unpinned
             nodes: List[int] = []
             store.make_index("a", bestore.STRING)
             for _ in range(ROUNDS):

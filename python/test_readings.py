@@ -1,6 +1,5 @@
-"""Tests a query text's comparisons against the library's canonical text.
-
-Each run uses different texts. If one fails, the message has the seed: BESTORE_SEED=seed repeats that run.
+"""Tests the comparisons found in query texts against the library's canonical texts. Each run uses different texts. If a run
+fails, the message contains its seed: BESTORE_SEED=seed repeats that run.
 """
 
 from __future__ import annotations
@@ -14,7 +13,7 @@ import bestore
 from bestore.language import Comparison, comparisons
 
 TEXTS = 4000
-"""How many texts a run takes."""
+"""How many texts a run uses."""
 
 PIECES = [
     "a", "size", "MAIL:from", "größe", "漢", '"x y"', "'it\"s'", '"a\\"b"', "\\(", "a\\ b", '""', "''", "\\\\", '"\n"', "\t", " ", "\n", "\r",
@@ -61,7 +60,7 @@ def canonical(text: str) -> Optional[str]:
 
 
 def in_quotes(text: str) -> str:
-    """Puts a name or a value from the query's text into double quotes."""
+    """Encloses a name or a value from the query's text in double quotes."""
     pieces, escaped = [], False
     for character in text:
         pieces.append("\\" + character if character == '"' and not escaped else character)
@@ -70,7 +69,7 @@ def in_quotes(text: str) -> str:
 
 
 def written(comparison: Comparison) -> str:
-    """Writes a comparison as a query of its own."""
+    """Returns the query that consists of a single comparison."""
     name = comparison.name.replace("\\", "\\\\")
     return in_quotes(name) + comparison.operator + in_quotes(comparison.value)
 
@@ -82,7 +81,7 @@ class Readings(unittest.TestCase):
 
     def test_comparisons_of_what_the_library_takes(self) -> None:
         """A query has the same comparisons as its canonical text, in the same order, apart from any `!` before them. Each is
-        written as it would be by itself."""
+        written as it would be on its own."""
         queries = 0
         for _ in range(TEXTS):
             text = some_text(self.chance)

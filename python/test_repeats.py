@@ -1,4 +1,4 @@
-"""Tests of writes that a client repeats until a server replies. BESTORED names the program bestored; without it, they are
+"""Tests of writes that a client repeats until a server replies. BESTORED names the server program; without it, the tests are
 skipped."""
 
 import threading
@@ -34,7 +34,7 @@ class Repeats(unittest.TestCase):
                 time.sleep(0.002)
 
     def test_each_write_is_made_once(self):
-        """Four threads write with `apply` and `change`, while the server is killed six times."""
+        """Four threads write with `apply` and `change` while the server is killed six times."""
         writes, done = 24, []
 
         def write(number):
@@ -62,7 +62,7 @@ class Repeats(unittest.TestCase):
             self.assertEqual(made, 4 * writes + 1)
 
     def test_numbers_of_an_earlier_run(self):
-        """If the server is restarted between a change's pin and its commit, the change runs again."""
+        """If the server restarts between a change's pin and its commit, the change runs again."""
         runs = []
 
         def change_it(change):
@@ -78,7 +78,7 @@ class Repeats(unittest.TestCase):
             self.assertEqual(store.new_node(), 2)
 
     def test_what_would_be_lost_is_not(self):
-        """A pin or a watch ends with the connection, so a pass that has one doesn't reconnect."""
+        """A pin or a watch ends with its connection, so a pass that has either doesn't reconnect."""
         with self.connect() as pinned, self.connect() as watching, self.connect() as other:
             version, watch = pinned.pin(), watching.watch()
             self.start_again()
@@ -89,7 +89,7 @@ class Repeats(unittest.TestCase):
             del version, watch
 
     def test_given_up(self):
-        """The server doesn't come back in time."""
+        """The server isn't back in time."""
         store = self.connect(repeat=0.2)
         self.server.kill()
         with self.assertRaises(connected.Disconnected):

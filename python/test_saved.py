@@ -1,4 +1,4 @@
-"""Tests of stores that are kept in a file: reopening, errors, full disks, and killed processes."""
+"""Tests of stores that are saved in a file: reopening, errors, full disks, and killed processes."""
 
 import gc
 import glob
@@ -26,7 +26,7 @@ from bestore._saved_file import File
 from bestore._saved_line import Line, Turn
 
 HERE = os.path.dirname(os.path.abspath(__file__))
-MEMORY = "/dev/shm" if os.access("/dev/shm", os.W_OK) else None  # a folder where commits don't wait for a disk
+MEMORY = "/dev/shm" if os.access("/dev/shm", os.W_OK) else None  # a folder in which commits don't wait for a disk
 PATIENCE = 30  # seconds that anything may take on a busy machine
 WRITERS, ROUNDS = 3, 6  # for the processes that are killed
 
@@ -36,14 +36,14 @@ def say(line):
 
 
 def run(work, *arguments):
-    """Runs a function of this file in its own process."""
+    """Runs one of this file's functions in its own process."""
     code = f"import sys, test_saved; test_saved.{work}(*sys.argv[1:])"
     return subprocess.Popen(
         [sys.executable, "-c", code, *map(str, arguments)], cwd=HERE, stdout=subprocess.PIPE, universal_newlines=True)
 
 
 def write_for_ever(path, round_number):
-    """Writes from several threads, prints each write that has returned, and rewrites the state now and then."""
+    """Writes from several threads, prints each write once its call has returned, and rewrites the state now and then."""
     store = saved.open(path)
 
     def write(user, writer):
@@ -104,7 +104,7 @@ def sql(path, *statements):
 
 
 def remove_checksums(path):
-    """Converts the file to the first format, which has no checksums that would reveal changes."""
+    """Converts the file to the first format, which has no checksums to reveal changes."""
     sql(path, *(f"ALTER TABLE {table} DROP COLUMN checksum" for table in ("about", "state", "entry")), "PRAGMA user_version = 1")
 
 
@@ -117,7 +117,7 @@ def file_size(store, size):
 
 
 def three(path):
-    """Makes a file with an index and three nodes, in four entries."""
+    """Creates a file with an index and three nodes, in four entries."""
     with saved.open(path, 64) as store:
         store.make_index("size", bestore.INT64)
         for size in (1, 2, 3):
@@ -125,7 +125,7 @@ def three(path):
 
 
 def four_writers(store):
-    """Threads that make nodes until one isn't saved, each with a pass of its own, and the list that their errors go into."""
+    """Returns threads that create nodes until one isn't saved, each with a pass of its own, and the list that receives their errors."""
     refused = []
 
     def write(user):
@@ -143,7 +143,7 @@ def sizes(store):
 
 
 class Files(unittest.TestCase):
-    """What the other tests share: a folder, and a path in it."""
+    """Provides the other tests with a folder and a path in it."""
 
     def setUp(self):
         folder = tempfile.TemporaryDirectory(dir=MEMORY)
@@ -159,7 +159,7 @@ class Files(unittest.TestCase):
         self.fail("the file is opened")
 
     def skip(self, reason):
-        """Skips the test, and prints a line that a quiet run shows too."""
+        """Skips the test, and prints a line that even a quiet run shows."""
         print(f"{self.id()}: skipped, {reason}", file=sys.stderr)
         self.skipTest(reason)
 
@@ -192,13 +192,13 @@ class Kept(Files):
         with saved.open(self.path, pages=64) as store:
             store.new_node()
             self.assertEqual(modes(), dict.fromkeys(("test.bestore", "test.bestore-last", "test.bestore-wal"), 0o600))
-        os.chmod(self.path, 0o640)  # a mode that someone has chosen isn't changed
+        os.chmod(self.path, 0o640)  # a mode that someone has chosen is left alone
         with saved.open(self.path, pages=64) as store:
             store.new_node()
             self.assertEqual(modes(), {"test.bestore": 0o640, "test.bestore-last": 0o600, "test.bestore-wal": 0o640})
 
     def test_each_call(self):
-        """Each call that writes is saved, from every pass, even a pass that is gone."""
+        """Every call that writes is saved, from every pass, even from one that is gone."""
         with saved.open(self.path, 64) as store, store.another() as other, other.another() as third:
             nodes = other.new_nodes(65)
             third.apply(bestore.Batch().set(1, "k", "é").set(1, "r", b"\0").new_node())
@@ -221,7 +221,7 @@ class Kept(Files):
             self.assertEqual(store.new_node(), 67)
 
     def test_rows(self):
-        """The rows that writers hand in match the journal's entries, in order, even if the last writer hands in first."""
+        """The rows that writers hand in match the journal's entries, in order, even if the last writer hands in its row first."""
         batches = [
             bestore.Batch().new_node().new_node(), bestore.Batch().make_index("i", bestore.INT32).make_index("k", bestore.STRING),
             bestore.Batch().set(1, "i", bestore.Int32(-5)).set(2, "u", bestore.UInt64(2**64 - 1)).set(2, "k", "é"),
@@ -285,7 +285,7 @@ class Kept(Files):
         self.assertEqual(os.listdir(self.folder), ["test.bestore"])
 
     def test_compact_comes_first(self):
-        """If a state is waiting to be written, it goes before the waiting writers, and saves their writes too."""
+        """A state that is waiting to be written goes before the waiting writers, and saves their writes too."""
         ran, append, write_state = [], File.append, File.write_state
 
         def recorded(call):
@@ -325,7 +325,7 @@ class Kept(Files):
         other.close()
 
     def test_last_pass(self):
-        """A store that nothing refers to stays open as long as one of its passes is used."""
+        """A store without references stays open as long as one of its passes is used."""
         other = saved.open(self.path, 64).another()
         other.new_node()
         self.assertIsInstance(self.refusal(), saved.Held)
@@ -378,7 +378,7 @@ class Timed(Files):
         self.assertEqual(self.count(), 10)
 
     def test_write_beside_close(self):
-        """A write that is too late for the last commit fails."""
+        """A write that comes too late for the last commit fails."""
         store = saved.open(self.path, 64, every=3600)
         other, save_all = store.another(), saved._Saver._save_all
 
@@ -418,7 +418,7 @@ class Timed(Files):
         return {it for it in threading.enumerate() if it.name == "bestore-saving"}
 
     def test_saving_that_ends(self):
-        """After an error, the saving thread ends, and writes are refused."""
+        """After an error, the saving thread ends and writes are refused."""
         with self.assertRaises(saved.Stopped), saved.open(self.path, every=0) as store:
             with mock.patch.object(saved._Saver, "_save_all", side_effect=bestore.NoMemory()):
                 with self.assertRaises(saved.Stopped) as stopped:
@@ -434,7 +434,7 @@ class Timed(Files):
         self.assertEqual(self.count(), 50)
 
     def test_left_open(self):
-        """A store that is dropped is closed, and so is one that is still open when Python exits."""
+        """A dropped store is closed, and so is one that is still open when Python exits."""
         saved.open(self.path, 64, every=3600).new_node()
         for _ in range(2000):
             try:
@@ -528,7 +528,7 @@ class Refused(Files):
 class Failures(Files):
     @contextmanager
     def broken(self, error, after=0):
-        """Makes every commit fail, after this many that succeed."""
+        """Makes every commit fail after this many have succeeded."""
         append, left = File.append, [after]
 
         def break_off(file, rows):
@@ -573,7 +573,7 @@ class Failures(Files):
         self.assertEqual(len(sql(self.path, "SELECT number FROM entry")), store._saver._line.saved)
 
     def test_interrupted(self):
-        """If a write's wait is interrupted, the next write saves it, unless it is already in the file."""
+        """If a write is interrupted while it waits, the next write saves it, unless it is already in the file."""
         for after in (False, True):
             append = File.append
 
@@ -614,7 +614,7 @@ class Failures(Files):
         self.assertEqual(sql(self.path, "SELECT count(*) FROM entry"), [(0,)])
 
     def test_interrupted_before_it_is_handed_in(self):
-        """An interrupt between a write and handing in its row leaves no gap: the next commit reads the entry from the journal."""
+        """An interrupt after a write, before its row is handed in, leaves no gap: the next commit reads the entry from the journal."""
         with saved.open(self.path, 64) as store:
             store.new_node()
             with mock.patch.object(saved._Saver, "keep", side_effect=KeyboardInterrupt), self.assertRaises(KeyboardInterrupt):
@@ -629,7 +629,7 @@ class Failures(Files):
             self.assertEqual((version.nodes(), version.attributes(1)), ([1, 2, 3], {"k": "é"}))
 
     def test_interrupted_wait(self):
-        """An interrupted writer leaves the line intact, even if the file was handed to it meanwhile."""
+        """An interrupted writer leaves the queue intact, even if it was given the file meanwhile."""
         for has_file in (False, True):
             line = Line(0)
             owner, gone, last = Turn(1), Turn(2), Turn(3)
@@ -648,7 +648,7 @@ class Failures(Files):
             self.assertEqual((line._owner, line._writers), (None, []))
 
     def test_compact(self):
-        """If a state can't be written, the file stays as it was."""
+        """If a state can't be written, the file is unchanged."""
         with saved.open(self.path, 64) as store:
             store.new_nodes(3)
             with mock.patch.object(bestore.Batch, "to_bytes", side_effect=saved.DiskFull(self.path)):
@@ -683,7 +683,7 @@ class Failures(Files):
 
 class Processes(Files):
     def killed(self, round_number):
-        """Lets a process write, kills it at a random moment, and returns the keys of the writes that had returned."""
+        """Starts a process that writes, kills it at a random moment, and returns the keys of the writes whose calls had returned."""
         child = run("write_for_ever", self.path, round_number)
         keys = [child.stdout.readline().strip()]
         self.assertIsInstance(self.refusal(), saved.Held)
@@ -717,7 +717,7 @@ class Processes(Files):
             self.assertEqual(version.nodes(), list(range(1, 11)))
 
     def test_rust(self):
-        """The Rust crate's test program opens a file that Python made, and then Python opens it again."""
+        """The Rust crate's test program opens a file that Python created, and then Python opens it again."""
         target = os.environ.get("CARGO_TARGET_DIR", os.path.join(HERE, "..", "rust", "target"))
         built = [it for it in glob.glob(os.path.join(target, "debug", "deps", "saved-*")) if os.access(it, os.X_OK)]
         there = {**os.environ, "LD_LIBRARY_PATH": os.path.dirname(_path())}
@@ -746,7 +746,7 @@ class Processes(Files):
 @unittest.skipUnless(hasattr(os, "fork"), "there is no fork")
 class Forks(Files):
     def test_dead(self):
-        """The child's handles are dead, and closing them leaves the file to the parent. The child can keep its own file."""
+        """The child's handles are dead, and closing them leaves the file to the parent. The child can save a store in its own file."""
         with saved.open(self.path, 64) as store:
             node, other = store.new_node(), store.another()
             with warnings.catch_warnings():

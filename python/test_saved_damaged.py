@@ -1,4 +1,4 @@
-"""Tests of kept files with changed or missing parts."""
+"""Tests of store files with changed or missing parts."""
 
 import os
 import random
@@ -18,7 +18,7 @@ class Damaged(Files):
         return self.path + ending
 
     def image(self) -> Dict[str, bytes]:
-        """Returns the contents of the file and its companion files, by their suffixes."""
+        """Returns the contents of the file and its companion files, by suffix."""
         found = {}
         for ending in ("", "-wal", "-last"):
             if os.path.exists(self.beside(ending)):
@@ -51,7 +51,7 @@ class Damaged(Files):
         self.put({**image, ending: bytes(data)})
 
     def test_any_changed_byte(self) -> None:
-        """A changed byte is either found, or makes no difference."""
+        """A changed byte is either detected or makes no difference."""
         image, chosen, refused = self.killed(150), random.Random(1), 0
         for change in range(CHANGES):
             ending = ("", "-wal")[change % 2]
@@ -118,7 +118,7 @@ class Damaged(Files):
         self.assertEqual(len(self.nodes()), 8)
 
     def test_last(self) -> None:
-        """The file `-last` has the number while the store is open. If it can't be written, the store works without it."""
+        """The `-last` file contains the number while the store is open. If the file can't be written, the store works without it."""
         image = self.killed(2)
         self.assertEqual(image["-last"].split()[1], b"%020d" % 2)
         self.assertEqual(os.listdir(self.folder), [os.path.basename(self.path)])

@@ -1,4 +1,4 @@
-"""Tests of kept files whose entries have the highest possible numbers."""
+"""Tests of store files whose entries have the highest possible numbers."""
 
 import bestore
 from bestore import saved
@@ -29,7 +29,7 @@ class Numbers(Files):
                 store.compact()
 
     def test_limit_of_the_caller(self) -> None:
-        """The caller's lower limit still applies."""
+        """A lower limit from the caller still applies."""
         three(self.path)
         saved.open(self.path, 64).close()
         self.has_entries(LAST - 2)

@@ -1,4 +1,4 @@
-"""Tests of shelves: of stores in this process, of kept ones, and of a server that BESTORED names."""
+"""Tests of shelves: in this process, saved in files, and on a server, which BESTORED names."""
 
 import os
 import random
@@ -27,7 +27,7 @@ class InProcess:
 
 
 class OfServer:
-    """Shelves of a server's volumes."""
+    """Shelves of volumes on a server."""
 
     def setUp(self):
         super().setUp()
@@ -363,7 +363,7 @@ class Nodes(unittest.TestCase):
 
 
 class Kept(Indexed, unittest.TestCase):
-    """Shelves that are kept in files."""
+    """Shelves that are saved in files."""
 
     def setUp(self):
         self.folder = tempfile.mkdtemp(prefix="shelf-", dir=MEMORY)
@@ -426,7 +426,7 @@ class Kept(Indexed, unittest.TestCase):
         self.assertEqual(self.found(self.shelf()), made)
 
     def test_index_that_is_not_made(self):
-        """The files are free afterwards, even while the error and everything it refers to still exist."""
+        """The files can be reopened afterwards, even while the error and everything it references still exist."""
         made = self.three()
         try:
             with mock.patch.object(File, "append", side_effect=saved.DiskFull("disk")):
@@ -437,7 +437,7 @@ class Kept(Indexed, unittest.TestCase):
         self.assertEqual((refused.path, refused.number), (os.path.join(self.path, "3.bestore"), 1))
 
     def refused(self, name, call):
-        """Returns the error of a call while the file's method of this name fails in every volume except the second."""
+        """Returns the error from a call while this method of the file fails in every volume except the second."""
         do = getattr(File, name)
 
         def fail(file, *given):
@@ -473,7 +473,7 @@ class Kept(Indexed, unittest.TestCase):
             self.assertRaises(OSError, saved.open_shelf, file.name, 2)
 
     def test_killed(self):
-        """A process that counts in each volume is killed: every number that it printed is there."""
+        """A process that counts in each volume is killed. Every number that it printed is in the files."""
         program = """if True:
             import sys
             from bestore import Batch, saved

@@ -1,4 +1,4 @@
-"""Tests of a server's socket: where it is, who may own its server, and how long connecting takes."""
+"""Tests of a server's socket: where it is, who may own the server, and how long connecting takes."""
 
 import contextlib
 import os
@@ -17,7 +17,7 @@ ANOTHER = 65534  # a user that runs nothing here
 
 @contextlib.contextmanager
 def variables(**named):
-    """Sets the environment variables that say where the socket is: these, and no others."""
+    """Sets the environment variables that determine the socket's path: these and no others."""
     with mock.patch.dict(os.environ):
         for name in "BESTORE_SOCKET", "XDG_RUNTIME_DIR":
             os.environ.pop(name, None)
@@ -48,11 +48,11 @@ class Paths(unittest.TestCase):
 
 
 class Users(unittest.TestCase):
-    """At a default path, the server has to belong to the same user or to root."""
+    """At a default path, the server must belong to the same user or to root."""
 
     @contextlib.contextmanager
     def default(self, fake, user):
-        """Puts `fake` at the default path, as if this user ran it."""
+        """Places `fake` at the default path, as if this user ran it."""
         with tempfile.TemporaryDirectory() as folder, variables(XDG_RUNTIME_DIR=folder):
             os.mkdir(os.path.join(folder, "bestore"))
             path = os.path.join(folder, "bestore", "socket")
@@ -111,7 +111,7 @@ class Users(unittest.TestCase):
 
 
 class Times(unittest.TestCase):
-    """Connecting to a server that accepts no one, with room for only one waiting connection."""
+    """Connecting to a server that accepts no connections and has room for only one pending connection."""
 
     def setUp(self):
         folder = tempfile.TemporaryDirectory()
@@ -132,7 +132,7 @@ class Times(unittest.TestCase):
         self.assertFalse(fault.exception.may_be_done)
 
     def test_connecting_waits(self):
-        """The connection succeeds once the server has accepted the one before it."""
+        """Connecting succeeds once the server has accepted the previous connection."""
         pause = mock.Mock(side_effect=lambda seconds: self.listening.accept()[0].close())
         with mock.patch.object(_connection.time, "sleep", pause):
             connected = _connection._socket_to(self.path, PATIENCE)

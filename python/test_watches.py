@@ -1,5 +1,5 @@
-"""Tests of watches and of waiting for a commit: in this process, over several volumes, kept in a file, and with a server that
-BESTORED names."""
+"""Tests of watches and of waiting for a commit: in this process, across several volumes, saved in a file, and with a server,
+which BESTORED names."""
 
 import os
 import shutil
@@ -25,7 +25,7 @@ class Stores:
         self.store.make_index("size", bestore.INT64)
 
     def sized(self, size):
-        """Makes a node of this size through the other pass."""
+        """Creates a node of this size through the other pass."""
         def make(change):
             node = change.new()
             change[node]["size"] = size
@@ -33,7 +33,7 @@ class Stores:
         return self.other.change(make)
 
     def later(self, write):
-        """Writes from another thread, once this one is waiting."""
+        """Writes from another thread once this one is waiting."""
         waits, wait = threading.Event(), commits.Waiter.wait
 
         def waited(waiter, left):
@@ -115,7 +115,7 @@ class Watches(Stores):
 
 class OfThisProcess(Watches):
     def test_nobody_looks_again_and_again(self):
-        """A waiting watch looks only at the start, after a commit, and when the time is up."""
+        """A waiting watch checks only at the start, after a commit, and when the time is up."""
         with self.store.watch("size>=5") as watch, mock.patch.object(local.LocalPass, "pin", autospec=True,
                                                                      side_effect=local.LocalPass.pin) as pin:
             self.assertIsNone(watch.wait(0.2))
@@ -198,7 +198,7 @@ class OfServer(Watches, unittest.TestCase):
 
 
 class OfPassesOfAServer(OfServer):
-    """A shelf of passes whose stores can't wake it looks again from time to time."""
+    """A shelf of passes whose stores can't wake it checks again from time to time."""
 
     def opened(self):
         servers = [Server("--pages", 256) for _ in range(2)]

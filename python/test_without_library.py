@@ -1,4 +1,4 @@
-"""Tests of a server's clients that have neither the extension nor the library."""
+"""Tests of server clients that have neither the extension nor the library."""
 
 import os
 import pickle
@@ -110,11 +110,11 @@ class Clients(unittest.TestCase):
 
 
 class PlainBatch(bestore.Batch):
-    """A batch that isn't made by the extension."""
+    """A batch class that isn't the extension's."""
 
 
 class Plain:
-    """Batches are made without the extension."""
+    """Creates batches without the extension."""
 
     def setUp(self):
         super().setUp()
@@ -132,10 +132,10 @@ class PlainBytes(Plain, Bytes):
 
 
 class Batches(unittest.TestCase):
-    """Both sorts of batch behave alike."""
+    """Both sorts of batch behave the same."""
 
     def setUp(self):
-        local.open(64, 1, 100).close()  # after this, the extension makes batches
+        local.open(64, 1, 100).close()  # after this, batches are the extension's
         self.native, self.plain = bestore.Batch(EACH), PlainBatch(EACH)
 
     def test_alike(self):

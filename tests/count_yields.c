@@ -1,6 +1,6 @@
-// Counts how many times a program lets other threads run (LD_PRELOAD). A request for memory by any thread except the first takes
-// 2 ms longer, so if a thread makes one while it holds a lock, others find the lock held. YIELD_COUNT names a file with a 64-bit
-// word, which has the count however the program ends.
+// Counts how many times a program yields to other threads (LD_PRELOAD). A request for memory by any thread but the first takes
+// 2 ms longer, so if a thread makes one while it holds a lock, others find the lock held. YIELD_COUNT names a file with a
+// 64-bit word, which contains the count however the program ends.
 
 #define _GNU_SOURCE
 #include <fcntl.h>

@@ -11,7 +11,7 @@ TABLE = ROOT / "tests/growth.txt"
 
 
 class Trial(NamedTuple):
-    """How a row is tested in one form: by this test, at these sizes."""
+    """How a row is tested in one form: with this test, at these sizes."""
 
     form: str
     sizes: list[int]
@@ -25,14 +25,14 @@ class Row(NamedTuple):
 
 
 def powers(least: int, most: int) -> list[int]:
-    """Returns the sizes at which memory grows: each power of two, one less and one more. The bounds are included."""
+    """Returns the sizes at which memory grows: each power of two, one less, and one more. Includes the bounds."""
     around = {2**k + d for k in range(most.bit_length() + 1) for d in (-1, 0, 1)}
     return sorted({least, most} | {size for size in around if least <= size <= most})
 
 
 def sizes_of(words: str, least: int, most: int) -> list[int]:
-    """Returns the sizes that a line names: `each`, `powers`, `bound`, `powers to N`, or `each to N`. The last is each to N, then
-    powers."""
+    """Returns the sizes that a line specifies: `each`, `powers`, `bound`, `powers to N`, or `each to N`, which is every size up
+    to N and then powers."""
     which, _, last = words.partition(" to ")
     if which == "bound":
         return [most]
@@ -42,8 +42,7 @@ def sizes_of(words: str, least: int, most: int) -> list[int]:
 
 
 def more_sizes(sizes: list[int], chance: random.Random) -> list[int]:
-    """Returns these sizes and, if some in between are missing, two more: one that is as likely small as large, and one of any
-    size."""
+    """Returns these sizes and, if they skip any, two more: one that is as likely to be small as large, and one of any size."""
     least, most = sizes[0], sizes[-1]
     if len(sizes) > most - least:
         return sizes
@@ -59,7 +58,7 @@ def trial_of(line: str, least: int, most: int) -> Iterator[Trial]:
 
 
 def row_of(text: str) -> Row:
-    """Parses a row: a line `NAME LEAST MOST`, a line for each form, and the names after `calls:`."""
+    """Parses a row: a line `NAME LEAST MOST`, a line per form, and the names after `calls:`."""
     head, *lines = re.split(r"\n *", text.strip())
     name, least, most = head.split()
     trials = [it for line in lines if not line.startswith("calls: ") for it in trial_of(line, int(least), int(most))]
@@ -68,7 +67,7 @@ def row_of(text: str) -> Row:
 
 
 def read_table() -> tuple[list[Row], list[str]]:
-    """Returns the rows, and the calls that take no memory for what they are given."""
+    """Returns the rows, and the calls that allocate no memory for their input."""
     text = re.sub(r"^#.*\n", "", TABLE.read_text(), flags=re.M)
     *rows, last = re.split(r"\n\n+", text.strip())
     return [row_of(row) for row in rows], re.split(r"[,\s]+", last.removeprefix("no memory:").strip())

@@ -1,10 +1,10 @@
 #!/usr/bin/env python3
-"""Tests tools/check-words --names on a small repository: which names in sources, definitions, proofs, edits, files and folders it
-refuses, which it accepts, and that it reads neither comments nor texts.
+"""Tests tools/check-words --names on a small repository: which names it refuses and which it accepts in sources, definitions,
+proofs, edits, files and folders, and that it reads neither comments nor texts.
 
 usage: tests/words.py
 
-If something is wrong, it says what and ends with status 1.
+If something is wrong, it says what and exits with status 1.
 """
 from __future__ import annotations
 
@@ -17,7 +17,7 @@ from pathlib import Path
 
 TOP = Path(__file__).resolve().parent.parent
 
-# Files of crates/ and mutants/, and the names that are refused, each with its line.
+# Files in crates/ and mutants/, and the names that are refused, each with its line.
 REFUSED = {
     "low/src/calls.rt": ("fn told() {}\nlet TellsNode = LEAST_ITEMS;\n", ["1 told", "2 LEAST_ITEMS", "2 TellsNode"]),
     "low/src/texts.rt": ("// told\nlet a = \"told\"; let b = '\"'; let spelt = b'\"';\n", ["2 spelt"]),
@@ -43,12 +43,12 @@ PASSED = {
 
 
 def place_of(name: str) -> str:
-    """The place of a file: in crates/, or where it says."""
+    """Returns a file's path: as given if it is in mutants/, and otherwise in crates/."""
     return name if name.startswith("mutants/") else f"crates/{name}"
 
 
 class Repository:
-    """A repository with the tool and these files in crates/."""
+    """A repository with the tool and these files."""
 
     def __init__(self, folder: Path, files: dict[str, str]) -> None:
         self.folder = folder
@@ -61,18 +61,18 @@ class Repository:
         subprocess.run(["git", "init", "--quiet"], cwd=folder, check=True)
 
     def check(self, *words: str) -> tuple[int, str, str]:
-        """Returns the tool's status, its output, and its last line of errors."""
+        """Returns the tool's status, its output, and the last line of its errors."""
         ran = subprocess.run(["tools/check-words", *words], cwd=self.folder, capture_output=True, text=True, check=False)
         return ran.returncode, ran.stdout, (ran.stderr.splitlines() or [""])[-1]
 
 
 def names_in(printed: str, file: str) -> list[str]:
-    """Returns the names that were found in a file, each with its line."""
+    """Returns the names that were found in a file, each with its line number."""
     return [f"{it[0]} {it[1]}" for it in re.findall(rf"^{re.escape(place_of(file))}:(\d+): '(\S+)': write ", printed, re.M)]
 
 
 def check_refused(folder: Path, faults: list[str]) -> None:
-    """Each name that should be refused is, in all files at once and in its own file."""
+    """Each name that should be refused is refused, whether all files are checked or only its own."""
     repository = Repository(folder, {name: text for name, (text, _) in REFUSED.items()})
     status, printed, last = repository.check("--names")
     wanted = {name: sorted({*names}) for name, (_, names) in REFUSED.items()}
@@ -86,7 +86,7 @@ def check_refused(folder: Path, faults: list[str]) -> None:
 
 
 def check_passed(folder: Path, faults: list[str]) -> None:
-    """These names are accepted. Without --names, only names in their own list are refused."""
+    """These names are accepted, and an option that doesn't exist is refused."""
     repository = Repository(folder, PASSED)
     count = sum(not name.endswith(".md") for name in PASSED)
     passed = f"words: {count} files, and none has a name that isn't used here\n"
@@ -96,7 +96,7 @@ def check_passed(folder: Path, faults: list[str]) -> None:
 
 
 def check_prose(folder: Path, faults: list[str]) -> None:
-    """Without --names, the tool reads prose, and only those names that are in their own list."""
+    """Without --names, the tool reads prose, and refuses only names that are in a separate list."""
     repository = Repository(folder, {"low/src/calls.rt": "// `told` is a name.\nfn told() {}\n"})
     check(faults, "names, where prose is read", repository.check()[0], 0)
     repository = Repository(folder / "second", {"low/src/calls.rt": "// What it told.\nfn left_behind() {}\n"})

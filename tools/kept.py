@@ -1,8 +1,6 @@
-"""Remembers what earlier runs on this machine have passed, by the checksum of everything that was read. Each is a file named by
-its checksum.
-
-The folder is $BESTORE_KEPT, or else bestore in the user's cache. So a run in a fresh clone finds what another clone has
-passed.
+"""Remembers what has passed in earlier runs on this machine, by the checksum of everything that was read. Each record is a file
+named after its checksum. The folder is $BESTORE_KEPT, or otherwise bestore in the user's cache, so a run in a fresh clone finds
+what has passed in another.
 """
 from __future__ import annotations
 
@@ -37,7 +35,7 @@ def has(what: str, sum_of_all: str) -> bool:
 
 
 def text(what: str, sum_of_all: str) -> str:
-    """Returns the text that was kept with this checksum, or an empty one."""
+    """Returns the text that was recorded with this checksum, or an empty string."""
     try:
         return (folder() / what / sum_of_all).read_text()
     except OSError:
@@ -45,7 +43,7 @@ def text(what: str, sum_of_all: str) -> str:
 
 
 def keep(what: str, sum_of_all: str, text: str = "") -> None:
-    """Records that all of this has passed, with a text. If the folder can't be made or written, nothing is recorded."""
+    """Records that all of this has passed, with a text. If the folder can't be created or written, nothing is recorded."""
     try:
         place = folder() / what
         place.mkdir(parents=True, exist_ok=True)

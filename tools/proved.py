@@ -1,4 +1,4 @@
-"""The crates of crates.txt, and how to make `rattle` read one on the proved form of those below it."""
+"""The crates in crates.txt, and how to make `rattle` read one with the proved forms of the crates below it."""
 from __future__ import annotations
 
 import shutil
@@ -9,13 +9,13 @@ ROOT = Path(__file__).resolve().parent.parent
 
 
 def read_libraries() -> dict[str, list[str]]:
-    """Returns the libraries that crates.txt lists for each crate, of this repository and of the toolchain."""
+    """Returns the libraries that crates.txt lists for each crate, both this repository's and the toolchain's."""
     lines = (it.partition("#")[0].partition(":") for it in (ROOT / "crates.txt").read_text().splitlines())
     return {names.split()[0]: libraries.split() for names, _, libraries in lines if names.strip()}
 
 
 def below(crate: str, libraries: dict[str, list[str]]) -> set[str]:
-    """Returns the repository's libraries that a crate needs, directly or not."""
+    """Returns the repository's libraries that a crate needs, directly or indirectly."""
     found: set[str] = set()
     for it in libraries[crate]:
         if it in libraries:
@@ -24,7 +24,7 @@ def below(crate: str, libraries: dict[str, list[str]]) -> set[str]:
 
 
 def folder_of(crate: str, top: Path = ROOT) -> Path:
-    """Returns where the gate, or a check, leaves a library's proved form."""
+    """Returns the folder where the gate or a check leaves a library's proved form."""
     return top / f"crates/{crate}/out/rlib"
 
 
@@ -33,7 +33,7 @@ def find_rt() -> Path:
 
 
 def rattle_words(command: str, crate: str, source: str, libraries: dict[str, list[str]], top: Path = ROOT) -> list[str]:
-    """Returns the words of `rattle COMMAND` for a crate with this source, in the clone `top`."""
+    """Returns the command line of `rattle COMMAND` for a crate with this source, in the clone `top`."""
     rt = find_rt()
     kit = rt.parent.parent
 

@@ -1,4 +1,4 @@
-"""Writes what a tool has tried into docs/PROOFS.md, between the lines `<!-- NAME -->` and `<!-- end of the NAME -->`."""
+"""Writes a tool's results to docs/PROOFS.md, between the lines `<!-- NAME -->` and `<!-- end of the NAME -->`."""
 from __future__ import annotations
 
 import re
@@ -14,14 +14,14 @@ COLUMNS = 140
 
 
 def now() -> str:
-    """Returns the day and the commit, such as `28 November 2026, at commit 01234567`."""
+    """Returns the date and the commit, such as `28 November 2026, at commit 01234567`."""
     words = ["git", "rev-parse", "--short=8", "HEAD"]
     commit = subprocess.run(words, cwd=ROOT, stdout=subprocess.PIPE, text=True, check=True).stdout.strip()
     return f"{time.strftime('%-d %B %Y')}, at commit {commit}"
 
 
 def write(name: str, told: str) -> None:
-    """Replaces the text between the lines with this name, and indents it as they are."""
+    """Replaces the text between the lines with this name, and gives it their indentation."""
     between = re.compile(rf"^( *)<!-- {name} -->\n.*?^ *<!-- end of the {name} -->\n", re.M | re.S)
     whole = PROOFS.read_text()
     found = between.search(whole)

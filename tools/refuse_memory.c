@@ -1,5 +1,6 @@
-// An allocator that refuses one request for memory. Preloaded into a program (LD_PRELOAD), it numbers the program's requests from
-// 1 in the order in which they come. It returns a null pointer for one of them, and passes all others to the C library.
+// An allocator that refuses one request for memory. When preloaded into a program (LD_PRELOAD), it numbers the requests,
+// starting at 1, in the order in which they arrive. It returns a null pointer for one of them, and passes all others to the C
+// library.
 //
 //   REFUSE_REQUEST  the number of the request to refuse; 0, or no number, refuses none
 //   REFUSE_COUNT    a file of two 64-bit words: the number of requests so far, which is there however the program ends, and 1
@@ -20,7 +21,7 @@ void *__libc_calloc(size_t count, size_t size);
 void *__libc_realloc(void *old, size_t size);
 void *__libc_memalign(size_t alignment, size_t size);
 
-// Requests before `begin` come from the loader: they are counted here, and never refused.
+// Requests before `begin` come from the loader. They are counted here and never refused.
 static _Atomic uint64_t of_loader;
 static _Atomic uint64_t *requests = &of_loader;
 static uint64_t refused;

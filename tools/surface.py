@@ -1,11 +1,11 @@
 #!/usr/bin/env python3
-"""Writes what all languages share from surface.toml into the sources and documents, or checks that they have it.
+"""Writes what all languages share from surface.toml to the sources and documents, or checks that they contain it.
 
 usage: tools/surface.py            rewrites the regions and files
-       tools/surface.py --check    prints which of them differ, and ends with status 1 if any does
+       tools/surface.py --check    prints which of them differ, and exits with status 1 if any do
 
-A region begins after a line with "surface.toml: NAME" and ends before one with "surface.toml: end". What programs were built
-with never changes. So this only adds lines to c/abi/, and a number there that differs from the table is an error.
+A region begins after a line with "surface.toml: NAME" and ends before a line with "surface.toml: end". What programs were built
+with never changes, so this only adds lines to c/abi/, and a number there that differs from the table is an error.
 """
 from __future__ import annotations
 
@@ -41,13 +41,13 @@ def with_region(path: str, text: str, name: str, body: str) -> str:
 
 
 def types_of(parameters: str) -> str:
-    """Returns the types of a call's parameters."""
+    """Returns the types of a call's parameters as text."""
     types = [re.sub(r"(?<=[ *])\w+$", "", it.strip()).strip() for it in parameters.split(",")]
     return "void" if parameters == "void" else ", ".join(types)
 
 
 def prototypes(header: str) -> dict[str, str]:
-    """Returns the calls that the header declares, with their parameters' types."""
+    """Returns the calls that the header declares, with the types of their parameters."""
     return {name: types_of(parameters) for name, parameters in re.findall(r"^uint32_t (bes_\w+)\(([^;]*)\);", header, re.M)}
 
 
@@ -61,7 +61,7 @@ def helpers_in(texts: Iterable[str]) -> dict[str, str]:
 
 
 def without_planned(surface: Surface, header: str) -> Surface:
-    """Returns the table without calls of later versions than the header's that the header doesn't declare yet."""
+    """Returns the table without calls from later versions than the header's that the header doesn't declare yet."""
     declared = prototypes(header)
     found = re.search(r'#define BES_VERSION "([\d.]+)"', header)
     if found is None:
@@ -73,12 +73,12 @@ def without_planned(surface: Surface, header: str) -> Surface:
 
 
 def numbers_of(version: str) -> list[int]:
-    """Returns the numbers of a version such as 0.3.0."""
+    """Returns the numbers in a version such as 0.3.0."""
     return [int(part) for part in version.split(".")]
 
 
 def check_calls(where: str, called: Iterable[str], part: str, listed: Iterable[str]) -> None:
-    """Raises an error if a file's calls aren't those of a part of the table."""
+    """Raises an error if a file's calls aren't the ones in a part of the table."""
     for name in sorted(set(called) - set(listed)):
         raise Wrong(f"{where} has {name}, and [{part}] of surface.toml doesn't: add it to the version that brings it")
     for name in sorted(set(listed) - set(called)):
@@ -115,12 +115,12 @@ def with_abi(surface: Surface, text: str, calls: dict[str, str], helpers: dict[s
 
 
 def manual() -> str:
-    """Returns the manual page that is made from the header as it is now."""
+    """Returns the manual page that the current header gives."""
     return subprocess.run([sys.executable, ROOT / "c/manual.py"], check=True, stdout=subprocess.PIPE, text=True).stdout
 
 
 def wanted_files(surface: Surface) -> dict[str, str]:
-    """Returns what each file has to contain, except for the manual page, which is made from the header."""
+    """Returns what each file should contain, except for the manual page, which is generated from the header."""
     wanted = {path: render(surface) for path, render in FILES.items()}
     for (path, name), render in REGIONS.items():
         text = wanted.get(path) or (ROOT / path).read_text()
@@ -136,7 +136,7 @@ def wanted_files(surface: Surface) -> dict[str, str]:
 
 
 def differs(path: str, wanted: str) -> bool:
-    """Returns whether a file differs, and prints the difference."""
+    """Returns whether a file differs, and prints the differences."""
     file = ROOT / path
     found = file.read_text() if file.exists() else ""
     shown = unified_diff(found.splitlines(), wanted.splitlines(), path, f"{path} by surface.toml", lineterm="", n=1)

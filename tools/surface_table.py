@@ -1,4 +1,4 @@
-"""The table surface.toml: the fields of its rows, and the rules that they have to follow."""
+"""The table surface.toml: its rows' fields, and the rules that they have to follow."""
 from __future__ import annotations
 
 import re
@@ -13,7 +13,7 @@ MOST_OF_A_TEXT = 90
 
 
 class Wrong(Exception):
-    """The table, or a file that is made from it, breaks a rule."""
+    """The table, or a file generated from it, breaks a rule."""
 
 
 @dataclass(frozen=True)
@@ -87,18 +87,18 @@ class Fault:
 
     @property
     def exception(self) -> str:
-        """The exception in Python."""
+        """The Python exception."""
         return self.python or self.name
 
     @property
     def text(self) -> str:
-        """What was wrong, and what would be right."""
+        """What was wrong and what would be right."""
         return f"{self.what}; {self.advice}" if self.advice else self.what
 
 
 @dataclass(frozen=True)
 class ServerFault:
-    """A server error that the library doesn't have."""
+    """An error that only servers report."""
 
     name: str
     klass: str
@@ -139,7 +139,7 @@ class Surface:
 
     @property
     def all_faults(self) -> list[Fault | ServerFault]:
-        """The library's errors, and then the server's."""
+        """The library's errors, followed by the server's."""
         return [*self.faults, *self.server_faults]
 
     @property
@@ -157,7 +157,7 @@ Row = TypeVar("Row", Class, Kind, Fault, ServerFault, Numbered)
 
 
 def rows_of(kind: type[Row], part: str, found: Iterable[dict[str, Any]]) -> list[Row]:
-    """Returns the rows of one part of the table."""
+    """Returns the rows in one part of the table."""
     known, rows = {field.name for field in fields(kind)}, []
     for at, row in enumerate(found):
         values = {"klass" if key == "class" else key: value for key, value in row.items()}
@@ -171,7 +171,7 @@ def rows_of(kind: type[Row], part: str, found: Iterable[dict[str, Any]]) -> list
 
 
 def named(key: str, found: dict[str, dict[str, Any]]) -> Iterable[dict[str, Any]]:
-    """Returns the rows of a part whose keys are the names."""
+    """Returns the rows in a part whose keys are the names."""
     return ({key: name, **row} for name, row in found.items())
 
 
@@ -197,7 +197,7 @@ def check_texts(surface: Surface) -> None:
 
 
 def check(surface: Surface) -> None:
-    """Checks that the rows fit together."""
+    """Checks that the rows are consistent."""
     for kind in surface.kinds:
         if not re.fullmatch("[A-Z]{4}", kind.code):
             raise Wrong(f"surface.toml: a type code has four capitals, and that of {kind.name} is {kind.code!r}")

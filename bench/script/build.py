@@ -1,5 +1,5 @@
-"""Builds the peers with the C compiler. Builds bestore's program on what the gate has proved, or else with the command rt in a
-copy of the repository."""
+"""Builds the peers with the C compiler, and bestore's program on what the gate has proved, or otherwise with rt in a copy of
+the repository."""
 from __future__ import annotations
 
 import glob
@@ -23,7 +23,7 @@ LINE = "bench_store tests_may=Threads+Wait: arrayvec be_value be_query be_volume
 
 
 def built_programs(folder: str, given: dict[str, str], names: Iterable[str] = TITLES) -> dict[str, str]:
-    """Returns the path of each named peer's program that could be built. Given programs are used as they are."""
+    """Returns the paths of the named peers' programs, for those that could be built. Given programs are used as they are."""
     os.makedirs(folder, exist_ok=True)
     programs = dict(given)
     for peer in PEERS:
@@ -38,7 +38,7 @@ def built_programs(folder: str, given: dict[str, str], names: Iterable[str] = TI
 
 
 def built_peak(folder: str) -> str:
-    """Returns the program that measures another one's memory."""
+    """Returns the program that measures another program's memory."""
     program = os.path.join(folder, "peak")
     compile_c(program, [f"{BENCH}/peak.c"])
     return program
@@ -66,10 +66,9 @@ def build_peer(peer: Peer, folder: str) -> str | None:
 
 
 def build_ours(folder: str) -> str | None:
-    """Proves and builds the program. RT may name the command.
-
-    The gate leaves libraries without the stamp that shows rt what its own checks have kept, so rt would prove all of them
-    again. With such libraries, only the program is proved.
+    """Proves and builds the program. The variable RT may name the command. The gate leaves libraries without the stamp by which
+    rt recognises the results of its own checks, so rt would prove them all again. With such libraries, only the program is
+    proved.
     """
     rt = shlex.split(os.environ.get("RT", "rt"))
     if not shutil.which(rt[0]):
@@ -99,7 +98,7 @@ def build_over_gate(crate: str, libraries: dict[str, list[str]]) -> str:
 
 
 def lay_copy(copy: str) -> str:
-    """Copies the repository and the program into a separate folder. Returns the program's folder there."""
+    """Copies the repository and the program into a separate folder, and returns the program's folder there."""
     names = needed_crates()
     for name in names:
         lay_folder(f"{REPOSITORY}/crates/{name}", f"{copy}/crates/{name}")
@@ -114,7 +113,7 @@ def lay_copy(copy: str) -> str:
 
 
 def lay_folder(source: str, target: str, ending: str = "") -> None:
-    """Makes a folder the same as another, whose file names lose a suffix. A folder out/ stays as it is."""
+    """Makes the target folder the same as the source, removing a suffix from file names. A folder out/ is left alone."""
     os.makedirs(target, exist_ok=True)
     there = {name.removesuffix(ending): f"{source}/{name}" for name in os.listdir(source) if name != "out"}
     for name in set(os.listdir(target)) - {*there, "out"}:
@@ -134,14 +133,14 @@ def remove(path: str) -> None:
 
 
 def lay_proved(source: str, target: str) -> None:
-    """Copies what is proved of a crate, if the copy's is older."""
+    """Copies a crate's proved form if the copy's is older."""
     if last_proved(source) > last_proved(target):
         shutil.rmtree(f"{target}/out", ignore_errors=True)
         shutil.copytree(f"{source}/out", f"{target}/out")
 
 
 def last_proved(crate: str) -> float:
-    """Returns when a crate was last checked, or 0."""
+    """Returns the time when a crate was last checked, or 0."""
     kept = glob.glob(f"{crate}/out/incremental/*") + glob.glob(f"{crate}/out/rlib/stamp")
     return max(map(os.path.getmtime, kept), default=0)
 

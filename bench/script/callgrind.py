@@ -1,11 +1,12 @@
-"""What each case of a program costs, counted by callgrind: instructions, stores, exchanges, and misses of simulated caches.
+"""Counts what each case of a program costs, with callgrind: instructions, stores, exchanges, and misses in simulated caches.
 
-Callgrind writes part of its counts before each call of clock_gettime and of write. A case reads the clock twice for each
-stretch that it times, and prints its line at the end. So a case's cost is the parts between the first and the second reading,
-the third and the fourth, and so on, up to its line. What was prepared beforehand isn't included.
+Callgrind writes part of its counts before each call to clock_gettime or write. A case reads the clock twice for each stretch
+that it times, and prints its line at the end. So a case's cost is the sum of the parts between the first and the second
+reading, the third and the fourth, and so on, up to its line. Preparations aren't included.
 
-An exchange is an instruction `xchg` with memory, by which an x86-64 processor stores an atomic word. objdump finds where the
-program has them, and callgrind counts how many times each ran. In bestore they are the words of pages, and few others."""
+An exchange is an `xchg` instruction with a memory operand, with which an x86-64 processor stores an atomic word. objdump finds
+these in the program, and callgrind counts how many times each ran. In bestore they store the words of pages, and little
+else."""
 from __future__ import annotations
 
 import glob
@@ -17,7 +18,7 @@ import tempfile
 from collections.abc import Iterator
 from dataclasses import dataclass
 
-# A first-level cache of 32 KB and a last-level one of 1 MB on every machine, so that the counts of two machines can be compared.
+# A first-level cache of 32 KB and a last-level cache of 1 MB on every machine, so that counts from different machines can be compared.
 OPTIONS = ["--tool=callgrind", "--cache-sim=yes", "--I1=32768,8,64", "--D1=32768,8,64", "--LL=1048576,16,64", "--combine-dumps=no",
            "--dump-before=clock_gettime*", "--dump-before=write", "--dump-instr=yes", "--compress-pos=no",
            "--compress-strings=no", "-q"]
@@ -28,7 +29,7 @@ EVENTS = ("Ir", "Dr", "Dw", "I1mr", "D1mr", "D1mw", "ILmr", "DLmr", "DLmw")
 
 @dataclass(frozen=True)
 class Counts:
-    """Counts for one operation. Misses are data misses: of the first cache, and of the last."""
+    """Counts for one operation. Misses are data misses, in the first cache and in the last."""
 
     instructions: float
     stores: float
@@ -39,14 +40,14 @@ class Counts:
 
 @dataclass(frozen=True)
 class Part:
-    """What was counted up to a call, and whether that call reads the clock."""
+    """The counts up to a call, and whether that call reads the clock."""
 
     is_before_clock: bool
     counts: dict[str, int]
 
 
 def count_cases(words: list[str]) -> dict[str, Counts]:
-    """Runs a program under callgrind. Returns the counts of each case that says how many operations it has."""
+    """Runs a program under callgrind, and returns the counts for each case that reports how many operations it has."""
     with tempfile.TemporaryDirectory() as folder:
         said = _run(words, folder)
         costs = _costs_by_line(_parts(folder, words[0]))
@@ -64,13 +65,13 @@ def _run(words: list[str], folder: str) -> list[str]:
 
 
 def _exchanges(program: str) -> set[int]:
-    """Returns where a program has exchanges."""
+    """Returns the addresses of a program's exchanges."""
     read = subprocess.run(["objdump", "-d", "--no-show-raw-insn", program], capture_output=True, text=True, check=True)
     return {int(found[1], 16) for found in map(EXCHANGE.match, read.stdout.splitlines()) if found}
 
 
 def _parts(folder: str, program: str) -> list[Part]:
-    """Returns the parts in the order in which they were written, without what came after the last of them."""
+    """Returns the parts in the order in which they were written, without the counts after the last of them."""
     exchanges = _exchanges(program)
     paths = glob.glob(f"{folder}/part.*")
     return [_part(path, program, exchanges) for path in sorted(paths, key=lambda path: int(os.path.splitext(path)[1][1:]))]
@@ -87,8 +88,8 @@ def _part(path: str, program: str, exchanges: set[int]) -> Part:
 
 
 def _runs(said: list[str], program: str, exchanges: set[int]) -> Iterator[int]:
-    """Yields how many times each exchange of the program has run. A line has its place, a source line's number, and the counts.
-    The line after a call has what was counted inside the called function, and is skipped."""
+    """Yields how many times each of the program's exchanges ran. A line has an address, a source line's number, and the counts.
+    The line after a call has the counts inside the called function, and is skipped."""
     is_ours = is_of_call = False
     for line in said:
         if line.startswith("ob="):
@@ -101,7 +102,7 @@ def _runs(said: list[str], program: str, exchanges: set[int]) -> Iterator[int]:
 
 
 def _costs_by_line(parts: list[Part]) -> list[dict[str, int]]:
-    """Returns the sums of the stretches before each line, without lines before which the clock wasn't read."""
+    """Returns the sums of the stretches before each line, except for lines before which the clock wasn't read."""
     costs: list[dict[str, int]] = []
     sums, readings = _nothing(), 0
     for part in parts:

@@ -14,6 +14,6 @@ def _given(word: str) -> tuple[str, str]:
 
 
 def add_given(parser: argparse.ArgumentParser) -> None:
-    """Adds the option that makes a program be used as it is instead of being built."""
+    """Adds the option to use an existing program instead of building it."""
     parser.add_argument("--program", type=_given, action="append", default=[], metavar="NAME=PATH",
                         help="uses this program as a peer, instead of building one")

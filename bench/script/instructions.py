@@ -1,4 +1,4 @@
-"""Counts how many instructions a process takes."""
+"""Counts how many instructions a process executes."""
 from __future__ import annotations
 
 import os
@@ -10,7 +10,7 @@ TOOLS = (["perf", "stat", "-x,", "-e", "instructions:u"], ["valgrind", "--tool=c
 
 
 def instructions_of(words: List[str]) -> Optional[int]:
-    """Returns a command's instructions, counted by perf or by valgrind. Returns None if neither works here."""
+    """Returns a command's instructions, counted by perf or valgrind, or None if neither works here."""
     environment = dict(os.environ, PYTHONHASHSEED="0")
     for tool in TOOLS:
         if shutil.which(tool[0]) is None:
@@ -25,8 +25,8 @@ def instructions_of(words: List[str]) -> Optional[int]:
 
 
 def instructions_a_call(words: List[str], few: int, many: int) -> str:
-    """Returns the instructions per call: the difference between a command that makes many calls and one that makes a few. The
-    number of calls is the command's last word."""
+    """Returns the instructions per call, from the difference between a command that makes many calls and one that makes few.
+    The number of calls is the command's last word."""
     counts = [instructions_of([*words, str(count)]) for count in (few, many)]
     if counts[0] is None or counts[1] is None:
         return "not counted"

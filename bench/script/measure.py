@@ -1,4 +1,4 @@
-"""Runs the programs in turn, round by round, and keeps what each printed."""
+"""Runs the programs in turn, round by round, and records what each printed."""
 from __future__ import annotations
 
 import os
@@ -18,7 +18,7 @@ COMMITS = 1_000_000
 
 
 class Results:
-    """The values of each round, by peer, number of nodes and case, and how busy the machine was."""
+    """Each round's values, by peer, number of nodes and case, and how busy the machine was."""
 
     def __init__(self, nodes: int) -> None:
         self.values: defaultdict[tuple[str, int, str], list[float]] = defaultdict(list)
@@ -29,11 +29,11 @@ class Results:
         self.values[peer, nodes, case].append(value)
 
     def of(self, peer: str, case: str, nodes: int | None = None) -> list[float]:
-        """Returns a case's values, for the table's number of nodes or for another."""
+        """Returns a case's values, for the table's number of nodes or a different one."""
         return self.values.get((peer, nodes or self.nodes, case), [])
 
     def best(self, peer: str, case: str, nodes: int | None = None) -> float | None:
-        """Returns the best of the rounds, or None."""
+        """Returns the best round's value, or None."""
         values = self.of(peer, case, nodes)
         if not values:
             return None
@@ -58,7 +58,7 @@ class Results:
 
 
 def is_rate(case: str) -> bool:
-    """Returns whether a case's value is a rate per second, not a time or a size."""
+    """Returns whether a case's value is a rate per second rather than a time or a size."""
     return case.startswith(("readers-", "commits-", "writers-", "mixed-rate"))
 
 
@@ -71,7 +71,7 @@ def all_workloads(most: int, milliseconds: int) -> list[Workload]:
 
 
 def measure(programs: dict[str, str], peak: str, rounds: int, milliseconds: int, most: int) -> Results:
-    """Returns what the programs print. For each workload, the peers run one after another. `peak` measures a program's memory."""
+    """Returns what the programs print. For each workload, the peers run one after another. `peak` is the program that measures memory."""
     results = Results(min(most, NODES))
     peers = [peer for peer in PEERS if peer.name in programs]
     for number in range(1, rounds + 1):
@@ -91,7 +91,8 @@ def measure(programs: dict[str, str], peak: str, rounds: int, milliseconds: int,
 
 
 def keep_workload(results: Results, peer: Peer, workload: Workload, said: Said) -> None:
-    """Cases of the sizes that the plot shows are kept by their number of nodes. All others count for the table's number."""
+    """Records a workload's results. Cases with the sizes that the plot shows are filed under their number of nodes, and all
+    others under the table's number."""
     nodes = workload.nodes if workload.name in ("writes", "reads") else results.nodes
     if workload.case:
         said = [(workload.case, value) for _, value in said]
@@ -107,7 +108,7 @@ def measure_opening(results: Results, name: str, program: list[str]) -> None:
 
 
 def measure_journal(results: Results, name: str, program: str) -> None:
-    """Measures the memory that an operation leaves, by the number of operations in a batch, and the slowest of many commits."""
+    """Measures how much memory an operation leaves in use, by the number of operations in a batch, and the slowest of many commits."""
     for count in LISTS:
         said = dict(run([program, "journal", str(OPERATIONS // count), str(count)]))
         results.add(name, results.nodes, f"journal-{count}", said["journal"])
@@ -120,7 +121,7 @@ def keep(results: Results, name: str, nodes: int, workload: str, said: Said) -> 
 
 
 def stop_on_other_answers(results: Results) -> None:
-    """Ends the program if a peer, or a round, has answered differently from the first."""
+    """Ends the program if a peer or a round gave different answers from the first."""
     first: dict[tuple[int, str], tuple[str, float]] = {}
     for (peer, nodes, case), values in results.values.items():
         if case.endswith("-answers"):
@@ -130,7 +131,7 @@ def stop_on_other_answers(results: Results) -> None:
 
 
 def run(words: list[str]) -> Said:
-    """Returns the cases and values that a program prints."""
+    """Runs a program, and returns the cases and values that it prints."""
     ended = subprocess.run(words, stdout=subprocess.PIPE, text=True)
     if ended.returncode != 0:
         sys.exit(f"{' '.join(words)} has ended with status {ended.returncode}")

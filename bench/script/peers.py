@@ -24,7 +24,7 @@ class Peer:
 
 @dataclass(frozen=True)
 class Workload:
-    """What a program is called with. If `case` has a text, it names the only case that the program prints."""
+    """A program's arguments. If `case` isn't empty, it names the only case that the program prints."""
 
     name: str
     nodes: int
@@ -36,12 +36,12 @@ class Workload:
         return [self.name, str(self.nodes), str(self.other)]
 
     def fits(self, peer: Peer) -> bool:
-        """Returns whether a peer has what the workload needs."""
+        """Returns whether a peer supports what the workload needs."""
         return peer.has_threads or not self.needs_threads
 
 
 def single_workloads(most: int) -> list[Workload]:
-    """Returns the workloads that run with one number of nodes: up to this many."""
+    """Returns the workloads that run with a single number of nodes, which is at most this many."""
     nodes = min(NODES, most)
     return [
         Workload("indices", nodes),

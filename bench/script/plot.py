@@ -1,4 +1,4 @@
-"""Plots speed by the number of nodes and by the number of readers, as SVG."""
+"""Plots speed against the number of nodes and the number of readers, as SVG."""
 from __future__ import annotations
 
 import math
@@ -53,7 +53,7 @@ class Panel:
 
 
 def ticks(low: float, high: float) -> Iterator[float]:
-    """Yields 1, 2, 5, 10 and so on, between two powers of ten."""
+    """Yields 1, 2, 5, 10 and so on between two powers of ten."""
     for power in range(math.floor(low), math.ceil(high) + 1):
         for digit in (1, 2, 5):
             if 10**low <= digit * 10**power <= 10**high:

@@ -1,4 +1,4 @@
-"""The table: a row for each case and a column for each peer."""
+"""The table, with a row for each case and a column for each peer."""
 from __future__ import annotations
 
 import sys
@@ -95,7 +95,7 @@ CASES = {
 
 
 def number(value: float) -> str:
-    """Formats three digits, or all digits before the point."""
+    """Formats a number with three digits, or with all digits before the point."""
     return f"{value:.0f}" if value >= 100 else f"{value:.3g}"
 
 
@@ -148,7 +148,7 @@ def table_lines(results: Results) -> Iterator[str]:
 
 
 def write_table(results: Results, path: str) -> None:
-    """Puts the table between its two marks in a document."""
+    """Writes the table between its two marks in a document."""
     write_between(path, "table", list(table_lines(results)))
 
 

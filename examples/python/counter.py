@@ -1,4 +1,4 @@
-"""Two threads file letters and count them in one attribute. With `change`, no count is lost, and no letter gets the other
+"""Two threads file letters and count them in an attribute. With `change`, no count is lost and no letter gets the other
 thread's sender."""
 
 import threading
@@ -9,7 +9,7 @@ LETTERS = 100
 
 
 def file_letters(store, counter, sender):
-    """Files a sender's letters, each in one write with the new count."""
+    """Files a sender's letters, each in the same write as the new count."""
     def file(change):
         letter = change.new()
         change[letter]["MAIL:from"] = sender

@@ -1,5 +1,4 @@
-"""A first program with the library for Python: files a letter, and queries letters by
-sender."""
+"""A first program in Python: files a letter, and queries letters by sender."""
 
 import bestore
 

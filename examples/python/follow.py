@@ -1,11 +1,11 @@
-"""Follows a query and the journal, and carries the store's state on to a new store."""
+"""Follows a query and the journal, and carries the store's state over to a new store."""
 
 import bestore
 
 
 def print_changes(store, unread, seen):
-    """Prints which letters became unread or no longer are, and what was written after the last commit number seen. Returns the
-    newest number."""
+    """Prints which letters became unread and which no longer are, and what was written after the last commit number seen.
+    Returns the newest number."""
     with store.pin() as version:
         came, went = version.refresh(unread)
         print("unread:", "came", came, "went", went)

@@ -1,5 +1,4 @@
-"""A queue: workers claim one job each with a change, until none is left. No two workers claim the
-same job."""
+"""A queue: workers claim jobs one at a time, each with a change, until none is left. No two workers claim the same job."""
 
 import threading
 
@@ -9,9 +8,9 @@ JOBS, WORKERS = 200, 4
 
 
 def claim(change):
-    """Claims the waiting job that is most urgent, and returns it, or None if there is none.
+    """Claims the most urgent waiting job and returns it, or None if there is none.
 
-    A claimed job loses its urgency, so that the next claim doesn't pass it on its way to a waiting one.
+    A claimed job loses its urgency, so that the next claim doesn't have to skip it to reach a waiting job.
     """
     found = change.query("job:state==waiting", by="job:urgency", descending=True, limit=1)
     for job in found:

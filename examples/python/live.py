@@ -1,4 +1,4 @@
-"""Waits for another thread's writes with a live query on a store in this process.
+"""Waits for another thread's writes, using a live query on a store in this process.
 
     PYTHONPATH=python BESTORE_LIBRARY=c/libbestore.so python3 examples/python/live.py
 """

@@ -1,11 +1,11 @@
-"""Prints the newest 20 letters of a mailbox, and then the next 20. A letter that arrives in between doesn't move any to another
-page."""
+"""Prints the newest 20 letters in a mailbox, and then the next 20. A letter that arrives in between doesn't move others to
+another page."""
 
 import bestore
 
 
 def file_letters(store, first, count):
-    """Files letters to ann and bob in turn, one a minute."""
+    """Files letters to ann and bob in turn, one per minute."""
     def file(change):
         letter = change.new()
         change[letter]["MAIL:to"] = "ann" if minute % 2 == 0 else "bob"
@@ -17,7 +17,7 @@ def file_letters(store, first, count):
 
 
 def show_page(store, after=None):
-    """Prints a page of ann's letters, and returns where the next one begins."""
+    """Prints a page of ann's letters, and returns the position where the next page begins."""
     with store.pin() as version:
         rows = version.rows("MAIL:to==ann", ["MAIL:subject"], most=20, by="MAIL:when", descending=True, after=after)
     subjects = [subject for _, (subject,) in rows]

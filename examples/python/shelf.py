@@ -1,4 +1,4 @@
-"""Four stores that one query searches."""
+"""Four stores that a single query searches."""
 
 import bestore
 

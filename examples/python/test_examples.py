@@ -1,4 +1,4 @@
-"""Runs the examples, and compares their output."""
+"""Runs the examples and compares their output."""
 
 import os
 import subprocess

@@ -1,5 +1,4 @@
-"""Prints which letters in a server's store become unread or no longer are, as other programs write
-them.
+"""Prints which letters in a server's store become unread, and which no longer are, as other programs write them.
 
     PYTHONPATH=python python3 examples/python/unread.py SOCKET
 """

@@ -1,4 +1,4 @@
-"""A shared, multi-version store of nodes with attributes, indices and queries, in memory.
+"""A shared, in-memory, multi-version store of nodes with attributes, indices and queries.
 
     with bestore.open() as store:
         store.make_index("MAIL:from", bestore.STRING)
@@ -11,20 +11,18 @@
         with store.pin() as version:
             print(version.query("MAIL:from==ann"))
 
-A `Pass` is a session: one thread's handle on the store. Give each thread its own pass, since calls on the same pass
-wait for each other. The thread that opened the store makes the pass with `another`, before the new thread starts.
-Whatever goes wrong is raised as an `Error`; each error number in the library has its own class, such as `Busy` or
-`QuerySyntax`.
+A `Pass` is a session: one thread's handle on the store. Give each thread its own pass, because calls on the same pass wait for
+each other. The thread that opened the store creates each pass with `another`, before that pass's thread starts. Errors are
+raised as subclasses of `Error`; each of the library's error numbers has its own class, such as `Busy` or `QuerySyntax`.
 
-Use `connect` instead of `open` for a store that programs share through the server bestored: `help(bestore.connected)`. A
+For a store that programs share through the server bestored, use `connect` instead of `open`: see `help(bestore.connected)`. A
 function that takes a `Pass` or a `Version` works with either kind of store. The module `bestore.saved` keeps a store in a file.
-`open_shelf` opens several stores that one query searches: `help(bestore.shelf)`.
+`open_shelf` opens several stores that a single query searches: see `help(bestore.shelf)`.
 
 A store belongs to the process that opened it. In a forked child its passes, versions and prepared queries are dead: their calls
 raise `Forked`, closing them does nothing, and the parent's handles are unaffected. The child can open its own stores.
 
-The package contains its shared object. In the repository, the package uses the shared object in c/. Set BESTORE_LIBRARY to use another
-shared object.
+The package contains its shared object; in the repository, it uses the one in c/. Set BESTORE_LIBRARY to use a different one.
 """
 
 from ._version import VERSION as __version__

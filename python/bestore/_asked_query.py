@@ -11,7 +11,7 @@ from .queries import Prepared, prepare
 
 
 class AskedQuery(LockOwner, Prepared):
-    """A prepared query for servers' stores. It keeps the text, which each server parses again."""
+    """A prepared query for stores on servers. It keeps the text, and each server parses it again."""
 
     source: str
 
@@ -29,7 +29,7 @@ class AskedQuery(LockOwner, Prepared):
         return f"<query {self.source!r} of servers' stores>"
 
     def close(self) -> None:
-        """Closes the query, which holds nothing else."""
+        """Closes the query. There is nothing else to release."""
         self._is_open = False
         self._seen = set()
 
@@ -52,6 +52,6 @@ class AskedQuery(LockOwner, Prepared):
 
     @property
     def names(self) -> List[str]:
-        """Returns the names that are compared, each once, from left to right."""
+        """Returns the names in the comparisons, from left to right and without duplicates."""
         self._asked_text()
         return list(self._named)

@@ -1,4 +1,4 @@
-"""Changes to a server's store: their operations are collected here, and sent as one batch."""
+"""Changes to a server's store, whose operations are collected here and sent as one batch."""
 
 from __future__ import annotations
 
@@ -13,11 +13,11 @@ from .versions import Version
 
 
 class ConnectedChange(Change):
-    """A change on a version of a server's store."""
+    """A change that reads a version of a server's store."""
 
     def __init__(self, snapshot: Version, check_kinds: bool, volume: Optional[int], has_volumes: bool) -> None:
         super().__init__(snapshot)
-        self._volume = volume  # of all operations, once it is known
+        self._volume = volume  # the volume of all operations, once known
         self._has_volumes = has_volumes
         self._batch, self._check_kinds = Batch(), check_kinds
         self._next: Optional[int] = None
@@ -34,8 +34,8 @@ class ConnectedChange(Change):
         return self._batch
 
     def _collecting(self, node: Optional[int] = None) -> Batch:
-        """Returns the batch, for adding one more operation: on `node`, if it is given. Raises `OtherVolume` if the node
-        isn't in the volume that the earlier operations name."""
+        """Returns the batch, ready for one more operation, which is on `node` if given. Raises `OtherVolume` if the node isn't
+        in the same volume as the earlier operations' nodes."""
         if not self._snapshot._is_pinned:
             raise NotPinned()
         if len(self._batch) >= MOST_OPERATIONS:
@@ -48,7 +48,7 @@ class ConnectedChange(Change):
         return self._batch
 
     def _first_new(self) -> int:
-        """Returns the number of the first node that the change makes."""
+        """Returns the number of the first node that the change creates."""
         if self._volume is not None:
             return self._snapshot._next_in(self._volume)
         node = self.next_node
@@ -86,7 +86,7 @@ class ConnectedChange(Change):
             raise kind_mismatch(name, kind, index)
 
     def _indexed(self) -> Dict[str, int]:
-        """Returns the indices' kinds as they are after the collected operations."""
+        """Returns each index's kind, as the collected operations leave it."""
         if self._kinds is None:
             self._kinds = dict(self.indices())
         return self._kinds

@@ -1,4 +1,4 @@
-"""The errors of connections to a server."""
+"""Errors from connections to a server."""
 
 from __future__ import annotations
 
@@ -11,12 +11,12 @@ from .errors import BadCursor, Error, NotCovered, NotReached, NoVolume, OtherVol
 
 
 class ServerError(_OfPath):
-    """The base class for errors from a connection, except errors that the library also has."""
+    """The base class for connection errors, except for errors that the library also has."""
 
 
 @dataclass(eq=False, repr=False)
 class NoServer(ServerError, ConnectionError):
-    """No server can be reached at the socket. The system's error is in `__cause__`."""
+    """No server can be reached through the socket. The system's error is in `__cause__`."""
 
     error_class = ErrorClass.GONE
     _summary = "no server can be reached: {reason}; start it with `bestored --background`"
@@ -40,13 +40,13 @@ class OtherUser(ServerError, PermissionError):
 
 @dataclass(eq=False, repr=False)
 class BrokenConnection(ServerError):
-    """The connection failed, and is closed. Each later call on its pass raises `Disconnected`."""
+    """The connection failed and has been closed. Every later call on its pass raises `Disconnected`."""
 
     error_class = ErrorClass.GONE
 
     reason: str
     may_be_done: bool = False
-    """Whether the call was a write that the server may have made. Otherwise nothing was written."""
+    """Whether the call was a write that the server may have applied. If not, nothing was written."""
 
     @property
     def summary(self) -> str:
@@ -54,30 +54,30 @@ class BrokenConnection(ServerError):
 
 
 class Disconnected(BrokenConnection, ConnectionError):
-    """The server closed the connection or has terminated, or an earlier call broke the connection."""
+    """The server closed the connection or terminated, or an earlier call broke the connection."""
 
 
 class TimedOut(BrokenConnection, TimeoutError):
-    """The server didn't accept the connection, or didn't reply, in time."""
+    """The server didn't accept the connection or reply in time."""
 
 
 class ProtocolError(BrokenConnection):
-    """The server sent a line that doesn't follow the protocol, or speaks another version of it."""
+    """The server sent a line that violates the protocol, or uses a different version of the protocol."""
 
 
 @dataclass(eq=False, repr=False)
 class LineTooLong(ServerError):
-    """The request is larger than 1 MiB. It wasn't sent."""
+    """The request is larger than 1 MiB, so it wasn't sent."""
 
     _summary = "a request can have up to 1 MiB, and this one has {length} bytes; write or ask less at a time"
 
     length: int
-    """The bytes of the request."""
+    """The size of the request in bytes."""
 
 
 @dataclass(eq=False, repr=False)
 class Unavailable(ServerError):
-    """The call can't be made through a server."""
+    """The call isn't available through a server."""
 
     _summary = "`{call}` can't be called through a server; only a store in this process has it"
 
@@ -156,19 +156,19 @@ _REFUSALS = {kind.__name__: kind for kind in (
 
 
 def _class_of(name: str) -> ErrorClass:
-    """Returns the class of a server's own error. If the error is unknown, it is assumed that the same request won't succeed
+    """Returns the class of one of the server's own errors. For an unknown error, assumes that the same request won't succeed
     later."""
     known = SERVER_MEANINGS.get(name)
     return ErrorClass.MINE if known is None else known.error_class
 
 
 def _said_class(details: Dict[str, object]) -> Optional[ErrorClass]:
-    """Returns the class that the server gives, if this package knows that class."""
+    """Returns the class that the server reports, if this package knows that class."""
     said = details.get("class")
     return next((it for it in ErrorClass if it.value == said), None)
 
 
-# The detail that comes with a library error, by the error's number, and what the call takes a list of.
+# For each library error, by number: the detail that comes with it, and what the call's list contains.
 _CARRIED: Dict[int, Tuple[str, Optional[str]]] = {
     ErrorNumber.BUSY: ("pass", None), ErrorNumber.FULL: ("oldest", None), ErrorNumber.CONFLICT: ("found", None),
     ErrorNumber.SYNTAX: ("offset", None), ErrorNumber.BAD_PATTERN: ("offset", None),
@@ -178,7 +178,7 @@ _CARRIED: Dict[int, Tuple[str, Optional[str]]] = {
 
 
 def _number(details: Dict[str, object], key: str) -> Optional[int]:
-    """Returns a number that comes with an error."""
+    """Returns a number from an error's details."""
     found = details.get(key)
     return found if isinstance(found, int) else None
 
@@ -212,7 +212,7 @@ def _of_library(number: int, details: Dict[str, object], query: Optional[str]) -
 
 
 def error_of(path: str, details: Dict[str, object], query: Optional[str] = None) -> Error:
-    """Returns the exception for an error in the protocol's form. `query` is the text of the query that was run."""
+    """Returns the exception for an error in the protocol's format. `query` is the text of the query that was run."""
     number, name, message = details.get("number"), str(details.get("name")), str(details.get("message"))
     if isinstance(number, int):
         return _of_library(number, details, query)

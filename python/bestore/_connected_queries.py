@@ -1,4 +1,5 @@
-"""Queries on a version of a server's store: answers by number, pages in an order, and any nodes, in as many replies as are needed."""
+"""Queries on a version of a server's store: nodes in order of their numbers, pages in an index's order, and nodes in any order.
+An answer takes as many replies as it needs."""
 
 from __future__ import annotations
 
@@ -17,7 +18,7 @@ _Item = TypeVar("_Item")
 _Result = TypeVar("_Result")
 
 MOST_NAMES = 64
-"""The names of a request for columns."""
+"""The maximum number of names in a request for columns."""
 _ALL = 2**64 - 1  # more nodes than any store has
 _MOST_OF_A_PAGE = 50_000  # nodes per reply
 
@@ -28,14 +29,14 @@ class QueriedVersion(Version):
     @property
     @abstractmethod
     def _features(self) -> Tuple[str, ...]:
-        """Returns this server's features that older servers lack."""
+        """Returns the features of this server that older servers lack."""
 
     @abstractmethod
     def _ask(self, command: str, parameters: JSON, read: Callable[[JSON], _Result], query: Optional[str] = None) -> _Result:
         """Makes a call on the pass, if the pass still has this pin."""
 
     def _takes(self, parameter: str) -> bool:
-        """Returns whether the server takes this query parameter. Older servers don't."""
+        """Returns whether the server accepts this query parameter, which older servers don't."""
         return parameter in self._features
 
     def _ask_query(self, command: str, asked: Query, text: str, others: JSON, read: Callable[[JSON], _Result]) -> _Result:
@@ -48,7 +49,7 @@ class QueriedVersion(Version):
             raise TooLong(query=text) from None
 
     def _named(self, error: NotCovered, asked: Query, text: str) -> NotCovered:
-        """Returns the error for a query that needs another index, with the position that the server gave."""
+        """Returns the error for a query that needs another index, with the position that the server reported."""
         if isinstance(asked, tuple) or error.missing is None:
             named = self._not_covered(asked)
             named.volume = error.volume
@@ -57,7 +58,7 @@ class QueriedVersion(Version):
         return error
 
     def hints(self, query: Asked) -> List[Hint]:
-        """Works as in a store in this process. The server parses the query's text."""
+        """Works as it does for a store in this process, but the server parses the query's text."""
         if not self._takes("text"):
             return super().hints(query)
         compared = self._ask_query("text", query, _text_of(query), {}, read_comparisons)
@@ -77,8 +78,8 @@ class QueriedVersion(Version):
         return nodes
 
     def _part(self, first: int, limit: int, had: int) -> JSON:
-        """Returns the parameters for a page that begins at the number `first`, after `had` nodes have been read.
-        Without a limit, the reply has as many nodes as fit on a line."""
+        """Returns the parameters for a page that begins at the number `first`, when `had` nodes have already been read. Without
+        a limit, the reply contains as many nodes as fit on a line."""
         parameters: JSON = {"from": first} if first else {}
         if limit < _ALL:
             parameters["limit"] = min(limit - had, _MOST_OF_A_PAGE)
@@ -119,7 +120,7 @@ class QueriedVersion(Version):
 
     def _pages(self, asked: Asked, order: Order, after: Optional[Cursor], limit: Optional[int], others: JSON,
                read: Callable[[JSON], List[_Item]]) -> Page[_Item]:
-        """Returns a page in an order, read in as many replies as it takes."""
+        """Returns a page in this order, which may take several replies to read."""
         encoded(order.by)
         parameters: JSON = {"by": order.by, **({"descending": True} if order.descending else {}), **others}
         items: List[_Item] = []
@@ -136,7 +137,7 @@ class QueriedVersion(Version):
         return Page(items, more, cursor)
 
     def _ask_order(self, asked: Asked, order: Order, text: str, others: JSON, read: Callable[[JSON], _Result]) -> _Result:
-        """Asks for a page. If the index is missing, the error names the indices that exist."""
+        """Requests a page. If the index is missing, the error lists the indices that exist."""
         try:
             return self._ask_query("query", asked, text, others, read)
         except NoIndex as error:

@@ -1,4 +1,4 @@
-"""A connection to a server: requests and replies, each on a line, and the lines that the server pushes between them."""
+"""A connection to a server: requests and replies of one line each, and the lines that the server pushes in between."""
 
 from __future__ import annotations
 
@@ -20,8 +20,8 @@ from .errors import Error
 _Result = TypeVar("_Result")
 
 _ROOM = 1 << 16  # how many bytes are received at a time
-_AGAIN = 0.01  # seconds from one attempt to connect to the next
-_LONGEST = 2_000_000.0  # seconds; the system's clocks don't go much further, so a longer time means no limit
+_AGAIN = 0.01  # seconds between attempts to connect
+_LONGEST = 2_000_000.0  # seconds; the system's clocks don't go much further, so a longer timeout means no limit
 _CLOSED = "the server closed the connection"
 _INTERRUPTED = "an earlier call was interrupted"
 _CLOSING = ("LineTooLong", "Timeout")  # errors after which the server closes the connection
@@ -33,7 +33,7 @@ def _limited(timeout: Optional[float]) -> Optional[float]:
 
 
 def _socket_to(path: str, timeout: Optional[float]) -> socket.socket:
-    """Returns a connected socket. Connecting waits up to `timeout` seconds, and so does each later call on the socket."""
+    """Returns a connected socket. Connecting may take up to `timeout` seconds, and so may each later call on the socket."""
     connected = socket.socket(socket.AF_UNIX, socket.SOCK_STREAM)
     try:
         connected.settimeout(timeout)
@@ -54,7 +54,7 @@ def _socket_to(path: str, timeout: Optional[float]) -> socket.socket:
 
 
 def _connects(connected: socket.socket, path: str) -> bool:
-    """Connects, unless the server's queue of waiting connections is full. Returns whether it connected."""
+    """Connects, unless the server's queue of pending connections is full. Returns whether it connected."""
     try:
         connected.connect(path)
     except BlockingIOError:
@@ -78,17 +78,15 @@ def _check_user(connected: socket.socket, path: str) -> None:
 
 
 def _can_receive(connected: socket.socket, until: Optional[float]) -> bool:
-    """Returns whether something can be received before the time `until`, or at any time if `until` is None."""
+    """Waits for data until the time `until`, or forever if `until` is None. Returns whether data can be received."""
     polled = select.poll()
     polled.register(connected, select.POLLIN)
     return bool(polled.poll(None if until is None else max(until - time.monotonic(), 0) * 1000))
 
 
 class Connection:
-    """A connection, for one call at a time.
-
-    Once a call has been interrupted, or a line can't be read, there is no way to know which line comes next, so the connection
-    is closed. An interrupt while nothing is arriving leaves the connection open."""
+    """A connection, used for one call at a time. If a call is interrupted or a line can't be read, there is no way to know
+    which line comes next, so the connection is closed. An interrupt while nothing is arriving leaves the connection open."""
 
     def __init__(self, path: SocketPath, timeout: Optional[float], take_push: Callable[[JSON], None]) -> None:
         self.path, self._timeout, self._take_push = path.path, _limited(timeout), take_push
@@ -97,7 +95,7 @@ class Connection:
             _check_user(self._socket, self.path)
         self._reason = "the connection is closed"  # why there is no socket
         self._last = 0  # the number of the last request
-        self._received, self._searched = bytearray(), 0  # received bytes, and how many of them contain no line end
+        self._received, self._searched = bytearray(), 0  # the received bytes, and how many of them contain no line end
         _open.add(self)
 
     @property
@@ -145,7 +143,7 @@ class Connection:
 
     def ask(self, command: str, parameters: JSON, read: Callable[[JSON], _Result], is_write: bool = False,
             query: Optional[str] = None) -> _Result:
-        """Sends a request, and returns what `read` makes of the reply. `query` is the text that errors show."""
+        """Sends a request, and returns what `read` returns for the reply. `query` is the text to show in errors."""
         connected = self._live_socket()
         self._last += 1
         line = encode_request(self._last, command, parameters)
@@ -170,12 +168,12 @@ class Connection:
         raise error_of(self.path, reply["error"], query)
 
     def _reply(self, connected: socket.socket, query: Optional[str]) -> JSON:
-        """Returns the reply to the last request. Takes lines that are pushed before the reply."""
+        """Returns the reply to the last request. Handles lines that are pushed before the reply."""
         until, is_late = None if self._timeout is None else time.monotonic() + self._timeout, False
         while True:
             line = self._take_line()
             while line is None:
-                if is_late and not _can_receive(connected, until):  # the first call does its own waiting
+                if is_late and not _can_receive(connected, until):  # the first receive waits by itself
                     raise socket.timeout
                 line, is_late = self._receive(connected.recv(_ROOM)), True
             reply = decode_line(line)
@@ -184,7 +182,7 @@ class Connection:
             self._take_other(reply, query)
 
     def _receive(self, received: bytes) -> Optional[bytes]:
-        """Stores what was received, and returns a line if one is complete."""
+        """Stores the received bytes, and returns a line if one is complete."""
         if not received:
             raise EOFError(f"{_CLOSED} within a line" if self._received else _CLOSED)
         if not self._received and received.find(b"\n") == len(received) - 1:
@@ -208,8 +206,8 @@ class Connection:
         return line
 
     def _take_other(self, line: JSON, query: Optional[str]) -> None:
-        """Takes a line that isn't the reply to the last request: a line that was pushed, or an error after which the
-        server closes the connection."""
+        """Handles a line that isn't the reply to the last request: a pushed line, or an error after which the server closes the
+        connection."""
         if "id" not in line and isinstance(line.get("watch"), int):
             self._take_push(line)
             return
@@ -221,8 +219,8 @@ class Connection:
         raise error_of(self.path, error, query)
 
     def receive_pushes(self, timeout: Optional[float]) -> bool:
-        """Takes what was pushed. If nothing was pushed, waits up to `timeout` seconds, or forever if `timeout` is None.
-        Returns whether a line arrived."""
+        """Handles the lines that were pushed. If there are none, waits up to `timeout` seconds, or forever if `timeout` is
+        None. Returns whether a line arrived."""
         connected = self._live_socket()
         timeout = _limited(timeout)
         until = None if timeout is None else time.monotonic() + timeout
@@ -254,7 +252,7 @@ _open: "WeakSet[Connection]" = WeakSet()
 
 
 def _drop_in_child() -> None:
-    """In a forked child, closes the child's copies of the sockets, so that the server sees when the parent closes its sockets."""
+    """In a forked child, closes the child's copies of the sockets, so that the server notices when the parent closes its own."""
     for connection in list(_open):
         connection.drop("the connection belongs to the process that this one was forked from")
 

@@ -1,5 +1,5 @@
-"""The parts that need the extension and the library: handles, and batches that are built faster. Stores in this process import it;
-clients of a server don't."""
+"""The parts that need the extension and the library: handles, and a faster class for batches. Stores in this process import
+this module; clients of a server don't."""
 
 from __future__ import annotations
 
@@ -12,15 +12,15 @@ from .handles import Owner
 from .operations import Batch
 
 PASS, PREPARED, CURSOR, WITNESS = 1, 2, 3, 4
-"""What a handle of the library belongs to."""
+"""The types of the library's handles."""
 
 
 class HandleOwner(_native.Handle, Owner):
-    """Owns a handle of the library."""
+    """Owns one of the library's handles."""
 
     @property
     def _pointer(self) -> Any:
-        """Returns the handle in the form that ctypes calls take."""
+        """Returns the handle in the form that ctypes calls expect."""
         return ctypes.byref(Handle.from_address(self._address))
 
     @property
@@ -29,13 +29,13 @@ class HandleOwner(_native.Handle, Owner):
         return bool(Handle.from_address(self._address).live)
 
     def _give_up(self, call: Callable[..., int]) -> None:
-        """Makes a call that ends the use of the handle. A forked child leaves that call to its parent."""
+        """Makes the call that gives up the handle. A forked child leaves that call to its parent."""
         if not self._is_dead:
             self._call(call)
 
 
 class NativeBatch(_native.Batch, Batch):
-    """A batch whose operations the extension keeps."""
+    """A batch whose operations are stored by the extension."""
 
     @property
     def _operations(self) -> List[Operation]:
@@ -44,7 +44,7 @@ class NativeBatch(_native.Batch, Batch):
 
 
 def native(batch: Batch) -> NativeBatch:
-    """Returns the batch in the form that the extension takes."""
+    """Returns the batch in the form that the extension accepts."""
     if isinstance(batch, NativeBatch):
         return batch
     if not isinstance(batch, Batch):

@@ -1,4 +1,4 @@
-"""The journal's text, in the form that the library writes."""
+"""The journal's text, in the format that the library writes."""
 
 from __future__ import annotations
 
@@ -40,6 +40,6 @@ def _outcome(operation: Operation) -> str:
 
 
 def line_of(entry: Entry) -> str:
-    """Returns the line for an entry."""
+    """Returns an entry's line."""
     operations, outcomes = "; ".join(map(_operation, entry.operations)), "; ".join(map(_outcome, entry.operations))
     return f"{entry.number} by {entry.pass_number} {operations} -> {outcomes}\n"

@@ -1,4 +1,4 @@
-"""Types of the extension, which python/native/ has in C."""
+"""Types for the extension, whose C sources are in python/native/."""
 
 from typing import Any, Callable, Dict, Iterable, List, Literal, Optional, Sequence, Tuple, Type, overload
 
@@ -37,7 +37,7 @@ class Handle:
 class Batch:
     def __init__(self, operations: Iterable[Operation] = ()) -> None: ...
     def __len__(self) -> int: ...
-    # Its calls that add operations are declared as those of `operations.Batch`.
+    # Its calls that add operations are declared in `operations.Batch`.
     def _parts(self) -> List[Tuple[int, int, int, int, bytes, bytes]]: ...
     def _put(self, operations: bytes, texts: bytes, /) -> None: ...
     @property

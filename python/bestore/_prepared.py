@@ -14,7 +14,7 @@ from .pages import check_of
 from .queries import Item, Name, Operator, Prepared
 from .values import Kind, encode_value
 
-_RAW = struct.Struct("@IIIQ")  # a bes_item: its kind, where its bytes are and how many they are, and its number
+_RAW = struct.Struct("@IIIQ")  # a bes_item: its kind, the position and length of its bytes, and its number
 
 
 def _item(item: Item) -> Tuple[int, int, bytes]:
@@ -51,10 +51,10 @@ class PreparedQuery(HandleOwner, Prepared):
         self._seen: Set[int] = set()
         self._is_in_library = True
         self._refreshed_in: Optional[object] = None
-        self._known_check: Optional[int] = None  # of cursors
+        self._known_check: Optional[int] = None  # for cursors
 
     def close(self) -> None:
-        """Releases the query, if it hasn't been released."""
+        """Releases the query, unless it has already been released."""
         self._give_up(calls.bes_release)
         self._seen = set()
 

@@ -1,4 +1,4 @@
-"""Query texts, through calls to the library: `language` describes these functions."""
+"""Query texts, processed by the library. `language` documents these functions."""
 
 from __future__ import annotations
 
@@ -26,7 +26,7 @@ def any_case(text: str) -> str:
 
 
 def _made(call: Callable[..., int], text: str, times: int) -> str:
-    """Returns the text that a call makes from `text`; the result has up to `times` times as many bytes."""
+    """Returns the text that a call produces from `text`. The result has up to `times` times as many bytes."""
     taken = encoded(text)
     room = times * len(taken)
     written, count = ctypes.create_string_buffer(room + 1), ctypes.c_uint64()
@@ -40,7 +40,7 @@ class Read(NamedTuple):
     comparison: Comparison
     value: str  # without backslashes
     is_number: bool
-    never: FrozenSet[Kind]  # the kinds of index in which no value makes it true
+    never: FrozenSet[Kind]  # the kinds of index for which no value makes it true
 
 
 def read(query: str) -> List[Read]:

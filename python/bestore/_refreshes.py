@@ -1,4 +1,4 @@
-"""Refreshes that compare whole answers, because the library's last answer is different or missing."""
+"""Refreshes that compare whole answers, because the library has a different last answer or none."""
 
 from __future__ import annotations
 
@@ -10,16 +10,15 @@ if TYPE_CHECKING:
 
 
 def refreshed(prepared: Prepared, nodes: Iterable[int], is_in_library: bool) -> Tuple[List[int], List[int]]:
-    """Returns which nodes joined and which left the answer since the last refresh of a query that now finds `nodes`.
-
-    `is_in_library` says whether the library has these nodes."""
+    """Returns the nodes that joined the answer and those that left it since the query's last refresh. The answer is now
+    `nodes`, and `is_in_library` says whether the library has these nodes."""
     found, seen = set(nodes), prepared._seen
     prepared._seen, prepared._is_in_library = found, is_in_library
     return sorted(found - seen), sorted(seen - found)
 
 
 def refreshed_by_all(prepared: Prepared, version: Version) -> Tuple[List[int], List[int]]:
-    """Returns which nodes joined and which left the answer, in a version that the library doesn't know."""
+    """Returns the nodes that joined the answer and those that left it, for a version that the library doesn't know."""
     prepared._check_process()
     with prepared._refreshing:
         return refreshed(prepared, version._nodes_of(prepared), is_in_library=False)

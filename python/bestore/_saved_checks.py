@@ -1,5 +1,4 @@
-"""Finds damage to a store's file. It checks the rows' checksums, and the number of the last entry, which is kept next to the
-file.
+"""Detects damage to a store's file. It checks the rows' checksums, and the last entry's number, which is kept next to the file.
 
 docs/KEPT.md describes both.
 """
@@ -41,8 +40,8 @@ def _line(identity: int, number: int) -> bytes:
 
 
 class LastEntry:
-    """The number of a file's last entry, kept in a file of the same name with `-last`. SQLite leaves out everything
-    after a damaged frame in its WAL, and doesn't report the loss."""
+    """The number of a file's last entry, kept in a file with the same name plus `-last`. SQLite ignores everything after a
+    damaged frame in its WAL, and doesn't report the loss."""
 
     def __init__(self, path: str, identity: int) -> None:
         within = os.path.realpath(path)
@@ -59,19 +58,19 @@ class LastEntry:
         return 0
 
     def begin(self, number: int) -> None:
-        """Keeps the number from now on, if a file can be made in the folder."""
+        """Keeps the number from now on, if a file can be created in the folder."""
         with suppress(OSError):
             self._file = os.open(self._path, os.O_WRONLY | os.O_CREAT | os.O_CLOEXEC, 0o600)
             self.set(number)
 
     def set(self, number: int) -> None:
-        """Records that the file now has this entry."""
+        """Records that the file now contains this entry."""
         if self._file is not None:
             with suppress(OSError):  # the check is then weaker
                 os.pwrite(self._file, _line(self._identity, number), 0)
 
     def close(self) -> None:
-        """Call this after the store's file has been closed. The number is then no longer needed, unless a WAL is left."""
+        """Call this after the store's file has been closed. The number is then no longer needed, unless a WAL remains."""
         file, self._file = self._file, None
         if file is not None:
             os.close(file)

@@ -11,14 +11,14 @@ from .errors import CommitsSpent, Error, Full, NoMemory, _OfPath
 if TYPE_CHECKING:
     import sqlite3
 
-# SQLite's codes and its messages. Before Python 3.11, only the messages are available.
+# SQLite's codes and messages. Before Python 3.11, only the messages are available.
 _BUSY, _LOCKED, _NO_MEMORY, _READ_ONLY, _IO, _CORRUPT, _FULL, _CANT_OPEN, _NO_DATABASE = 5, 6, 7, 8, 10, 11, 13, 14, 26
 _CODES = {
     "database is locked": _BUSY, "database table is locked": _LOCKED, "database or disk is full": _FULL,
     "file is not a database": _NO_DATABASE, "database disk image is malformed": _CORRUPT, "disk I/O error": _IO,
     "attempt to write a readonly database": _READ_ONLY, "unable to open database file": _CANT_OPEN, "out of memory": _NO_MEMORY,
 }
-_OF_THE_SYSTEM = {_BUSY, _LOCKED, _NO_MEMORY, _READ_ONLY, _IO, _FULL, _CANT_OPEN, _NO_DATABASE}  # not from the file's contents
+_OF_THE_SYSTEM = {_BUSY, _LOCKED, _NO_MEMORY, _READ_ONLY, _IO, _FULL, _CANT_OPEN, _NO_DATABASE}  # not caused by the file's contents
 
 
 class SavedError(_OfPath):
@@ -38,13 +38,13 @@ class Newer(SavedError):
     _summary = "the file has format {version}, and format {known} is the latest known here; use a newer version of bestore"
 
     version: int
-    """The version of its format."""
+    """The version of the file's format."""
     known: int
     """The latest version that can be read."""
 
 
 class Held(SavedError):
-    """Another process has the file open, or another store in this process has."""
+    """The file is open in another process, or in another store of this process."""
 
     error_class = ErrorClass.RETRY
     _summary = "the file is open in another process or store; close it there first"
@@ -68,9 +68,9 @@ class Fewer(SavedError):
     """A shelf can't be opened with fewer volumes than its folder has, or without any volumes."""
 
     found: int
-    """How many the folder has."""
+    """How many volumes the folder has."""
     wanted: int
-    """How many were asked for, or `found` if no number was given."""
+    """How many volumes were requested, or `found` if no number was given."""
 
     @property
     def summary(self) -> str:
@@ -80,7 +80,7 @@ class Fewer(SavedError):
 
 
 class SqliteError(SavedError):
-    """SQLite reported another error, which is in `__cause__`."""
+    """SQLite reported some other error, which is in `__cause__`."""
 
     error_class = ErrorClass.GONE
 
@@ -95,13 +95,13 @@ class _AtPlace(SavedError):
 
     reason: str
     entry: Optional[int] = None
-    """The number of the entry, from 1, or None."""
+    """The number of the entry, counting from 1, or None."""
     batch: Optional[int] = None
-    """The batch of the state, from 0, or None."""
+    """The batch of the state, counting from 0, or None."""
 
     @property
     def place(self) -> str:
-        """The part of the file with the error."""
+        """The part of the file that contains the error."""
         if self.entry is not None:
             return f"entry {self.entry}"
         return "the state" if self.batch is None else f"batch {self.batch} of the state"
@@ -125,12 +125,12 @@ class TooLarge(_AtPlace):
 
 @dataclass(eq=False, repr=False)
 class Damaged(_AtPlace):
-    """A part of the file has changed since it was written. If SQLite found the damage, SQLite's error is in `__cause__`."""
+    """Part of the file has changed since it was written. If SQLite detected the damage, its error is in `__cause__`."""
 
     error_class = ErrorClass.GONE
 
     until: Optional[int] = None
-    """The entry up to which `be restore --until` reads the file, or None if that can't read it."""
+    """The entry to pass to `be restore --until`, or None if that can't read the file."""
 
     @property
     def place(self) -> str:
@@ -154,9 +154,9 @@ class CutOff(SavedError):
         "left with be restore --until {last}. If the file is an older copy, remove {path}-last")
 
     last: int
-    """The last entry that it has."""
+    """The last entry in the file."""
     had: int
-    """The last entry that it once had."""
+    """The last entry that the file once had."""
 
 
 @dataclass(eq=False, repr=False)
@@ -175,8 +175,8 @@ class NotSaved(SavedError):
 
 
 class Stopped(SavedError):
-    """Saving has stopped, and nothing was written. The error from the commit that failed is in `__cause__`; if the file
-    was closed, there is no such error."""
+    """Saving has stopped, and nothing was written. `__cause__` is the error from the commit that failed, or None if the file
+    was closed."""
 
     error_class = ErrorClass.GONE
 
@@ -197,7 +197,7 @@ def _code(error: sqlite3.Error) -> Optional[int]:
 
 
 def of_sqlite(path: str, error: sqlite3.Error) -> SavedError:
-    """Returns the file's error for an SQLite error."""
+    """Converts an SQLite error to one of this module's errors."""
     code = _code(error)
     if code in (_BUSY, _LOCKED):
         return Held(path)
@@ -217,7 +217,7 @@ def of_reading(path: str, error: sqlite3.Error, entry: Optional[int] = None, bat
 
 
 def refused(path: str, error: Error, entry: Optional[int] = None, batch: Optional[int] = None) -> SavedError:
-    """Returns the file's error for an error from the store that repeats the file's contents."""
+    """Converts an error from the store that is replaying the file's contents to one of this module's errors."""
     if isinstance(error, (Full, CommitsSpent, NoMemory)):
         return TooLarge(path, f"the file doesn't fit the limits of the store: {error}", entry, batch)
     return Differs(path, f"the file contains something that no store wrote: {error}", entry, batch)

@@ -1,4 +1,4 @@
-"""The file of a store: an SQLite database with the last state and the entries since then. docs/KEPT.md has the format."""
+"""A store's file: an SQLite database with the last state and the entries since then. docs/KEPT.md describes the format."""
 
 from __future__ import annotations
 
@@ -14,14 +14,14 @@ from ._saved_checks import LastEntry, of_about, of_entry, of_state, of_token
 from ._saved_errors import CutOff, Damaged, Differs, Foreign, Newer, of_reading, of_sqlite
 
 APPLICATION = 0x62657374
-""""best" in ASCII: the mark in SQLite's header by which the file is recognised."""
+""""best" in ASCII: the number in SQLite's header that identifies the file."""
 FORMAT = 2
 """The version of the format."""
-_WITHOUT_CHECKSUMS = 1  # the version before, whose rows have none
+_WITHOUT_CHECKSUMS = 1  # the previous version, whose rows have no checksums
 
-_LAST_NUMBER = 2**63 - 1  # the highest number of an entry: SQLite's integers end there
+_LAST_NUMBER = 2**63 - 1  # the highest entry number: SQLite's integers end there
 
-# The WAL is reused from its start after 1,000 pages, 4.1 MB, so the limit cuts off only what a large commit has left. The last
+# The WAL is reused from its start after 1,000 pages (4.1 MB), so the limit cuts off only what a large commit added. The last
 # two statements take the lock.
 _SETTINGS = (
     "PRAGMA journal_mode = WAL", "PRAGMA synchronous = FULL", "PRAGMA journal_size_limit = 8388608", "BEGIN IMMEDIATE", "COMMIT")
@@ -32,7 +32,7 @@ _TABLES = (
     "CREATE TABLE entry (number INTEGER PRIMARY KEY, pass INTEGER NOT NULL, batch BLOB NOT NULL, checksum INTEGER)",
 )
 
-# The statements that add this many entries. All of them fit in the connection's cache.
+# The statements, one for each number of entries to add. All of them fit in the connection's cache.
 _INSERTS = ["INSERT OR IGNORE INTO entry VALUES " + ", ".join(["(?, ?, ?, ?)"] * count) for count in range(65)]
 _INSERT_WITHOUT = "INSERT OR IGNORE INTO entry VALUES (?, ?, ?)"
 _WRONG_SUM = "its checksum doesn't match"
@@ -45,19 +45,19 @@ class About(NamedTuple):
     """What the file says about its state."""
 
     entries: int
-    """The number of the last entry that the state contains."""
+    """The number of the last entry that the state includes."""
     next_node: int
-    """The number of the next node after it."""
+    """The number of the next new node."""
 
 
 def _make_private(path: str) -> None:
-    """Makes the file if it isn't there, so that only the user may read it. SQLite gives the file with `-wal` the same mode."""
-    with suppress(OSError, ValueError):  # if the file can't be made, opening it says why
+    """Creates the file if it doesn't exist, so that only the user may read it. SQLite gives the `-wal` file the same mode."""
+    with suppress(OSError, ValueError):  # if the file can't be created, opening it says why
         os.close(os.open(path, os.O_WRONLY | os.O_CREAT | os.O_EXCL, 0o600))
 
 
 class File:
-    """The file, which belongs only to this process until `close`. One thread at a time uses it."""
+    """The file, which only this process may use until `close`. Only one thread uses it at a time."""
 
     _open: ClassVar[weakref.WeakSet[File]] = weakref.WeakSet()
 
@@ -69,7 +69,7 @@ class File:
         self.has_checksums = True
         """Whether the file's rows have checksums. Rows in the earlier format have none."""
         with self._translated():
-            # SQLite doesn't treat ":memory:" or an empty name as a file, unless a folder is put in front.
+            # SQLite doesn't treat ":memory:" or an empty name as a file unless a folder precedes it.
             within = os.path.join(os.curdir, path)
             _make_private(within)
             self._connection = sqlite3.connect(within, timeout=0, isolation_level=None, check_same_thread=False)
@@ -82,7 +82,7 @@ class File:
 
     @contextmanager
     def _translated(self) -> Iterator[None]:
-        """Raises an SQLite error as the file's error."""
+        """Converts SQLite's errors to this file's errors."""
         try:
             yield
         except sqlite3.Error as error:
@@ -97,10 +97,11 @@ class File:
         return None if row is None else row[0]
 
     def _take(self) -> None:
-        """Locks the file, checks whose it is, and makes the tables if it is empty, before it has a WAL that could lose them."""
+        """Locks the file, checks which program it belongs to, and creates the tables if it is empty. At that point it has no
+        WAL that could lose them."""
         with self._translated():
             assert self._connection is not None
-            self._connection.text_factory = lambda text: None  # none of the columns that are read contains text
+            self._connection.text_factory = lambda text: None  # no column that is read contains text
             self._run("PRAGMA locking_mode = EXCLUSIVE")
             is_new = self._check_format()
             if is_new:
@@ -117,7 +118,7 @@ class File:
                 self._run(statement)
 
     def _set_identity(self) -> None:
-        """Gives the file its identity, which no other file has."""
+        """Gives the file an identity that no other file has."""
         self._set_about(file=int.from_bytes(os.urandom(8), "little") >> 1)
 
     def _set_about(self, **numbers: int) -> None:
@@ -139,7 +140,7 @@ class File:
 
     @contextmanager
     def _transaction(self) -> Iterator[None]:
-        """Runs a transaction, which is committed at the end of the `with`, or rolled back after an exception. A
+        """Runs a transaction, which is committed at the end of the `with` block or rolled back after an exception. A
         transaction that an earlier exception left open is rolled back first."""
         try:
             self._roll_back()
@@ -180,7 +181,7 @@ class File:
         return "checksum" if self.has_checksums else "NULL"
 
     def check(self, last: int) -> None:
-        """Refuses a file that ends with this entry but once had later ones, or whose pages SQLite finds damaged."""
+        """Refuses a file that ends with this entry but once had later ones, or that has pages that SQLite reports as damaged."""
         if self.has_checksums:
             had = LastEntry(self.path, self._about("file")).read()
             if had > last:
@@ -197,15 +198,14 @@ class File:
             raise Damaged(self.path, str(found).replace("\n", " "), until=last)
 
     def keep_last(self, last: int) -> None:
-        """From now on, also keeps the number of the last entry next to the file. `last` is the present number."""
+        """From now on, also keeps the last entry's number next to the file. `last` is its current value."""
         if self.has_checksums:
             self._last = LastEntry(self.path, self._about("file"))
             self._last.begin(last)
 
     def commits_within(self, commits: int) -> int:
-        """Returns how many of `commits` transactions a store from this file may accept, so that there is a number for
-        each entry. Includes the transactions that make the state. Returns 0 if no number is left and the state is
-        empty."""
+        """Returns how many of `commits` transactions a store opened from this file may accept without running out of entry
+        numbers. The transactions that rebuild the state count too. Returns 0 if no number is left and the state is empty."""
         left = _LAST_NUMBER - self.about().entries
         if left >= commits:
             return commits
@@ -222,7 +222,7 @@ class File:
             due += 1
 
     def entries(self, after: int) -> Iterator[Tuple[int, bytes]]:
-        """Yields the number and the batch of each entry after this number, in ascending order."""
+        """Yields the number and the batch of each entry after this one, in ascending order."""
         sql = f"SELECT number, pass, batch, {self._checksum} FROM entry ORDER BY number"
         for number, batch in self._checked(sql, _sum_of, lambda: {"entry": after + 1, "until": after}):
             yield number, batch
@@ -230,7 +230,8 @@ class File:
 
     def _checked(self, sql: str, sum_of: Callable[[int, Any, bytes], Optional[int]],
                  place: Callable[[], Dict[str, int]]) -> Iterator[Tuple[int, bytes]]:
-        """Yields the number and the batch of each row, if the row's checksum fits. `place` is the position of the next row, for errors."""
+        """Yields the number and the batch of each row, after checking the row's checksum. `place` returns the position of the
+        next row, for errors."""
         rows = self._rows(sql)
         while True:
             try:
@@ -247,12 +248,12 @@ class File:
     def _rows(self, sql: str) -> Iterator[Tuple[Any, ...]]:
         rows = self._run(sql)
         self._reading.append(rows)
-        for row in rows:  # `yield from` would close the rows, even after the connection
+        for row in rows:  # `yield from` would close the rows, even after the connection was closed
             yield row
 
     def append(self, rows: Sequence[Row]) -> None:
-        """Adds all entries in one commit. If the file already has an entry with the same number, the two are the same, and the old one
-        stays."""
+        """Adds all entries in one commit. If the file already has an entry with the same number, the two are identical, and the
+        old one is kept."""
         if self.has_checksums and len(rows) < len(_INSERTS):
             self._append_by_one_statement(rows)
         else:
@@ -266,7 +267,7 @@ class File:
             self._last.set(rows[-1][0])
 
     def _append_by_one_statement(self, rows: Sequence[Row]) -> None:
-        """Adds a few entries. The statement is its own transaction, so Python releases the interpreter to other threads only once."""
+        """Adds a few entries. The statement is its own transaction, so Python lets other threads run only once."""
         assert self._connection is not None
         if self._connection.in_transaction:  # left open by an exception
             self._roll_back()
@@ -278,8 +279,8 @@ class File:
             raise of_sqlite(self.path, error) from error
 
     def write_state(self, number: int, next_node: int, batches: Iterable[bytes]) -> None:
-        """Replaces the old state, and the entries up to `number`, with this state, which contains them. After an error
-        the file is unchanged."""
+        """Replaces the old state and the entries up to `number` with this state, which includes them. After an error the file
+        is unchanged."""
         with self._transaction():
             assert self._connection is not None
             self._run("DELETE FROM state")
@@ -292,7 +293,7 @@ class File:
         self.has_checksums = True
 
     def _add_checksums(self) -> None:
-        """Adds checksums to the rows of an earlier format, except those of `about`."""
+        """Adds checksums to the rows of a file in an earlier format, except to those in `about`."""
         assert self._connection is not None
         has_tokens = self._number("SELECT count(*) FROM sqlite_master WHERE name = 'token'") > 0
         for table in ("about", "state", "entry") + (("token",) if has_tokens else ()):
@@ -308,18 +309,18 @@ class File:
                 "UPDATE token SET checksum = ? WHERE number = ?", [(of_token(*row), row[0]) for row in rows])
 
     def close(self) -> None:
-        """Closes the file, and unlocks it."""
+        """Closes and unlocks the file."""
         connection, self._connection = self._connection, None
         if connection is not None:
             with self._translated():
-                for rows in self._reading:  # SQLite keeps the lock while one is open
+                for rows in self._reading:  # SQLite holds the lock while any of them is open
                     rows.close()
                 connection.close()
         if self._last is not None:
             self._last.close()
 
     def _leave_to_parent(self) -> None:
-        """In a forked child: keeps SQLite from closing the file, which would remove the parent's WAL."""
+        """In a forked child, keeps SQLite from closing the file, which would remove the parent's WAL."""
         if self._connection is not None:
             ctypes.pythonapi.Py_IncRef(ctypes.py_object(self._connection))
             self._connection = None

@@ -1,4 +1,4 @@
-"""The queue of threads that are waiting for a store's file."""
+"""The queue of threads waiting for a store's file."""
 
 from __future__ import annotations
 
@@ -8,7 +8,7 @@ from typing import Iterator, List, Optional
 
 
 class Turn:
-    """A thread's turn in the queue: for a write, which has a commit number, or for the file itself, without a number."""
+    """A thread's turn in the queue. A turn is either for a write, whose commit number it has, or for the file itself, with no number."""
 
     __slots__ = ("number", "_lock")
 
@@ -31,12 +31,12 @@ class Turn:
 
 
 class Line:
-    """Who has the file, and who is waiting for it. Each thread waits for its own lock, so a commit wakes only the
-    threads whose writes it has saved, and the thread that gets the file next."""
+    """Tracks which thread has the file and which are waiting for it. Each thread waits for its own lock, so a commit wakes only
+    the threads whose writes it saved and the thread that gets the file next."""
 
     def __init__(self, saved: int) -> None:
         self.saved = saved
-        """The commit number up to which entries are in the file. The thread that has the file sets it."""
+        """The file contains all entries up to this commit number, which is set by the thread that has the file."""
         self._mutex = threading.Lock()
         self._owner: Optional[Turn] = None
         self._askers: List[Turn] = []
@@ -44,12 +44,12 @@ class Line:
 
     @property
     def askers(self) -> int:
-        """How many threads wait for the file itself."""
+        """How many threads are waiting for the file itself."""
         return len(self._askers)
 
     @contextmanager
     def turn(self) -> Iterator[None]:
-        """Waits for sole use of the file, ahead of all waiting writes."""
+        """Waits for exclusive use of the file, ahead of all waiting writes."""
         turn = Turn()
         try:
             self.take(turn)
@@ -58,8 +58,8 @@ class Line:
             self.leave(turn)
 
     def take(self, turn: Turn) -> bool:
-        """Waits until the turn has the file, or its write is saved. Returns whether it has the file. `leave` has to follow, even
-        after an interrupt."""
+        """Waits until the turn has the file, or its write is saved. Returns whether it has the file. Always call `leave`
+        afterwards, even after an interrupt."""
         with self._mutex:
             if turn.number is not None and turn.number <= self.saved:
                 return False
@@ -72,15 +72,15 @@ class Line:
         return self._owner is turn
 
     def leave(self, turn: Turn) -> None:
-        """Ends a turn, or the wait for it: passes the file on, and wakes the threads whose writes are saved."""
+        """Ends a turn, or the wait for one: hands the file on, and wakes the threads whose writes are saved."""
         try:
             self._leave(turn)
-        except BaseException:  # an interrupt, which no one else should have to wait for
+        except BaseException:  # an interrupt, which mustn't keep other threads waiting
             self._leave(turn)
             raise
 
     def _leave(self, turn: Turn) -> None:
-        """Does the work of `leave`. After an interrupt, it can be run again."""
+        """Does the work of `leave`. It can be run again after an interrupt."""
         with self._mutex:
             if self._owner is turn:
                 self._owner = self._next(turn)
@@ -88,7 +88,7 @@ class Line:
                 self._wake(turn)
 
     def _next(self, turn: Turn) -> Optional[Turn]:
-        """Returns the turn that has the file after this turn."""
+        """Returns the turn that gets the file after this one."""
         for other in self._askers:
             if other is not turn:
                 return other
@@ -98,7 +98,7 @@ class Line:
         return turn.number is not None and turn.number <= self.saved
 
     def _wake(self, gone: Optional[Turn] = None) -> None:
-        """Wakes the threads that can continue. Their turns leave the queue, and so does the turn that has ended."""
+        """Wakes the threads that can continue. Removes their turns from the queue, and also the turn that has ended."""
         owner, left = self._owner, []
         if owner is not None:
             owner.wake()

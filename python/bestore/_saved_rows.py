@@ -1,4 +1,4 @@
-"""Batches from a file, which are applied as they are read."""
+"""Batches from a file, applied as they are read."""
 
 from __future__ import annotations
 
@@ -14,12 +14,12 @@ from .values import KIND_OF, RANGES
 
 _RAW = struct.Struct("=2I2Q4I")  # an operation in the library's form
 _NODE, _NODE_LENGTH, _CODE_NUMBER = struct.Struct("<Q"), struct.Struct("<QB"), struct.Struct("<IQ")
-_MORE = bytes(_CODE_NUMBER.size)  # after a batch, so that its last value can be read as a number
+_MORE = bytes(_CODE_NUMBER.size)  # appended to a batch, so that its last value can be read as a number
 _NUMBERS, _CODES = frozenset(map(int, RANGES)), frozenset(KIND_OF)
 
 
 class Repeater:
-    """Applies batches to a store that nobody else uses. The names and values stay where they are in the batch's bytes."""
+    """Applies batches to a store that nobody else uses. The names and values are used in place, within the batch's bytes."""
 
     def __init__(self, user: LocalPass) -> None:
         self._user, self._made, self._number = user, (ctypes.c_uint64 * MOST_OPERATIONS)(), ctypes.c_uint64()
@@ -27,9 +27,9 @@ class Repeater:
         self._operations = (RawOperation * MOST_OPERATIONS).from_buffer(self._room)
 
     def repeat(self, data: bytes) -> Tuple[List[int], List[int]]:
-        """Applies a batch given as bytes. Returns two lists with, for each operation, the node that it made or 0: first
-        the nodes according to the bytes, then the nodes that were made now. Raises what `Batch.from_bytes` and
-        `Pass.apply` raise."""
+        """Applies a batch given as bytes. Returns two lists of the nodes that the operations created, with 0 for operations
+        that created none: first as recorded in the bytes, then as created now. Raises what `Batch.from_bytes` and `Pass.apply`
+        raise."""
         texts = data + _MORE
         kept = self._read(data, texts)
         if kept is None:
@@ -44,8 +44,8 @@ class Repeater:
         return kept, self._made[:count]
 
     def _read(self, data: bytes, texts: bytes) -> Optional[List[int]]:
-        """Reads a batch into the buffer. Returns, for each operation, the node that it made or 0. Returns None if the
-        bytes aren't a valid batch."""
+        """Reads a batch into the buffer. Returns the node that each operation created, or 0 for an operation that created none.
+        Returns None if the bytes aren't a valid batch."""
         if data[:len(BEGINNING)] != BEGINNING or not 1 <= texts[len(BEGINNING)] <= MOST_OPERATIONS:
             return None
         kept: List[int] = []
@@ -58,8 +58,8 @@ class Repeater:
         return kept if at == len(data) else None
 
     def _read_operation(self, texts: bytes, at: int, to: int, kept: List[int]) -> int:
-        """Reads an operation into the buffer, and adds the node that it made, or 0, to `kept`. Returns where the
-        operation ends. Raises a ValueError if the bytes aren't a valid operation."""
+        """Reads an operation into the buffer, and adds the node that it created, or 0, to `kept`. Returns the position where
+        the operation ends. Raises a ValueError if the bytes aren't a valid operation."""
         kind = texts[at]
         made = node = name_at = length = code = number = value_at = value_length = 0
         if kind == SET or kind == UNSET:

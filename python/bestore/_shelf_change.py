@@ -1,4 +1,4 @@
-"""Changes to a store that has several volumes: a change reads all volumes and writes one."""
+"""Changes to a store that has several volumes. A change reads all volumes and writes to one."""
 
 from __future__ import annotations
 
@@ -16,8 +16,8 @@ if TYPE_CHECKING:
 
 
 class ShelfChange(Change):
-    """A change on a version of all volumes. The first operation decides which volume is written, unless the caller has
-    named the volume. From then on, a change on that volume collects the operations and replaces the volume's version,
+    """A change that reads a version of all volumes. The first operation decides which volume is written, unless the caller
+    named a volume. From then on, a change to that volume collects the operations and takes the place of the volume's version,
     so reads see these operations too."""
 
     _snapshot: ShelfVersion
@@ -26,7 +26,7 @@ class ShelfChange(Change):
         super().__init__(snapshot)
         self._users, self._check_kinds = users, check_kinds
         self.volume = volume
-        """The volume that is written, once it is known."""
+        """The volume that is written, once known."""
         self._within: Optional[Change] = None
         self._early: List[Callable[[Change], None]] = []  # operations on indices before the volume is known
 
@@ -40,7 +40,7 @@ class ShelfChange(Change):
         return of_volume(self._within._collected(), self.volume)
 
     def _in(self, volume: int) -> Change:
-        """Returns the change on this volume. Raises `OtherVolume` if another volume is written."""
+        """Returns the change to this volume. Raises `OtherVolume` if a different volume is written."""
         if self.volume is None:
             self.volume = volume
         if volume != self.volume:
@@ -50,7 +50,7 @@ class ShelfChange(Change):
         return self._within
 
     def _begun(self, volume: int) -> Change:
-        """Returns the change on this volume, with the index operations so far."""
+        """Returns the change to this volume, with the index operations collected so far."""
         if not self._snapshot._is_pinned:
             raise NotPinned()
         within = self._users[volume]._change_on(self._snapshot.volumes[volume], self._check_kinds)
@@ -70,7 +70,7 @@ class ShelfChange(Change):
         return self.volume, self._within
 
     def _of(self, node: int) -> Tuple[Change, int]:
-        """Returns the change on a node's volume, and the node's number within that volume. Raises `NoNode` if there is no such volume."""
+        """Returns the change to a node's volume, and the node's number within that volume. Raises `NoNode` if there is no such volume."""
         volume, number = divmod(node_number(node), NUMBERS)
         if not 0 <= volume < len(self._users):
             raise NoNode(node)

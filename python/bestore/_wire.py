@@ -1,4 +1,4 @@
-"""The protocol of a server as JSON: values, operations, and the fields of replies. docs/SERVER.md describes it."""
+"""The server's protocol in JSON: values, operations, and the fields of replies. docs/SERVER.md describes it."""
 
 from __future__ import annotations
 
@@ -17,7 +17,7 @@ from .values import KIND_OF, RANGES, Kind, Typed, Value, decode_value
 PROTOCOL = 1
 """The version of the protocol."""
 MOST_BYTES = 1 << 20
-"""The bytes of a request, with the end of its line."""
+"""The maximum number of bytes in a request, including its line end."""
 MOST_BYTES_OF_A_REPLY = 2 << 20
 
 JSON = Dict[str, Any]  # a JSON object
@@ -76,7 +76,7 @@ def _operation(kind: int, code: int, node: int, number: int, name: bytes, value:
 
 
 def operations_of(batch: Batch) -> List[List[object]]:
-    """Returns a batch's operations. Raises `NotUTF8`, `NoKind` or `NoValue`, with the first operation that can't be written."""
+    """Returns a batch's operations in JSON. Raises `NotUTF8`, `NoKind` or `NoValue`, with the first operation that can't be encoded."""
     written = []
     for place, parts in enumerate(batch._parts()):
         try:
@@ -105,14 +105,14 @@ def read_value(value: object) -> Typed:
 
 
 class Compared(NamedTuple):
-    """A comparison in a query's text, as a server reads it."""
+    """A comparison in a query's text, as parsed by a server."""
 
     name: str
     value: str
     offset: int
     is_number: bool
     never: Tuple[Kind, ...]
-    """The index kinds under which it is never true."""
+    """The kinds of index for which it is never true."""
 
 
 def read_compared(one: JSON) -> Compared:
@@ -127,7 +127,7 @@ def read_comparisons(ok: JSON) -> List[Compared]:
 
 
 def read_row(row: List[object]) -> List[Optional[Value]]:
-    """Reads a node's values without their kinds, with None where the node has no value."""
+    """Reads a node's values without their kinds. A missing value is None."""
     return [value if value is None or isinstance(value, str) else read_value(value).value for value in row]
 
 

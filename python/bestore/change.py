@@ -1,4 +1,4 @@
-"""Changes: writes based on reads, with no other write in between."""
+"""Changes: writes that depend on reads, with no other write in between."""
 
 from __future__ import annotations
 
@@ -16,11 +16,11 @@ from .versions import Asked, Attributes, Query, Version
 class Change(Version):
     """What `Pass.change` passes to its function: a snapshot to read, which also collects up to 64 operations.
 
-    Operations are only collected; they are written after the function has returned. A node that `new` made has its number
+    Operations are only collected; they are written after the function has returned. A node that `new` creates has its number
     immediately. `change[node]`, `get`, `kind`, `attributes` and `node in change` read the collected operations first, and then
     the snapshot. Queries, lists of nodes, `count`, `pairs`, `indices` and `state` read only the snapshot. Refresh a live query
-    outside a change, since the function may run again. A 65th operation raises `BadCount`. If a call raises, it collects
-    nothing, and the operations collected before it stay."""
+    outside a change, because the function may run again. A 65th operation raises `BadCount`. A call that raises collects
+    nothing, and the operations collected earlier are unaffected."""
 
     _shown: ClassVar[str] = "change"
 
@@ -43,8 +43,8 @@ class Change(Version):
 
     @abstractmethod
     def new(self) -> int:
-        """Makes a node, and returns its number. With several volumes, the node is made in the volume that the change writes: see
-        `Pass.change`."""
+        """Creates a node and returns its number. With several volumes, the node is created in the volume that the change
+        writes: see `Pass.change`."""
 
     @abstractmethod
     def remove(self, node: int) -> None:
@@ -52,8 +52,8 @@ class Change(Version):
 
     @abstractmethod
     def set(self, node: int, name: str, value: Value, kind: Optional[int] = None) -> None:
-        """Sets an attribute, with the same kind as `Batch.set`. Raises `WrongKind` if the index with that name takes
-        values of another kind, unless the change was made with check_kinds=False."""
+        """Sets an attribute; its kind is chosen as in `Batch.set`. Raises `WrongKind` if the index with that name takes values
+        of another kind, unless the change was begun with check_kinds=False."""
 
     @abstractmethod
     def unset(self, node: int, name: str) -> None:
@@ -61,7 +61,7 @@ class Change(Version):
 
     @abstractmethod
     def make_index(self, name: str, kind: int) -> None:
-        """Makes an index with this name, for values of this kind. The index gets only attributes that are set from then
+        """Creates an index with this name, for values of this kind. The index receives only attributes that are set from then
         on; `Pass.reindex` adds earlier ones by setting them again."""
 
     @abstractmethod

@@ -1,4 +1,4 @@
-"""Waiting for what other passes of this process write, without polling."""
+"""Waiting, without polling, for writes by other passes in this process."""
 
 from __future__ import annotations
 
@@ -7,24 +7,24 @@ from contextlib import contextmanager, suppress
 from typing import Iterator, Optional, Sequence, Tuple
 
 PAUSE = 0.002
-"""How many seconds pass between two looks at a store whose commits wake nobody."""
+"""How many seconds pass between checks of a store whose commits wake nobody."""
 
 
 class Waiter:
-    """A thread that waits for commits: it looks, and then waits until there has been a commit since `begin`.
+    """A thread that waits for commits. It checks the store, and then waits until there has been a commit since `begin`.
 
-    It waits for a lock, which the waking thread releases. Releasing takes no other lock, so a write may happen anywhere: in a
-    signal handler, or while Python collects an object."""
+    It waits for a lock, which the waking thread releases. Releasing that lock takes no other lock, so a write may happen
+    anywhere, even in a signal handler or while Python collects an object."""
 
     def __init__(self, most: Optional[float]) -> None:
         self._most, self._sleep = most, threading.Lock()
 
     def begin(self) -> None:
-        """Call this before each look: later commits then end the next wait."""
+        """Call this before each check, so that later commits end the next wait."""
         self._sleep.acquire(blocking=False)
 
     def wake(self) -> None:
-        """Ends the wait, or the next one."""
+        """Ends the current wait, or the next one."""
         with suppress(RuntimeError):  # another commit has released the lock
             self._sleep.release()
 
@@ -35,14 +35,14 @@ class Waiter:
 
 
 class Commits:
-    """The threads that wait for commits in a store. After each of its commits, a pass of the store wakes these threads."""
+    """The threads that are waiting for commits in a store. A pass of the store wakes them after each of its commits."""
 
     def __init__(self) -> None:
         self._lock = threading.RLock()
         self._waiting: Tuple[Waiter, ...] = ()  # replaced as a whole, so that a writer reads it without the lock
 
     def wake(self) -> None:
-        """Wakes all threads that wait."""
+        """Wakes all waiting threads."""
         for waiter in self._waiting:
             waiter.wake()
 
@@ -57,7 +57,7 @@ class Commits:
 
 @contextmanager
 def waiting(stores: Sequence[Commits], volumes: int) -> Iterator[Waiter]:
-    """Yields a waiter for commits in any of these stores. If some volumes have no such list, the waiter looks again from time to time."""
+    """Yields a waiter for commits in any of these stores. If some volumes have no such list, the waiter checks again from time to time."""
     waiter = Waiter(None if len(stores) == volumes else PAUSE)
     try:
         for store in stores:

@@ -3,16 +3,16 @@
     with bestore.connect(path) as store:
         ...
 
-The server is bestored, and docs/SERVER.md describes it. A pass is a connection. Use these passes, versions, changes,
-batches and prepared queries just like those of `bestore.open`.
+The server is bestored, described in docs/SERVER.md. A pass is a connection. Use these passes, versions, changes, batches and
+prepared queries just like those of `bestore.open`.
 
-**What differs.** A call takes a round trip. The server itself tries again at `Busy` and at `Full`, so `tries` has no effect. The
+**What differs.** A call takes a round trip. The server itself retries on `Busy` and `Full`, so `tries` has no effect. The
 server takes back a snapshot that is kept too long; reading that snapshot then raises `Expired`. `another` may be called in any
-thread. `meet` raises `Unavailable`. There are also `flush` and `compact`. `watch` waits for what others write.
+thread. `meet` raises `Unavailable`. There are two more calls, `flush` and `compact`. `watch` waits for other clients' writes.
 
-**Errors** are those of the library. Connection errors are subclasses of `ServerError`. Once a connection is broken, all later
-calls on its pass raise `Disconnected`, and you have to connect again. If the broken call was a write, `may_be_done` says whether
-it may have been made.
+**Errors** are the library's. Connection errors are subclasses of `ServerError`. Once a connection is broken, all later calls on
+its pass raise `Disconnected`, and you have to connect again. If the call that broke it was a write, `may_be_done` says whether
+the write may have been applied.
 
 **A forked child** has no connection: calls on its parent's passes raise `Forked`. The child can make its own connection.
 """
@@ -64,39 +64,39 @@ __all__ = [
 _Result = TypeVar("_Result")
 
 TIMEOUT = 60.0
-"""How many seconds connecting and each reply may take by default."""
+"""How many seconds connecting, and each reply, may take by default."""
 _AGAIN = 0.05  # seconds after which a write is repeated
-_WORDS = 512  # of a page
-_MOST_WAITED = 30.0  # seconds that the server waits by itself
-_MOST_NODES = 1 << 14  # nodes in one such request, so that its line isn't too long
+_WORDS = 512  # per page
+_MOST_WAITED = 30.0  # seconds that the server waits per request
+_MOST_NODES = 1 << 14  # nodes in a request for columns, so that its line isn't too long
 
 
 class Server(NamedTuple):
-    """What a server says about itself."""
+    """What a server reports about itself."""
 
     version: str
     """The version of bestored."""
     library: str
-    """The version of its library."""
+    """The version of the server's library."""
     run: str
-    """A different text each time the server starts. Commit numbers then start again."""
+    """A string that is different each time the server starts. Commit numbers then start over."""
     kept: str
-    """When a write is in the server's file: at `each` write, `every` so often, or `no`."""
+    """When a write reaches the server's file: at `each` write, `every` so often, or `no` if there is no file."""
     pages: int
     passes: int
-    """How many clients there may be at the same time."""
+    """How many clients may be connected at the same time."""
     commits: int
     watches: int
     """How many watches a pass may have."""
     volumes: int = 1
-    """How many volumes there are. `pages` and `commits` are per volume."""
+    """How many volumes the store has. `pages` and `commits` are per volume."""
     features: Tuple[str, ...] = ()
-    """What the server accepts that older ones don't, such as the parameter `by` of a query. If it doesn't accept that one, pages in an
-    order are cut from the whole answer here."""
+    """What the server accepts that older ones don't, such as a query's parameter `by`. If the server doesn't accept that, the
+    client cuts ordered pages out of the whole answer."""
 
 
 def _read_server(hello: JSON) -> Tuple[Server, int]:
-    """Returns what the server says about itself, and the number of the pass."""
+    """Returns what the server reports about itself, and the number of the pass."""
     limits = hello["limits"]
     server = Server(
         hello["server"], hello["library"], hello["run"], hello["kept"], limits["pages"], limits["passes"], limits["commits"],
@@ -105,7 +105,7 @@ def _read_server(hello: JSON) -> Tuple[Server, int]:
 
 
 class ConnectedVersion(QueriedVersion):
-    """A version of a server's store. Each read is a round trip, and more than one if the reply has several pages."""
+    """A version of a server's store. Each read takes a round trip, or several if the reply has several pages."""
 
     _is_pinned = False
 
@@ -135,7 +135,7 @@ class ConnectedVersion(QueriedVersion):
                     user._unpin()
 
     def _ask(self, command: str, parameters: JSON, read: Callable[[JSON], _Result], query: Optional[str] = None) -> _Result:
-        """Makes a call on the pass, if the pass still has this pin and not a later one."""
+        """Makes a call on the pass, if the pass still has this pin and not a newer one."""
         user = self._user
         user._check_process()
         with user._lock:
@@ -160,9 +160,9 @@ class ConnectedVersion(QueriedVersion):
         return self._nexts[volume]
 
     def refresh(self, prepared: Prepared) -> Tuple[List[int], List[int]]:
-        """Works as in a version of a store in this process, up to this version. All nodes that match the query come
-        through the socket, and stay in the program's memory until the query is closed. With `ConnectedPass.watch`, only
-        the changes come through the socket."""
+        """Works as it does in a version of a store in this process, up to this version. All nodes that match the query are sent
+        through the socket, and remain in the program's memory until the query is closed. With `ConnectedPass.watch`, only the
+        changes are sent."""
         return refreshed_by_all(prepared, self)
 
     def indices(self) -> Dict[str, Kind]:
@@ -192,7 +192,7 @@ class ConnectedVersion(QueriedVersion):
         return columns
 
     def _fill(self, columns: List[List[Optional[Value]]], nodes: List[int], names: List[str]) -> None:
-        """Adds the values of all nodes to the columns with these names."""
+        """Appends the values of all nodes to the columns with these names."""
         done = 0
         while done < len(nodes):
             rows = self._first_rows(nodes[done:done + _MOST_NODES], names)
@@ -201,7 +201,7 @@ class ConnectedVersion(QueriedVersion):
             done += len(rows)
 
     def _first_rows(self, nodes: List[int], names: List[str]) -> List[List[Optional[Value]]]:
-        """Returns the values of the first nodes in this list, as many as one reply holds."""
+        """Returns the values of the first nodes in this list, as many as fit in one reply."""
         def read(ok: JSON) -> List[List[Optional[Value]]]:
             rows = [read_row(row) for row in ok["rows"]]
             if not 1 <= len(rows) <= len(nodes) or any(len(row) != len(names) for row in rows):
@@ -234,7 +234,7 @@ class ConnectedVersion(QueriedVersion):
 
 
 def _node_number(node: int) -> int:
-    """Returns a node's number, which fits into 64 bits."""
+    """Returns a node's number, which fits in 64 bits."""
     number = node_number(node)
     if number not in RANGES[Kind.UINT64]:
         raise NoNode(number)
@@ -242,13 +242,13 @@ def _node_number(node: int) -> int:
 
 
 def _asked_node(node: int) -> int:
-    """Returns a node's number as it is sent in a request. If the number doesn't fit into 64 bits, returns 0, which no node has."""
+    """Returns a node's number in the form that requests use, or 0, which no node has, if the number doesn't fit in 64 bits."""
     number = node_number(node)
     return number if number in RANGES[Kind.UINT64] else 0
 
 
 def _asked_name(name: str) -> str:
-    """Returns a name as it is sent in a request. Raises `NotUTF8` if the name has half of a surrogate pair."""
+    """Returns a name in the form that requests use. Raises `NotUTF8` if the name contains half of a surrogate pair."""
     if not isinstance(name, str):
         raise TypeError(f"{name!r} isn't a name: a name is a str")
     encoded(name)
@@ -273,7 +273,7 @@ def _read_attributes(ok: JSON) -> Dict[str, Typed]:
 
 
 def _in_volume(volume: Optional[int]) -> JSON:
-    """Returns the volume parameter, if a volume is given. Raises `NoVolume` if the value can't be a volume."""
+    """Returns the volume parameter, if a volume is given. Raises `NoVolume` if its value can't be a volume."""
     if volume is not None and volume not in RANGES[Kind.UINT32]:
         raise NoVolume(volume, 0)
     return {} if volume is None else {"volume": volume}
@@ -299,15 +299,16 @@ def _read_journal(ok: JSON) -> Tuple[List[Entry], Optional[int]]:
 
 
 def _take_push(watches: "WeakValueDictionary[int, ConnectedWatch]", push: JSON) -> None:
-    """Hands a push to its watch, if that watch still exists. The connection has no reference to the pass, so an unreferenced pass
-    is freed immediately."""
+    """Hands a push to its watch, if that watch still exists. The connection holds no reference to the pass, so an unreferenced
+    pass is freed immediately."""
     watch = watches.get(push["watch"])
     if watch is not None:
         watch._take(push)
 
 
 class ConnectedPass(LockOwner, ThreadPass):
-    """A pass of a server's store: a connection. Calls from several threads wait for each other, so give each thread its own pass."""
+    """A pass of a server's store, which is a connection. Calls from several threads wait for each other, so give each thread
+    its own pass."""
 
     def __init__(self, path: SocketPath, timeout: Optional[float], run: Optional[str] = None, repeat: Optional[float] = None) -> None:
         self._connection: Optional[Connection] = None
@@ -315,7 +316,7 @@ class ConnectedPass(LockOwner, ThreadPass):
         self._committed = 0
         self._is_asking = self._has_pin = self._is_left = False
         self._watches: "WeakValueDictionary[int, ConnectedWatch]" = WeakValueDictionary()
-        self._ended: List[int] = []  # watches that are gone here but that the server still has
+        self._ended: List[int] = []  # watches that are gone here and that the server still has
         self.path = path.path
         """The server's socket."""
         self._socket_path = path
@@ -326,7 +327,7 @@ class ConnectedPass(LockOwner, ThreadPass):
             raise Disconnected(self.path, "the server was restarted")
 
     def _connect(self) -> None:
-        """Connects, and asks the server about itself."""
+        """Connects, and asks the server to describe itself."""
         connection = Connection(self._socket_path, self._timeout, partial(_take_push, self._watches))
         with self._lock:
             self._connection, self._has_pin = connection, False
@@ -337,9 +338,8 @@ class ConnectedPass(LockOwner, ThreadPass):
                 raise
 
     def _until_answered(self, call: Callable[[], _Result]) -> _Result:
-        """Makes a call that can safely be repeated. If the program asked for repeats, makes the call again when the
-        connection fails or the server can't keep writes for now, but not if a pin or a watch would be lost with the old
-        connection."""
+        """Makes a call that can safely be repeated. If the program asked for repeats, retries when the connection fails or the
+        server temporarily can't save writes, but not if the pass would lose a pin or a watch with the old connection."""
         repeats = self._repeat is not None and not self._has_pin and not self._watches
         until = time.monotonic() + (self._repeat or 0)
         while True:
@@ -351,7 +351,7 @@ class ConnectedPass(LockOwner, ThreadPass):
                     raise
 
     def _may_repeat(self, is_refused: bool, until: float) -> bool:
-        """Waits a moment, and connects if necessary. Returns whether the pass is connected before the time is up."""
+        """Waits a moment, and connects if necessary. Returns whether the pass is connected before time runs out."""
         while time.monotonic() < until:
             time.sleep(min(_AGAIN, max(until - time.monotonic(), 0)))
             if is_refused and self._is_open:
@@ -374,11 +374,11 @@ class ConnectedPass(LockOwner, ThreadPass):
             try:
                 return connection.ask(command, parameters, read, is_write, query)
             finally:
-                self._is_asking = False  # set here, because an interrupt may keep a call from being made
+                self._is_asking = False  # cleared here, because an interrupt may keep the call from being made
                 self._unpin_left()
 
     def _begin(self) -> Connection:
-        """Returns the connection, for one call."""
+        """Returns the connection for one call."""
         if self._connection is None:
             raise Closed()
         if self._is_asking:
@@ -392,7 +392,7 @@ class ConnectedPass(LockOwner, ThreadPass):
         return self._connection is not None and self._connection.is_open
 
     def _pin(self) -> Tuple[int, int, Tuple[int, ...], Tuple[int, ...]]:
-        """Pins the pass. Returns the commit number and the next node, and then both for each volume."""
+        """Pins the pass. Returns the commit number, the next node, and both of these for each volume."""
         self._check_process()
         with self._lock:
             self._unpin_left()
@@ -403,15 +403,15 @@ class ConnectedPass(LockOwner, ThreadPass):
             return pinned
 
     def _unpin(self) -> None:
-        """Unpins the pass. The end of the connection does that too."""
+        """Unpins the pass, as ending the connection would too."""
         self._has_pin = False
         if self._is_open:
             with suppress(BrokenConnection):
                 self._ask("unpin", {}, lambda ok: None)
 
     def _leave(self) -> None:
-        """Takes over the pin from a version that is being destroyed. Python may collect the version anywhere, even
-        during a call on this pass; that call then unpins the pass at its end."""
+        """Takes over the pin from a version that is being destroyed. Python may collect the version at any point, even during a
+        call on this pass; that call then unpins the pass when it ends."""
         if not self._is_dead:
             self._is_left = True
             self._unpin_left()
@@ -437,31 +437,31 @@ class ConnectedPass(LockOwner, ThreadPass):
         return self.server.volumes
 
     def another(self) -> ConnectedPass:
-        """Returns a pass of the same store for another thread: a new connection. Any thread may call this. Raises
-        `NoPass` if the server has as many clients as it allows; `NoServer`; or `Disconnected` if the server has been
+        """Returns a pass of the same store for another thread, which is a new connection. Any thread may call this. Raises
+        `NoPass` if the server has reached its maximum number of clients, `NoServer`, or `Disconnected` if the server has been
         restarted since."""
         self._check_process()
         return ConnectedPass(self._socket_path, self._timeout, self.server.run, self._repeat)
 
     def close(self) -> None:
-        """Closes the connection, if it is open, and so returns the pass. The store stays with the server."""
+        """Closes the connection if it is open, which returns the pass. The store remains on the server."""
         if self._connection is not None and not self._is_dead:
             with self._lock:
                 self._connection.close()
                 self._connection = None
 
     def finish(self) -> str:
-        """Raises `Unavailable`: only the server closes its store."""
+        """Raises `Unavailable`, because only the server closes its store."""
         self._check_process()
         raise Unavailable(self.path, "finish")
 
     def meet(self) -> int:
-        """Raises `Unavailable`: a server's pass has seen whatever is in its replies."""
+        """Raises `Unavailable`, because a server's pass has seen whatever is in its replies."""
         self._check_process()
         raise Unavailable(self.path, "meet")
 
     def witness(self) -> Witness:
-        """Raises `Unavailable`: a server's pass has seen whatever is in its replies."""
+        """Raises `Unavailable`, because a server's pass has seen whatever is in its replies."""
         self._check_process()
         raise Unavailable(self.path, "witness")
 
@@ -476,9 +476,9 @@ class ConnectedPass(LockOwner, ThreadPass):
     def change(self, function: Callable[[Change], _Result], attempts: int = ATTEMPTS, *, check_kinds: bool = True,
                tries: int = TRIES, volume: Optional[int] = None) -> _Result:
         def run() -> _Result:
-            # The server itself tries again at Busy and Full.
+            # The server itself retries on Busy and Full.
             return super(ConnectedPass, self).change(function, attempts, check_kinds=check_kinds, tries=1, volume=volume)
-        # A write is repeated until its time is up, so what fails before that has written nothing.
+        # A write is repeated until its time runs out, so a call that fails earlier has written nothing.
         return self._until_answered(run)
 
     def _begin_change(self, check_kinds: bool, volume: Optional[int]) -> Change:
@@ -525,16 +525,16 @@ class ConnectedPass(LockOwner, ThreadPass):
         try:
             return self._until_answered(lambda: self._ask("batch", parameters, read, is_write=True))
         except LineTooLong:
-            batch.to_bytes()  # which raises an error if the batch isn't valid
+            batch.to_bytes()  # raises an error if the batch isn't valid
             raise
 
     def journal(self, tries: int = TRIES) -> str:
         return "".join(map(line_of, self.journal_from()))
 
     def journal_from(self, number: int = 0, tries: int = TRIES, volume: Optional[int] = None) -> Iterator[Entry]:
-        """Yields the journal entries after the first `number`, up to the last entry that exists when the last page is
-        read. So `store.journal_from(version.number)` yields what was written after a snapshot. Each round trip reads a
-        page of some thousand entries."""
+        """Yields the journal entries after the first `number` ones, up to the last entry that exists when the last page is
+        read. So `store.journal_from(version.number)` yields what was written after a snapshot. Each round trip reads a page of
+        a few thousand entries."""
         more: Optional[int] = max(operator.index(number), 0)
         while more is not None and more < 2**64:
             entries, more = self._ask("journal", {"from": more, **_in_volume(volume)}, _read_journal)
@@ -547,7 +547,7 @@ class ConnectedPass(LockOwner, ThreadPass):
         return self._ask("status", {}, _read_statuses)
 
     def reach(self, numbers: Union[int, Sequence[int]], within: float = 5) -> Tuple[int, ...]:
-        """Works as in a store in this process. The server waits, and is asked again before its reply would be late."""
+        """Works as it does for a store in this process. The server waits, and is asked again before its reply would time out."""
         wanted: Union[int, List[int]] = numbers if isinstance(numbers, int) else list(numbers)
         most = _MOST_WAITED if self._timeout is None else min(self._timeout / 2, _MOST_WAITED)
         until = time.monotonic() + within
@@ -565,8 +565,8 @@ class ConnectedPass(LockOwner, ThreadPass):
         return self._ask("reach", parameters, lambda ok: tuple(ok.get("commits", (ok["commit"],))))
 
     def flush(self) -> None:
-        """Returns when everything written before the call is in the server's file. Raises `NotKept` if the server has
-        no file; `saved.Stopped` and `saved.NotSaved`."""
+        """Returns once everything written before the call is in the server's file. Raises `NotKept` if the server has no file,
+        `saved.Stopped` or `saved.NotSaved`."""
         self._ask("flush", {}, lambda ok: None)
 
     def compact(self) -> None:
@@ -584,13 +584,13 @@ class ConnectedPass(LockOwner, ThreadPass):
         return AskedQuery(text, (one.name for one in compared))
 
     def watch(self, query: Optional[str] = None) -> ConnectedWatch:
-        """Works as in a store in this process. The server pushes the changes. Raises a `QueryError`, or `TooManyWatches`."""
+        """Works as it does for a store in this process, but the server pushes the changes. Raises a `QueryError` or `TooManyWatches`."""
         return ConnectedWatch(self, query)
 
     def fileno(self) -> int:
-        """Returns the socket's descriptor, for `select` and event loops: if the descriptor is readable, something was
-        pushed for a watch. Before you wait for it, call `Watch.wait(0)` until that call returns None: lines that were
-        already received don't make the descriptor readable."""
+        """Returns the socket's descriptor, for `select` and event loops: it is readable when something was pushed for a watch.
+        Before you wait for that, call `Watch.wait(0)` until it returns None, because lines that were already received don't
+        make the descriptor readable."""
         self._check_process()
         with self._lock:
             if self._connection is None:
@@ -598,7 +598,7 @@ class ConnectedPass(LockOwner, ThreadPass):
             return self._connection.fileno()
 
     def _receive(self, timeout: Optional[float]) -> bool:
-        """Waits for a push. Returns whether one came."""
+        """Waits for a push. Returns whether one arrived."""
         connection = self._begin()
         try:
             return connection.receive_pushes(timeout)
@@ -607,16 +607,16 @@ class ConnectedPass(LockOwner, ThreadPass):
             self._unpin_left()
 
     def _end_watches(self) -> None:
-        """Ends the watches that nothing refers to any more."""
+        """Ends the watches that are no longer referenced."""
         while self._ended:
             with suppress(NoWatch):
                 self._ask("unwatch", {"watch": self._ended.pop()}, lambda ok: None)
 
 
 class ConnectedWatch(Watch):
-    """A watch whose changes the server pushes. Any call on the pass receives what was pushed, and the watch keeps these
-    changes until it returns them. The server disconnects a program that makes no call for half a minute while more is
-    pushed than the socket can hold.
+    """A watch whose changes the server pushes. Any call on the pass receives pushed changes, and the watch keeps them until it
+    returns them. The server disconnects a program that makes no call for half a minute while more is pushed than the socket can
+    hold.
 
     `Prepared` and `Version.refresh` work without pushes."""
 
@@ -625,9 +625,9 @@ class ConnectedWatch(Watch):
         self._user = user
         self._created: Set[int] = set()
         self._removed: Set[int] = set()
-        self._is_partial = self._is_new = False  # whether another push for the same commit is due, and whether there is something to return
-        self._last = 0  # the commit that everything received so far leads to
-        self._error: Optional[Error] = None  # what has ended the watch
+        self._is_partial = self._is_new = False  # whether the commit has another push to come; whether there is anything to return
+        self._last = 0  # the commit that the changes received so far lead to
+        self._error: Optional[Error] = None  # the error that ended the watch
         self._number: Optional[int] = None
         parameters = {} if query is None else {"query": query}
         if query is not None:
@@ -647,7 +647,7 @@ class ConnectedWatch(Watch):
             self._user._ended.append(self._number)
 
     def _read_first(self, ok: JSON) -> None:
-        """Takes the first answer. From then on pushes come, even before the call ends."""
+        """Takes the first answer. From then on pushes arrive, even before the call ends."""
         nodes = ok.get("nodes")
         if nodes is not None:
             self._created.update(read_nodes(nodes))
@@ -657,7 +657,7 @@ class ConnectedWatch(Watch):
         self._user._watches[self._number] = self
 
     def _take(self, push: JSON) -> bool:
-        """Takes changes. Returns whether more belong to them."""
+        """Takes changes. Returns whether the same commit has more."""
         error = push.get("error")
         if error is not None:
             self._error, self._number = error_of(self._user.path, error, self.query), None
@@ -670,7 +670,7 @@ class ConnectedWatch(Watch):
         return self._is_partial
 
     def _check_room(self, nodes: int) -> None:
-        """Raises a ValueError if this many nodes don't fit in the server's store, where each node takes at least one word of a page."""
+        """Raises a ValueError if this many nodes can't fit in the server's store, where each node takes at least one word of a page."""
         pages = self._user.server.pages * self._user.server.volumes
         if nodes > pages * _WORDS:
             raise ValueError(f"the server pushed more nodes than its {pages:,} pages have room for")
@@ -681,7 +681,7 @@ class ConnectedWatch(Watch):
         return changes
 
     def _named(self, error: NotCovered) -> NotCovered:
-        """Returns the error for a query that needs another index, with the names that have an index."""
+        """Returns the error for a query that needs another index, with the names of the existing indices."""
         error.indices = tuple(self._user._ask("indices", {}, _read_indices))
         return error
 
@@ -696,9 +696,9 @@ class ConnectedWatch(Watch):
         return self._number
 
     def refresh(self) -> Changes:
-        """Returns what changed since a call on this watch last returned something, up to what the pass's reads see now:
-        the snapshot that the pass is pinned to, or otherwise the current snapshot, with everything that this pass has
-        written or seen. Takes a round trip."""
+        """Returns what changed since a call on this watch last returned something, up to what the pass would read now: the
+        snapshot that it is pinned to, or otherwise the current snapshot, which includes everything that this pass has written
+        or seen. Takes a round trip."""
         user = self._user
         user._check_process()
         with user._lock:
@@ -714,10 +714,10 @@ class ConnectedWatch(Watch):
             return self._returned()
 
     def wait(self, timeout: Optional[float] = None) -> Optional[Changes]:
-        """Returns the changes that were pushed and haven't been returned yet. If there are no such changes, waits for
-        up to `timeout` seconds, or forever if `timeout` is None, and returns None if no change came. If `timeout` is 0,
-        takes only what has already arrived. If an error has ended the watch, then raises that error, such as
-        `NotCovered` after the query's index was removed. Other threads' calls on the pass wait meanwhile."""
+        """Returns the changes that were pushed and haven't been returned yet. If there are none, waits up to `timeout` seconds,
+        or forever if `timeout` is None, and returns None if no change arrives. If `timeout` is 0, takes only what has already
+        arrived. If an error has ended the watch, then raises that error, such as `NotCovered` after the query's index was
+        removed. Other threads' calls on the pass wait meanwhile."""
         user = self._user
         user._check_process()
         until = None if timeout is None else time.monotonic() + timeout
@@ -731,7 +731,7 @@ class ConnectedWatch(Watch):
             return self._returned()
 
     def close(self) -> None:
-        """Ends the watch, if it hasn't ended."""
+        """Ends the watch, unless it has already ended."""
         user, number, self._number = self._user, self._number, None
         if number is not None and not user._is_dead:
             with suppress(BrokenConnection), user._lock:
@@ -742,20 +742,20 @@ class ConnectedWatch(Watch):
 
 def connect(path: Union[str, bytes, "os.PathLike[Any]", None] = None, timeout: Optional[float] = TIMEOUT,
             repeat: Optional[float] = None) -> ConnectedPass:
-    """Connects to the server at this socket, or at the one that `SocketPath.find` finds. Use the pass like the one that `open`
-    returns; `help(bestore.connected)` says what differs.
+    """Connects to the server at this socket, or at the one that `SocketPath.find` finds, and returns a pass. Use it like the
+    one that `open` returns; `help(bestore.connected)` explains the differences.
 
-    `timeout` is how many seconds connecting may take, and each reply; None means no limit. If that time passes, the
-    call raises `TimedOut`, and the connection is closed.
+    `timeout` is how many seconds connecting, and each reply, may take; None means no limit. After that time, the call raises
+    `TimedOut`, and the connection is closed.
 
-    `repeat` lets writes survive a restart of the server. A write whose reply doesn't come, or that the server can't keep
-    for now, is sent again for up to this many seconds, on a new connection if necessary, and is made once. `change` runs
-    its function again. A write isn't repeated while the pass is pinned or has watches, because a new connection would
-    lack them. Numbers for `apply_if` are valid only in the server run that `server.run` names.
+    `repeat` lets writes survive a restart of the server. A write whose reply doesn't arrive, or that the server temporarily
+    can't save, is sent again for up to this many seconds, on a new connection if necessary, and is applied once. `change` runs
+    its function again. A write isn't repeated while the pass is pinned or has watches, because a new connection would lack
+    them. Numbers for `apply_if` are valid only in the server run that `server.run` names.
 
     Raises `NoServer`; `OtherUser` if the socket wasn't named explicitly and the server runs neither as the effective user nor as root;
-    `NoPass` if the server has as many clients as it allows; `NotAllowed` if the server refuses this user; `ProtocolError`, `TimedOut`;
-    a ValueError if `timeout` or `repeat` isn't above 0."""
+    `NoPass` if the server has reached its maximum number of clients; `NotAllowed` if the server refuses this user;
+    `ProtocolError` or `TimedOut`; and a ValueError unless `timeout` and `repeat` are above 0."""
     if timeout is not None and not timeout > 0:
         raise ValueError(f"a timeout can't be {timeout} seconds; give more than 0")
     if repeat is not None and not repeat > 0:

@@ -1,4 +1,4 @@
-"""The package's errors. Each error number of bestore.h has its own class, with fields for its details."""
+"""The package's errors. Each error number in bestore.h has its own class, with fields for the details."""
 
 from __future__ import annotations
 
@@ -13,12 +13,12 @@ class Error(Exception):
     """The base class of every exception that the package defines."""
 
     error_class: ErrorClass = ErrorClass.MINE
-    """What a program can do about it."""
+    """What a program can do about the error."""
 
 
 @dataclass(eq=False, repr=False)
 class _Detailed(Error):
-    """An error whose parameters are its fields."""
+    """An error whose parameters become its fields."""
 
     def __post_init__(self) -> None:
         self.args = tuple(getattr(self, field.name) for field in fields(self))
@@ -26,7 +26,7 @@ class _Detailed(Error):
 
 @dataclass(eq=False, repr=False)
 class _OfPath(_Detailed):
-    """An error from a file or a server. Its text begins with the path."""
+    """An error from a file or a server. Its message begins with the path."""
 
     _summary: ClassVar[str] = "it can't be used"  # to be formatted with the fields
     path: str
@@ -42,7 +42,7 @@ class _OfPath(_Detailed):
 
 
 class Forked(Error):
-    """The handle was made before this process was forked. It belongs to the parent, and is dead here."""
+    """The handle was created before this process was forked. It belongs to the parent, and is dead here."""
 
     error_class = ErrorClass.GONE
 
@@ -51,7 +51,7 @@ class Forked(Error):
 
 
 class Nested(Error):
-    """The function of a change writes through the pass of that change, so the change could never be committed."""
+    """A change's function writes through the change's own pass, so the change could never be committed."""
 
     def __str__(self) -> str:
         return "this pass is in a change: add the operation to the change, or write through another pass"
@@ -59,8 +59,8 @@ class Nested(Error):
 
 @dataclass(eq=False, repr=False)
 class TooManyAttempts(_Detailed):
-    """Other writes came between the snapshot and the commit of a change at every attempt. Nothing was written. The last
-    `Conflict` is its `__cause__`."""
+    """On every attempt, another write came between the change's snapshot and its commit. Nothing was written. `__cause__` is
+    the last `Conflict`."""
 
     error_class = ErrorClass.RETRY
 
@@ -76,9 +76,9 @@ class NoVolume(_Detailed):
     """The store has no such volume, or the call has to name a volume because the store has several."""
 
     volume: Optional[int]
-    """The volume, or None if the call names none."""
+    """The volume, or None if the call doesn't name one."""
     volumes: int
-    """How many there are."""
+    """How many volumes there are."""
 
     def __str__(self) -> str:
         if self.volume is None:
@@ -88,12 +88,12 @@ class NoVolume(_Detailed):
 
 @dataclass(eq=False, repr=False)
 class OtherVolume(_Detailed, ValueError):
-    """An operation names a node outside the volume that is written. Each write goes to one volume."""
+    """An operation names a node in a volume other than the one being written. Each write goes to a single volume."""
 
     volume: int
-    """The volume that is written."""
+    """The volume being written."""
     operation: Optional[int]
-    """The operation, from 0."""
+    """The operation, counting from 0."""
 
     def __str__(self) -> str:
         return (f"a node isn't in volume {self.volume}, which the batch is for (operation {self.operation}, counted from 0); "
@@ -102,11 +102,11 @@ class OtherVolume(_Detailed, ValueError):
 
 @dataclass(eq=False, repr=False)
 class PartialIndex(_Detailed, ValueError):
-    """An index has to be made in all volumes, by a batch with no other operations. A batch that names a volume may make the index in that
-    volume."""
+    """An index has to be created in all volumes, by a batch with no other operations. To create an index in one volume only,
+    name that volume in the write."""
 
     operation: Optional[int]
-    """The first operation that makes or removes an index, from 0."""
+    """The first operation that creates or removes an index, counting from 0."""
 
     def __str__(self) -> str:
         return (f"an index has to be made or removed in all volumes (operation {self.operation}, counted from 0); it needs a batch without "
@@ -128,9 +128,9 @@ class NotReached(Error):
     def __init__(self, expected: Sequence[int], found: Sequence[int]) -> None:
         super().__init__(expected, found)
         self.expected = tuple(expected)
-        """How many entries the journal of each volume should have had."""
+        """How many entries each volume's journal should have had."""
         self.found = tuple(found)
-        """How many it had."""
+        """How many entries it had."""
 
     def __str__(self) -> str:
         return f"the journals have {list(self.found)} entries, and not {list(self.expected)} yet; ask again"
@@ -141,7 +141,7 @@ class BadBytes(_Detailed, ValueError):
     """The bytes aren't a valid batch."""
 
     offset: int
-    """The first byte, from 0, of the part that can't be read."""
+    """The first byte of the part that can't be read, counting from 0."""
     reason: str
 
     def __str__(self) -> str:
@@ -149,14 +149,14 @@ class BadBytes(_Detailed, ValueError):
 
 
 class Refusal(Error):
-    """A call of the library returned this error, and wrote nothing. Unknown details are None."""
+    """A library call returned this error and wrote nothing. Unknown details are None."""
 
     number: int = 0
     """The error's number, one of `ErrorNumber`."""
     meaning: str = "the library has an error that this package doesn't know"
     """What was wrong."""
     advice: str = ""
-    """What would be right, or an empty text."""
+    """What would be right, or an empty string."""
 
     _classes: ClassVar[Dict[int, Type[Refusal]]] = {}
 
@@ -170,37 +170,37 @@ class Refusal(Error):
     def __init__(self, carried: Optional[int] = None, query: Optional[str] = None, listed: Optional[str] = None) -> None:
         super().__init__(carried, query, listed)
         self.query = query
-        """The text of the query, if it was asked as text."""
+        """The query's text, if it was given as text."""
         self.pass_number: Optional[int] = None
         """For `Busy`: the number of the pass that is writing."""
         self.least: Optional[int] = None
-        """For `Full`: the commit number of the oldest snapshot that a pass may still read. Its pages are kept."""
+        """For `Full`: the commit number of the oldest snapshot that a pass may still read, whose pages are kept."""
         self.offset: Optional[int] = None
-        """For a `QueryError`: the byte of the query's text, in UTF-8 and from 0, at which the error is."""
+        """For a `QueryError`: the position of the error in the query's text, in bytes of UTF-8, counting from 0."""
         self.item: Optional[int] = None
-        """For items that can't be read or don't form a query: the item, from 0, at which that becomes apparent."""
+        """For items that can't be read or don't form a query: the item at which that becomes apparent, counting from 0."""
         self.operation: Optional[int] = None
-        """For a batch that can't be read: the first operation, from 0, that can't."""
+        """For a batch that can't be read: the first operation that is invalid, counting from 0."""
         self.volume: Optional[int] = None
-        """The volume that has the error, if the store has several."""
+        """The volume in which the error occurred, if the store has several."""
         self._carry(carried, listed)
 
     def _carry(self, carried: Optional[int], listed: Optional[str]) -> None:
-        """Stores the error's details. `listed` says what the call takes a list of: "item" or "operation"."""
+        """Stores the error's details. `listed` says what the call's list contains: "item" or "operation"."""
 
     @property
     def _what(self) -> str:
-        """Returns what was wrong, with the details."""
+        """Returns what was wrong, with details."""
         return self.meaning
 
     @property
     def summary(self) -> str:
-        """What was wrong, and what would be right, in one line."""
+        """What was wrong and what would be right, in one line."""
         return f"{self._what}; {self.advice}" if self.advice else self._what
 
     @property
     def _shown(self) -> str:
-        """Returns the summary, with the volume if it is known."""
+        """Returns the summary, with the volume if known."""
         return self.summary if self.volume is None else f"volume {self.volume}: {self.summary}"
 
     def __str__(self) -> str:
@@ -208,7 +208,7 @@ class Refusal(Error):
 
 
 def refusal(number: int, carried: Optional[int] = None, query: Optional[str] = None, listed: Optional[str] = None) -> Refusal:
-    """Returns the error with this number, made from its details, the query's text, and what the call takes a list of."""
+    """Returns the error with this number, given its details, the query's text, and what the call's list contains."""
     found = Refusal._classes.get(number)
     if found is not None:
         return found(carried, query, listed)
@@ -218,7 +218,7 @@ def refusal(number: int, carried: Optional[int] = None, query: Optional[str] = N
 
 
 class _OfList(Refusal):
-    """An error in one operation or item, if the call takes a list of operations or items."""
+    """An error in one operation or item of a call that takes a list of them."""
 
     def _carry(self, carried: Optional[int], listed: Optional[str]) -> None:
         if listed is not None:
@@ -238,8 +238,8 @@ def columns_of(text: str) -> int:
 
 
 def pointed(text: str, column: int, width: int = 8192) -> str:
-    """Returns the text, and below it a caret under one of its characters. If the text is wider than `width` columns (4 or
-    more), only the part around the caret is shown, between `…`."""
+    """Returns the text with a caret below one of its characters. If the text is wider than `width` columns (4 or more), only
+    the part around the caret is shown, between `…`."""
     text = "".join(character if character.isprintable() else " " for character in text)
     first, last = 0, len(text)
     if columns_of(text) > width:
@@ -256,14 +256,14 @@ class QueryError(Refusal):
 
     @property
     def column(self) -> Optional[int]:
-        """The position in the query's text, from 0, of the character that contains the byte with the error."""
+        """The position, counting from 0, of the character in the query's text that contains the byte with the error."""
         if self.query is None or self.offset is None:
             return None
         return len(self.query.encode(errors="surrogatepass")[:self.offset].decode(errors="ignore"))
 
     def shown(self, width: int = 8192) -> Optional[str]:
-        """Returns the query with a caret under the character with the error, in two lines, or None if that character
-        isn't known. If the query is wider than `width` columns, only the part around the caret is shown."""
+        """Returns the query with a caret under the character with the error, in two lines, or None if that character is
+        unknown. If the query is wider than `width` columns, only the part around the caret is shown."""
         if self.query is None or self.column is None:
             return None
         return pointed(self.query, self.column, width)
@@ -326,14 +326,14 @@ class Busy(Refusal, number=ErrorNumber.BUSY):
 
 class NoNode(Refusal, KeyError, number=ErrorNumber.NO_NODE):
     nodes: Tuple[int, ...] = ()
-    """The node that isn't there, or every node that the write names if it names several."""
+    """The missing node, or all nodes that the write names if it names several."""
 
     def _carry(self, carried: Optional[int], listed: Optional[str]) -> None:
         if carried is not None and listed is None:
             self.nodes = (carried,)
 
     def _name(self, node: int, name: str) -> None:
-        """Records what was looked for."""
+        """Records what was looked up."""
         self.nodes = (node,)
 
     @property
@@ -350,12 +350,12 @@ class NoNode(Refusal, KeyError, number=ErrorNumber.NO_NODE):
 
 class NoAttribute(Refusal, KeyError, number=ErrorNumber.NO_ATTRIBUTE):
     node: Optional[int] = None
-    """The node that lacks it, if that is known."""
+    """The node that lacks the attribute, if known."""
     name: Optional[str] = None
     """The attribute's name."""
 
     def _name(self, node: int, name: str) -> None:
-        """Records what was looked for."""
+        """Records what was looked up."""
         self.node, self.name = node, name
 
     @property
@@ -365,9 +365,9 @@ class NoAttribute(Refusal, KeyError, number=ErrorNumber.NO_ATTRIBUTE):
 
 class NoIndex(Refusal, number=ErrorNumber.NO_INDEX):
     name: Optional[str] = None
-    """The name that has no index, if that is known."""
+    """The name that has no index, if known."""
     indices: Tuple[str, ...] = ()
-    """The names that have one, if `name` is known."""
+    """The names that have an index, if `name` is known."""
 
     @property
     def _what(self) -> str:
@@ -391,7 +391,7 @@ class Full(Refusal, number=ErrorNumber.FULL):
 
 
 class NotCovered(QueryError, number=ErrorNumber.NOT_COVERED):
-    """`offset` or `item` is the position of the first comparison whose name has no index."""
+    """The query needs another index. `offset` or `item` is the position of the first comparison whose name has no index."""
 
     missing: Optional[str] = None
     """The name of that comparison."""
@@ -413,14 +413,14 @@ class NoKind(_OfList, ValueError, number=ErrorNumber.NO_KIND):
 
 
 class QueryNotUTF8(_AtPlace, NotUTF8):
-    """The text of a query has half of a surrogate pair, so it can't be encoded in UTF-8."""
+    """A query's text contains half of a surrogate pair, so it can't be encoded in UTF-8."""
 
     meaning = "the query has half of a surrogate pair here, which isn't valid UTF-8"
 
 
 class BadCursor(Refusal, ValueError, number=ErrorNumber.BAD_CURSOR):
     reason: Optional[str] = None
-    """Why no page can begin there, if that is known."""
+    """Why no page can begin there, if known."""
 
     @property
     def summary(self) -> str:
@@ -429,7 +429,7 @@ class BadCursor(Refusal, ValueError, number=ErrorNumber.BAD_CURSOR):
 
 class NoRoom(Refusal, ValueError, number=ErrorNumber.NO_ROOM):
     limit: Optional[int] = None
-    """How many nodes were asked for."""
+    """How many nodes were requested."""
 
     @property
     def _what(self) -> str:
@@ -437,12 +437,12 @@ class NoRoom(Refusal, ValueError, number=ErrorNumber.NO_ROOM):
 
 
 class WrongKind(Refusal, TypeError, number=ErrorNumber.WRONG_KIND):
-    """A change sets a value whose kind isn't its index's kind, so no query would find it."""
+    """A change sets a value whose kind differs from its index's kind, so no query would find it."""
 
     name: Optional[str] = None
-    """The attribute's name, if that is known, and then both kinds are."""
+    """The attribute's name, if known. Both kinds are then known too."""
     kind: Optional[str] = None
-    """The name of the value's kind, as "INT64"."""
+    """The name of the value's kind, such as "INT64"."""
     index_kind: Optional[str] = None
     """The name of the index's kind."""
 
@@ -458,7 +458,7 @@ class Conflict(Refusal, number=ErrorNumber.CONFLICT):
     expected: Optional[int] = None
     """How many entries the journal should have had."""
     found: Optional[int] = None
-    """How many it had."""
+    """How many entries it had."""
 
     def _carry(self, carried: Optional[int], listed: Optional[str]) -> None:
         self.found = carried
@@ -469,7 +469,7 @@ class Conflict(Refusal, number=ErrorNumber.CONFLICT):
 
 
 def no_index(name: str, indices: Iterable[str]) -> NoIndex:
-    """Returns the error for ordering by a name that has no index. `indices` are those that exist."""
+    """Returns the error for ordering by a name that has no index. `indices` lists the existing indices."""
     error = NoIndex()
     error.name, error.indices = name, tuple(indices)
     return error
@@ -497,7 +497,7 @@ def no_room(limit: int) -> NoRoom:
 
 
 def encoded(text: str) -> bytes:
-    """Encodes a name or a value. Raises `NotUTF8` if it has half of a surrogate pair."""
+    """Encodes a name or a value. Raises `NotUTF8` if it contains half of a surrogate pair."""
     try:
         return text.encode()
     except UnicodeEncodeError:
@@ -505,7 +505,7 @@ def encoded(text: str) -> bytes:
 
 
 def encoded_query(text: str) -> bytes:
-    """Encodes a query's text. Raises `QueryNotUTF8` if it has half of a surrogate pair."""
+    """Encodes a query's text. Raises `QueryNotUTF8` if it contains half of a surrogate pair."""
     try:
         return text.encode()
     except UnicodeEncodeError as error:

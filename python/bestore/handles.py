@@ -1,4 +1,4 @@
-"""Handles: who owns a handle, and what happens to it in a forked child."""
+"""Handles: who owns them, and what happens to them in a forked child."""
 
 from __future__ import annotations
 
@@ -14,8 +14,8 @@ _Self = TypeVar("_Self", bound="Owner")
 class Owner:
     """Owns a handle and releases it on `close`, at the end of a `with`, or when the owner is destroyed.
 
-    A handle takes one call at a time, so calls from several threads wait for each other. In a forked child the handle is
-    dead: each call raises `Forked`, and releasing it does nothing. The child can make its own handles."""
+    A handle takes one call at a time, so calls from several threads wait for each other. In a forked child the handle is dead:
+    each call raises `Forked`, and releasing it does nothing. The child can create its own handles."""
 
     def close(self) -> None:
         raise NotImplementedError
@@ -32,7 +32,7 @@ class Owner:
 
 
 class LockOwner(Owner):
-    """Owns something that isn't part of the library, such as a connection, with a lock that guards it."""
+    """Owns something outside the library, such as a connection, and guards it with a lock."""
 
     _forks: ClassVar[int] = 0
 
@@ -43,12 +43,12 @@ class LockOwner(Owner):
 
     @property
     def _is_dead(self) -> bool:
-        """Whether this process was forked since the handle was made."""
+        """Whether this process was forked after the handle was created."""
         return self._made_after != LockOwner._forks
 
     def _check_process(self) -> None:
-        """Raises `Forked` if the handle is dead. Call this before each wait for the lock, since the lock's owner may
-        not be in this process."""
+        """Raises `Forked` if the handle is dead. Call this before each wait for the lock, because the thread that holds it may
+        not exist in this process."""
         if self._made_after != LockOwner._forks:
             raise Forked()
 

@@ -1,4 +1,4 @@
-"""A store in this process: its passes and versions, through calls of the library."""
+"""A store in this process: its passes and versions, which call the library."""
 
 from __future__ import annotations
 
@@ -33,24 +33,24 @@ _BUSY, _FULL = int(ErrorNumber.BUSY), int(ErrorNumber.FULL)
 
 
 def check_one_volume(volume: Optional[int]) -> None:
-    """Raises `NoVolume` if a call names a volume other than the only one."""
+    """Raises `NoVolume` if a call names a volume other than the store's only volume."""
     if volume:
         raise NoVolume(volume, 1)
 
 
 class _Cursor(HandleOwner):
-    """Tracks how many of the operations that rebuild a version have been returned."""
+    """Keeps track of how many of the operations that rebuild a version have been returned."""
 
     def __init__(self) -> None:
         super().__init__(CURSOR)
 
     def close(self) -> None:
-        """Releases the cursor, if it has been started."""
+        """Releases the cursor if it has been started."""
         self._give_up(calls.bes_leave)
 
 
 class LocalVersion(_native.Reader, Version):
-    """A version of a store in this process. Most of its calls are implemented by the extension."""
+    """A version of a store in this process. The extension implements most of its calls."""
 
     _user: LocalPass
     _query_part = Version.query
@@ -117,14 +117,14 @@ class LocalVersion(_native.Reader, Version):
             return super().refresh(prepared)  # which raises
         prepared._check_process()
         with prepared._refreshing:
-            # The library reads the entries since the last refresh, so that refresh must have been in this store.
+            # The library reads the entries since the last refresh, so the last refresh must have been in this store.
             if prepared._refreshed_in is self._user._store:
                 return self._refreshed(prepared, self._refresh_changed)
             return self.refresh(prepared)
 
     def _refreshed(
             self, prepared: Prepared, refresh: Callable[[Prepared], Tuple[List[int], List[int]]]) -> Tuple[List[int], List[int]]:
-        """Returns what changed, according to one of the calls that refresh a query in the library."""
+        """Returns what changed, according to `refresh`, one of the calls that refresh a query in the library."""
         prepared._check_process()
         with prepared._refreshing:
             came, went = refresh(prepared)
@@ -160,7 +160,7 @@ class LocalVersion(_native.Reader, Version):
 
 
 class LocalWitness(HandleOwner, Witness):
-    """A witness of a pass of a store in this process."""
+    """A witness for a pass of a store in this process."""
 
     def __init__(self, store: object) -> None:
         super().__init__(WITNESS)
@@ -173,18 +173,18 @@ class LocalWitness(HandleOwner, Witness):
 class LocalPass(HandleOwner, Pass):
     """A pass of a store in this process."""
 
-    _store: Commits  # the same for all passes of one store
+    _store: Commits  # shared by all passes of a store
 
     def __init__(self) -> None:
         super().__init__(PASS)
 
     def _open_by(self, user: LocalPass) -> None:
-        """Opens the handle as another pass of `user`'s store."""
+        """Opens the handle as another pass of the store that `user` belongs to."""
         self._store = user._store
         check(user._call(calls.bes_another, self._pointer))
 
     def _tried(self, tries: int, call: Callable[..., int], *arguments: Any) -> int:
-        """Makes a call, up to this many times while another pass is writing, and at least once."""
+        """Makes a call at least once, and up to this many times while another pass is writing."""
         answer = self._call(call, *arguments)
         if answer == _BUSY:
             back = StandingBack()
@@ -194,8 +194,8 @@ class LocalPass(HandleOwner, Pass):
         return answer
 
     def _repeated(self, tries: int, call: Callable[..., _Answered], *arguments: Any) -> _Answered:
-        """Makes a call in the extension, with tries like `_tried`. Such a call also returns the details that belong to the library's
-        number."""
+        """Makes a call in the extension, with retries as in `_tried`. Such a call also returns the details that go with the
+        library's number."""
         answered = call(*arguments)
         if answered[0] == _BUSY:
             back = StandingBack()
@@ -205,20 +205,20 @@ class LocalPass(HandleOwner, Pass):
         return answered
 
     def _write(self, batch: Batch, tries: int, expected: Optional[int]) -> Tuple[int, List[int]]:
-        """Writes a batch, with up to `tries` tries while another pass is writing. With more than one try, if no page is
-        free, it also waits for other passes to unpin older snapshots."""
+        """Writes a batch, trying up to `tries` times while another pass is writing. With more than one try, it also waits for
+        other passes to unpin older snapshots if no page is free."""
         taken = native(batch)
         if expected is None:
             before: Tuple[int, ...] = ()
         else:
-            before = (expected if expected in RANGES[Kind.UINT64] else 2**64 - 1,)  # which no journal has
+            before = (expected if expected in RANGES[Kind.UINT64] else 2**64 - 1,)  # a number that no journal has
         answer, number, made = self._apply(taken, *before)
         if answer != 0:
             return self._written_at_last(tries, answer, number, taken, *before)
         return number, made
 
     def _written_at_last(self, tries: int, answer: int, number: int, batch: NativeBatch, *before: int) -> Tuple[int, List[int]]:
-        """Continues `_write` after the first attempt has failed with this error."""
+        """Continues `_write` after the first attempt failed with this error."""
         pauses = 0
         made: List[int] = []
         if answer == _BUSY and tries > 1:
@@ -254,8 +254,8 @@ class LocalPass(HandleOwner, Pass):
         return error.least is not None and self._is_kept_by_another(error.least)
 
     def _is_kept_by_another(self, least: int) -> bool:
-        """Returns whether pages may become free for a write that found no free page because the pages of the commit
-        number `least` and later were kept: another pass is, or was, the oldest active reader."""
+        """Returns whether pages may become free for a write that found none because the pages of commit number `least` and
+        later were kept. That is so if another pass is, or was, the oldest active reader."""
         try:
             status = self.status()
         except Refusal:
@@ -291,7 +291,7 @@ class LocalPass(HandleOwner, Pass):
 
     def close(self) -> None:
         self._give_up(calls.bes_close)
-        self._store.wake()  # a thread that waits with this pass finds the pass closed
+        self._store.wake()  # a thread waiting with this pass finds the pass closed
 
     def finish(self) -> str:
         return self._text(1, calls.bes_finish)
@@ -322,7 +322,7 @@ class LocalPass(HandleOwner, Pass):
         return self._text(tries, calls.bes_journal)
 
     def _text(self, tries: int, call: Callable[..., int]) -> str:
-        """Returns the text that a call writes. Makes the call again until the buffer is large enough for the whole text."""
+        """Returns the text that a call writes. Repeats the call until the buffer is large enough for the whole text."""
         count, room = ctypes.c_uint64(), 65536
         while True:
             written = ctypes.create_string_buffer(room)

@@ -1,4 +1,4 @@
-"""Nodes in a store that has several volumes. Each node is one integer: its volume * 10^14 + its number within the volume."""
+"""Nodes in a store that has several volumes. Each node is an integer: its volume * 10^14 + its number within the volume."""
 
 from __future__ import annotations
 
@@ -9,13 +9,13 @@ from .operations import MAKE_INDEX, NEW, REMOVE, REMOVE_INDEX, SET, UNSET, Batch
 from .values import plain
 
 NUMBERS = 10**14
-"""How many numbers a volume has. A power of ten, so that people can read the volume in a node's digits."""
+"""How many numbers a volume has. It is a power of ten so that people can read the volume from a node's digits."""
 MOST_VOLUMES = 64
-"""The maximum number of volumes. A node is thus below 2^53, which JSON keeps exactly."""
+"""The maximum number of volumes. So a node is less than 2^53, and JSON represents it exactly."""
 
 
 def volume_of(node: int) -> int:
-    """Returns the volume of a node, from 0. In a store without volumes, all nodes are in volume 0."""
+    """Returns a node's volume, counting from 0. In a store without volumes, all nodes are in volume 0."""
     return node // NUMBERS
 
 
@@ -30,9 +30,9 @@ def node_in(volume: int, number: int) -> int:
 
 
 def within(batch: Batch, volume: Optional[int] = None) -> Tuple[Optional[int], Batch]:
-    """Returns the volume that a batch is written to, and the batch with its nodes' numbers within that volume. The
-    volume is `volume` if it is given, otherwise the volume of the nodes that the operations name, or None if the
-    operations name no node. Raises `OtherVolume` if an operation names a node in another volume."""
+    """Returns the volume that a batch is written to, and the batch with its nodes' numbers within that volume. The volume is
+    `volume` if given, otherwise the volume of the nodes that the operations name, or None if they name no node. Raises
+    `OtherVolume` if an operation names a node in another volume."""
     moved = Batch()
     for place, (kind, code, node, number, name, value) in enumerate(batch._parts()):
         if kind in (REMOVE, SET, UNSET) or kind == NEW and node != 0:
@@ -56,7 +56,7 @@ def of_volume(batch: Batch, volume: int) -> Batch:
 
 
 def node_number(node: SupportsIndex) -> int:
-    """Returns a node as a plain int. Raises a TypeError if it isn't an integer."""
+    """Returns a node as a plain int. Raises a TypeError if the node isn't an integer."""
     try:
         return plain(node)
     except TypeError:
@@ -64,8 +64,8 @@ def node_number(node: SupportsIndex) -> int:
 
 
 def name_missing(error: Union[NoNode, NoAttribute], batch: Batch) -> None:
-    """Adds to an error the nodes that a refused batch names, one of which doesn't exist, or the attribute that the
-    batch removes, if it removes one."""
+    """Adds details to a refused batch's error: the nodes that the batch names, one of which doesn't exist, or the attribute
+    that it removes, if it removes one."""
     parts = batch._parts()
     if isinstance(error, NoNode):
         error.nodes = tuple(dict.fromkeys(node for kind, _, node, *_ in parts if kind in (REMOVE, SET, UNSET)))
@@ -76,5 +76,5 @@ def name_missing(error: Union[NoNode, NoAttribute], batch: Batch) -> None:
 
 
 def indices_in(batch: Batch) -> List[int]:
-    """Returns which operations make or remove indices."""
+    """Returns which operations create or remove indices."""
     return [place for place, parts in enumerate(batch._parts()) if parts[0] in (MAKE_INDEX, REMOVE_INDEX)]

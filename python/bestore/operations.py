@@ -1,4 +1,4 @@
-"""The operations of a write, and batches of them."""
+"""A write's operations, and batches of operations."""
 
 from __future__ import annotations
 
@@ -14,15 +14,15 @@ NEW, REMOVE, SET, UNSET, MAKE_INDEX, REMOVE_INDEX = range(6)
 MOST_OPERATIONS = 64
 """The maximum number of operations in a write."""
 BYTES_OF_A_BATCH = MOST_OPERATIONS * (63 + 255)
-"""The maximum number of bytes in their names and values."""
+"""The maximum number of bytes in a write's names and values."""
 
 
 @dataclass(frozen=True)
 class NewNode:
-    """Makes a node."""
+    """Creates a node."""
 
     node: int = 0
-    """In an entry of the journal, the number of the node that was made; otherwise unused."""
+    """In a journal entry, the number of the node that was created; otherwise unused."""
 
 
 @dataclass(frozen=True)
@@ -34,7 +34,7 @@ class RemoveNode:
 
 @dataclass(frozen=True)
 class SetAttribute:
-    """Sets a node's attribute. The kind None means the value's own kind, as in `Batch.set`."""
+    """Sets a node's attribute. If the kind is None, the value's own kind is used, as in `Batch.set`."""
 
     node: int
     name: str
@@ -52,7 +52,7 @@ class UnsetAttribute:
 
 @dataclass(frozen=True)
 class MakeIndex:
-    """Makes an index."""
+    """Creates an index."""
 
     name: str
     kind: Kind
@@ -69,18 +69,18 @@ Operation = Union[NewNode, RemoveNode, SetAttribute, UnsetAttribute, MakeIndex, 
 
 
 Parts = Tuple[int, int, int, int, bytes, bytes]
-"""An operation's kind, type code, node and number, its name, and its value unless that is a number."""
+"""An operation's kind, type code, node, number, name, and value unless that is a number."""
 _Self = TypeVar("_Self", bound="Batch")
 
 
 class Batch:
     """Up to 64 operations, of which `Pass.apply` applies all or none. A batch's methods return the batch, so calls can be chained.
 
-    `for operation in batch` iterates over the operations, `len(batch)` is their number, and `Batch(operations)` makes a batch from
-    operations."""
+    `for operation in batch` iterates over the operations, `len(batch)` is the number of operations, and `Batch(operations)`
+    makes a batch from operations."""
 
     _made: ClassVar[Optional[Type[Batch]]] = None
-    """The class of new batches once a store of this process has been opened: the extension's, which is faster."""
+    """The class of new batches once a store has been opened in this process: the extension's class, which is faster."""
 
     def __new__(cls, operations: Iterable[Operation] = ()) -> Batch:
         return super().__new__(Batch._made or cls if cls is Batch else cls)
@@ -103,7 +103,7 @@ class Batch:
     def __reduce__(self) -> Tuple[Callable[..., Batch], Tuple[Type[Batch], bytes, bytes]]:
         kind = type(self)
         if kind.__module__.startswith(f"{__package__}."):
-            kind = Batch  # the process that reads it chooses between the plain and the native class
+            kind = Batch  # the process that unpickles it chooses between the plain and the native class
         return _copied, (kind, self._raw, self._bytes)
 
     def _add_encoded(self: _Self, kind: int, node: int, name: bytes, code: int, number: int, value: bytes, /) -> _Self:
@@ -116,7 +116,7 @@ class Batch:
         return list(self._list)
 
     def _put(self, operations: bytes, texts: bytes, /) -> None:
-        """Replaces the batch's contents with these operations, which are in the library's form."""
+        """Replaces the batch's contents with these operations in the library's form."""
         self._list = []
         for kind, code, node, number, name_at, name_length, value_at, value_length in _RAW.iter_unpack(operations):
             if max(name_at + name_length, value_at + value_length) > len(texts):
@@ -126,7 +126,7 @@ class Batch:
 
     @property
     def _bytes(self) -> bytes:
-        """Returns the bytes that contain the names and values."""
+        """Returns the bytes of the names and values."""
         return b"".join(name + value for *_, name, value in self._list)
 
     @property
@@ -139,7 +139,7 @@ class Batch:
         return b"".join(taken)
 
     def new_node(self: _Self) -> _Self:
-        """Makes a node."""
+        """Creates a node."""
         return self._add_encoded(NEW, 0, b"", 0, 0, b"")
 
     def remove_node(self: _Self, node: int) -> _Self:
@@ -147,8 +147,8 @@ class Batch:
         return self._add_encoded(REMOVE, node, b"", 0, 0, b"")
 
     def set(self: _Self, node: int, name: str, value: Value, kind: Optional[int] = None) -> _Self:
-        """Sets an attribute. If `kind` is None, a str is STRING, bytes are RAW, an `Int32` or the like has the kind
-        that it is named after, and any other int is INT64."""
+        """Sets an attribute. If `kind` is None, a str is a STRING, bytes are RAW, an `Int32` or similar class has the kind that
+        it is named after, and any other int is an INT64."""
         code, number, taken = encode_value(value, kind)
         return self._add_encoded(SET, node, _name(name), code, number, taken)
 
@@ -157,7 +157,7 @@ class Batch:
         return self._add_encoded(UNSET, node, _name(name), 0, 0, b"")
 
     def make_index(self: _Self, name: str, kind: int) -> _Self:
-        """Makes an index with this name, for values of this kind. The index gets only attributes that are set from then on."""
+        """Creates an index with this name, for values of this kind. The index receives only attributes that are set from then on."""
         code = operator.index(kind)
         if code not in RANGES[Kind.UINT32]:
             raise NoKind()
@@ -182,13 +182,13 @@ class Batch:
         return self.remove_index(operation.name)
 
     def to_bytes(self) -> bytes:
-        """Returns the batch as bytes, which `from_bytes` and the libraries for C, C++ and Rust read. Raises `BadCount`
+        """Returns the batch as bytes, which `from_bytes` and the libraries for C, C++ and Rust can read. Raises `BadCount`
         unless the batch has 1 to 64 operations, and `NameLength`, `DataLength` or `NoKind` for anything that no write
         accepts."""
         return self._packed()
 
     def _packed(self, nodes: Optional[Sequence[int]] = None) -> bytes:
-        """Returns the batch as bytes. If `nodes` gives the node that each operation made, the operations that make
+        """Returns the batch as bytes. If `nodes` contains the node that each operation created, the operations that create
         nodes have these numbers, as in the journal."""
         if not 1 <= len(self) <= MOST_OPERATIONS:
             raise BadCount()
@@ -220,8 +220,8 @@ class Batch:
 
     @classmethod
     def from_bytes(cls, data: bytes) -> Batch:
-        """Returns the batch that `to_bytes` wrote as these bytes. Raises `BadBytes` if the bytes aren't a valid batch, or if anything
-        follows the batch."""
+        """Returns the batch that `to_bytes` encoded as these bytes. Raises `BadBytes` if the bytes aren't a valid batch, or if
+        anything follows it."""
         reader, batch = _Reader(data), cls()
         reader.read_beginning()
         for _ in range(reader.read_count()):
@@ -231,7 +231,7 @@ class Batch:
 
 
 def _node(node: int) -> int:
-    """Returns a node as a plain int. Raises a TypeError if it isn't an integer, and `NoNode` if it doesn't fit into 64 bits."""
+    """Returns a node as a plain int. Raises a TypeError if the node isn't an integer, and `NoNode` if it doesn't fit in 64 bits."""
     try:
         number = plain(node)
     except TypeError:
@@ -242,14 +242,14 @@ def _node(node: int) -> int:
 
 
 def _name(name: str) -> bytes:
-    """Returns a name in UTF-8. Raises a TypeError if it isn't a name."""
+    """Returns a name in UTF-8. Raises a TypeError if the argument isn't a str."""
     if not isinstance(name, str):
         raise TypeError(f"{name!r} isn't a str")
     return encoded(name)
 
 
 def _copied(kind: Type[Batch], operations: bytes, texts: bytes) -> Batch:
-    """Returns a batch of this class with these operations, which are in the library's form."""
+    """Returns a batch of this class with these operations in the library's form."""
     batch = kind()
     batch._put(operations, texts)
     return batch
@@ -272,10 +272,10 @@ def _read_back(kind: int, code: int, node: int, number: int, name: bytes, value:
     return MakeIndex(decoded(name), KIND_OF[code])
 
 
-# A batch as bytes, little-endian: the beginning, whose last byte is the format's version; the number of operations in one
-# byte; and the operations. Each operation has its kind in one byte, and then those of these fields that it needs: the
-# node in 8 bytes; the length of the name in one byte, and the name; the type code in 4 bytes; and the value, which is a
-# number in 8 bytes, or a length in one byte and then the bytes.
+# The encoding of a batch, little-endian: the beginning, whose last byte is the format's version; the number of operations in
+# one byte; and the operations. Each operation has its kind in one byte, followed by the fields that it needs from these: the
+# node in 8 bytes; the length of the name in one byte, and the name; the type code in 4 bytes; and the value, either a number in
+# 8 bytes, or a length in one byte followed by the bytes.
 BEGINNING = b"BEB\x01"
 _WITH_NODE, _WITH_NAME, _WITH_CODE = (NEW, REMOVE, SET, UNSET), (SET, UNSET, MAKE_INDEX, REMOVE_INDEX), (SET, MAKE_INDEX)
 _KIND_NODE, _CODE, _CODE_NUMBER = struct.Struct("<BQ"), struct.Struct("<I"), struct.Struct("<IQ")
@@ -301,7 +301,7 @@ class _Reader:
         return int.from_bytes(self._take(count, what), "little")
 
     def _counted(self, what: str) -> bytes:
-        """Reads a length, and returns the bytes that follow it."""
+        """Reads a length, and returns that many bytes."""
         return self._take(self._number(1, f"the length of {what}"), what)
 
     def read_beginning(self) -> None:

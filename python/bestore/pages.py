@@ -1,4 +1,4 @@
-"""Pages from an answer in the order of an index, and cursors, which the next page continues from.
+"""Pages of an answer in an index's order, and cursors, from which the next page continues.
 
     page = version.query("MAIL:to==ann", by="MAIL:when", descending=True, limit=50)
     older = version.query("MAIL:to==ann", by="MAIL:when", descending=True, limit=50, after=page.cursor)
@@ -20,51 +20,51 @@ _Item = TypeVar("_Item")
 _Other = TypeVar("_Other")
 
 _FORMAT = 1  # the first byte of a cursor's text
-_HEAD = struct.Struct(">BBBB")  # the format, 1 if it descends, the kind's number, and how many bytes the name has
+_HEAD = struct.Struct(">BBBB")  # the format, 1 if descending, the kind's number, and the length of the name
 _CHECK = struct.Struct(">I")  # a CRC-32
 _NODE = struct.Struct(">Q")
-_LONGEST = (4 + 63 + 4 + 264 + 4) * 4 // 3  # characters of a cursor's text, for the longest name and key
+_LONGEST = (4 + 63 + 4 + 264 + 4) * 4 // 3  # characters in a cursor's text, with the longest name and key
 _NUMBERED = tuple(Kind)  # a kind's number is its position, from 1
 _SIZES = {kind: (numbers.stop - numbers.start).bit_length() // 8 for kind, numbers in RANGES.items()}  # bytes of a number in a key
 
 
 class Order(NamedTuple):
-    """An order of nodes: by their values in an index, and by number where the values are equal."""
+    """An order of nodes: by their values in an index, and by number if their values are equal."""
 
     by: str
     """The name of the index."""
     descending: bool = False
-    """Whether it is reversed."""
+    """Whether the order is reversed."""
 
     def __str__(self) -> str:
         return f'"{self.by}" {"descending" if self.descending else "ascending"}'
 
 
 def check_of(text: str) -> int:
-    """Returns what a cursor remembers about a query: the CRC-32 of its canonical text."""
+    """Returns what a cursor remembers about a query, which is the CRC-32 of its canonical text."""
     return zlib.crc32(text.encode())
 
 
 @dataclass(frozen=True)
 class Cursor:
-    """A position in the ordered answer of a query: the position of a page's last node. The next page begins right after
-    that node, even in a later version, whatever was written in between. `str` turns a cursor into a short string, which
-    `parse` reads."""
+    """A position in a query's ordered answer, namely that of a page's last node. The next page begins right after that node,
+    even in a later version and whatever was written in between. `str` converts a cursor to a short string, which `parse`
+    reads."""
 
     order: Order
-    """The order of the page."""
+    """The page's order."""
     check: int
-    """The CRC-32 of the query's canonical text. A cursor of another query raises `BadCursor`."""
+    """The CRC-32 of the query's canonical text. Using a cursor with another query raises `BadCursor`."""
     kind: Optional[Kind] = None
-    """The kind of the index; None at the beginning, where no node comes before."""
+    """The index's kind, or None at the beginning, before the first node."""
     value: Optional[Value] = None
-    """The value of that node in the index."""
+    """That node's value in the index."""
     node: Optional[int] = None
     """That node."""
 
     @property
     def key(self) -> bytes:
-        """The value and the node as an index key; the keys' byte order is the order of nodes. Empty at the beginning."""
+        """The value and the node as an index key. The byte order of keys is the order of nodes. Empty at the beginning."""
         if self.kind is None or self.value is None or self.node is None:
             return b""
         return encode_key(self.kind, self.value, self.node)
@@ -77,7 +77,7 @@ class Cursor:
 
     @staticmethod
     def parse(text: str) -> Cursor:
-        """Parses a cursor from this text. Raises `BadCursor` if the text isn't a cursor."""
+        """Parses a cursor's text. Raises `BadCursor` if the text isn't a cursor."""
         try:
             return _read(text)
         except (ValueError, struct.error):
@@ -93,7 +93,7 @@ class Cursor:
         return Cursor(order, check, Kind(kind), value, node)
 
     def check_fits(self, order: Order, check: int) -> None:
-        """Raises `BadCursor` if the cursor belongs to another order or another query."""
+        """Raises `BadCursor` if the cursor belongs to a different order or query."""
         if self.order != order:
             raise bad_cursor(f"the cursor belongs to the order by {self.order}, but this page is in the "
                              f"order by {order}: keep the order, or begin without a cursor")
@@ -102,28 +102,29 @@ class Cursor:
                              "or begin without a cursor")
 
     def of_other_kind(self, kind: Kind) -> BadCursor:
-        """Returns the error for a cursor of another kind, if the index has this kind."""
+        """Returns the error for a cursor whose kind isn't the index's kind, which is `kind`."""
         had = "no kind" if self.kind is None else f"kind {self.kind.name}"
         return bad_cursor(f'the index "{self.order.by}" has kind {kind.name}, and had {had} when the '
                           "cursor was made: begin without a cursor")
 
 
 _Position = Tuple[Order, int, int, bytes]
-"""What a cursor is made of once it is asked for: the arguments of `Cursor.of_key`."""
+"""What a cursor is made from when it is requested: the arguments of `Cursor.of_key`."""
 
 
 class Page(List[_Item]):
-    """Part of an ordered answer, as a list: nodes, or rows with their values."""
+    """Part of an ordered answer, as a list of nodes, or of rows with their values."""
 
     def __init__(self, items: Iterable[_Item], more: bool, position: Union[Cursor, _Position]) -> None:
         super().__init__(items)
         self.more = more
-        """Whether others come after these."""
+        """Whether more items follow this page."""
         self._position = position
 
     @property
     def cursor(self) -> Cursor:
-        """The position of the page's last node, for the next page. For an empty page it is where the page began."""
+        """The position of the page's last node, from which the next page continues. For an empty page, the position where the
+        page began."""
         if not isinstance(self._position, Cursor):
             self._position = Cursor.of_key(*self._position)
         return self._position
@@ -134,11 +135,11 @@ class Page(List[_Item]):
 
 
 After = Union[Cursor, str, None]
-"""Where a page begins: after a cursor, given as itself or as its text, or at the beginning if None."""
+"""Where a page begins: after a cursor, given as an object or as its text, or at the beginning if None."""
 
 
 def cursor_of(after: After) -> Optional[Cursor]:
-    """Returns the cursor that was passed to a call. Raises `BadCursor` if it is a text that isn't a valid cursor."""
+    """Returns the cursor that was passed to a call. Raises `BadCursor` if it was passed as text that isn't a valid cursor."""
     if after is None or isinstance(after, Cursor):
         return after
     if not isinstance(after, str):
@@ -156,7 +157,7 @@ def encode_key(kind: Kind, value: Value, node: int) -> bytes:
 
 
 def decode_key(kind: Kind, key: bytes) -> Tuple[Value, int]:
-    """Returns the value and the node that a key from an index of this kind contains. Raises a ValueError if the key isn't valid."""
+    """Returns the value and the node in a key from an index of this kind. Raises a ValueError if the key isn't valid."""
     front, node = key[:-_NODE.size], _NODE.unpack(key[-_NODE.size:])[0]
     if kind in _SIZES and len(front) == _SIZES[kind]:
         return int.from_bytes(front, "big") + RANGES[kind][0], node
@@ -166,7 +167,8 @@ def decode_key(kind: Kind, key: bytes) -> Tuple[Value, int]:
 
 
 def _bytes_of(text: str) -> bytes:
-    """Returns the bytes that a cursor's text encodes, after checking the last four. Raises a ValueError if the text isn't a cursor."""
+    """Returns the bytes that a cursor's text encodes, after checking the last four against the rest. Raises a ValueError if the
+    text isn't a cursor."""
     if len(text) > _LONGEST:
         raise ValueError("the text is too long")
     padded = text.encode("ascii") + b"=" * (-len(text) % 4)
@@ -178,7 +180,7 @@ def _bytes_of(text: str) -> bytes:
 
 
 def _read(text: str) -> Cursor:
-    """Reads a cursor from a text. Raises a ValueError or a struct.error if the text isn't a cursor."""
+    """Reads a cursor from its text. Raises a ValueError or a struct.error if the text isn't a cursor."""
     front = _bytes_of(text)
     form, descending, number, length = _HEAD.unpack(front[:_HEAD.size])
     name, rest = front[_HEAD.size:_HEAD.size + length], front[_HEAD.size + length:]

@@ -1,4 +1,4 @@
-"""Stores that are kept in an SQLite file.
+"""Stores that are saved in an SQLite file.
 
     from bestore import saved
 
@@ -6,17 +6,17 @@
         letter = store.new_node()
         store.set(letter, "MAIL:from", "ann")
 
-The store is in memory, and each accepted write is in the file before its call returns. The write is still there after
-`kill -9`, and after a power failure if the disk keeps what it has confirmed. Opening the file rebuilds the store: it
-repeats each write, and refuses the file if an outcome differs. Only one store at a time can have a file open.
-docs/KEPT.md describes the promises and the format, which the Rust crate shares.
+The store is in memory, and each accepted write is saved in the file before its call returns. The write survives `kill -9`, and
+also a power failure if the disk keeps what it has confirmed. Opening the file rebuilds the store by replaying each write, and
+refuses the file if an outcome differs. Only one store at a time can have a file open. docs/KEPT.md describes the promises and
+the format, which is the same as the Rust crate's.
 
-Concurrent writers share a commit: one of them saves what all of them have written, in the journal's order. A snapshot
-may show a write that isn't in the file yet, while its call waits; call `flush` before you pass a snapshot's data to
+Concurrent writers share a commit: one of them saves what all of them have written, in the journal's order. While a write's call
+waits, a snapshot may already show the write, though it isn't in the file yet; call `flush` before you pass a snapshot's data to
 anyone else. If a `KeyboardInterrupt` ends the wait, the write is in memory, and the next commit saves it.
 
-In a forked child all handles are dead, as everywhere in the package. Such a child can't open the file itself, because
-SQLite would mistake the parent's handle for the child's.
+In a forked child all handles are dead, as everywhere in the package. Such a child can't open the file itself, because SQLite
+would mistake the parent's handle for the child's own.
 """
 
 from __future__ import annotations
@@ -48,20 +48,20 @@ __all__ = [
     "SavedPass", "SavedShelf", "SqliteError", "Stopped", "TooLarge", "open", "open_shelf",
 ]
 
-_ENDING = ".bestore"  # the end of the name of a volume's file
+_ENDING = ".bestore"  # the suffix of a volume's file
 
 _MOST_ROWS = 1024  # the maximum number of entries in a commit
-_TRIES = 2**63 - 1  # as long as other passes write, since an unreadable entry would end all saving
+_TRIES = 2**63 - 1  # as long as other passes are writing, because an unread entry would end all saving
 
 
 class _Reader:
-    """Reads entries of the journal as bytes, through a pass that nobody else uses."""
+    """Reads journal entries as bytes, through a pass that nobody else uses."""
 
     def __init__(self, user: _local.LocalPass) -> None:
         self._user = user
 
     def read(self, number: int) -> Tuple[int, bytes]:
-        """Returns the pass and the batch of the entry with this commit number."""
+        """Returns the pass and the batch from the entry with this commit number."""
         answer, carried, by, batch = self._user._repeated(_TRIES, self._user._journal_entry, number - 1)
         check(answer, carried)
         assert batch is not None
@@ -69,12 +69,12 @@ class _Reader:
 
 
 class _Saver:
-    """Saves the journal's entries. A writer hands in its entry and waits for its turn. Then it saves all entries that
-    have been handed in, and the writers of those entries continue."""
+    """Saves the journal's entries. A writer hands in its entry and waits for its turn, in which it saves all entries that have
+    been handed in. The writers of those entries then continue."""
 
     def __init__(self, file: File, own: _local.LocalPass, last: int, every: Optional[float]) -> None:
         self.own = own
-        """A pass that nobody else uses. It reads what nobody has handed in, and makes the other passes."""
+        """A pass that nobody else uses. It reads entries that weren't handed in, and creates the other passes."""
         self.path, self._reader = file.path, _Reader(own)
         self._file: Optional[File] = file
         self._failed: Optional[Exception] = None
@@ -82,7 +82,7 @@ class _Saver:
         with own.pin() as version:
             self._line = Line(version.number)
         self._shift = last - self._line.saved
-        self._handed_in: Dict[int, Row] = {}  # by commit number; an entry that is missing is in the journal
+        self._handed_in: Dict[int, Row] = {}  # by commit number; a missing entry can be read from the journal
         self._work, self._ending = threading.Event(), threading.Event()
         self.is_timed = every is not None
         if every is not None:
@@ -90,7 +90,7 @@ class _Saver:
             atexit.register(self.close)
 
     def number_in_file(self, commit: int) -> int:
-        """The number in the file of the entry with this commit number."""
+        """Returns the number that the entry with this commit number has in the file."""
         return commit + self._shift
 
     def check(self) -> None:
@@ -99,8 +99,8 @@ class _Saver:
             raise Stopped(self.path) from self._failed
 
     def keep(self, number: int, by: int, batch: Batch, made: Optional[List[int]] = None) -> None:
-        """Saves the write with this commit number, or lets the saving thread know that there is a write to save. If `made`
-        is None, the batch already has the numbers of the nodes that its operations made."""
+        """Saves the write with this commit number, or notifies the saving thread that there is a write to save. If `made` is
+        None, the batch already contains the numbers of the nodes that its operations created."""
         if self.is_timed and not self._is_closing:
             self._hand_in_for_later(number, by, batch, made)
             return
@@ -117,7 +117,7 @@ class _Saver:
                 self._handed_in.pop(number, None)
 
     def _hand_in_for_later(self, number: int, by: int, batch: Batch, made: Optional[List[int]]) -> None:
-        """Hands in an entry for the saving thread, which reads the journal if there are too many entries."""
+        """Hands in an entry to the saving thread, which reads the journal if there are too many entries."""
         if len(self._handed_in) < _MOST_ROWS:
             self._handed_in[number] = number + self._shift, by, batch._packed(made)
             if self._line.saved >= number:
@@ -126,7 +126,7 @@ class _Saver:
             self._work.set()
 
     def _save_up_to(self, number: int) -> None:
-        """Saves, during a turn, the entries up to this commit number and any later entries that have been handed in."""
+        """During a turn, saves the entries up to this commit number and any later entries that have been handed in."""
         line, handed_in = self._line, self._handed_in
         while line.saved < number:
             self.check()
@@ -143,8 +143,9 @@ class _Saver:
                 handed_in.pop(saved, None)
 
     def _next_rows(self, number: int, least: int) -> List[Row]:
-        """Returns the entries to save next, from this commit number on, up to `_MOST_ROWS` of them. Entries up to the
-        commit number `least` are read from the journal if nobody has handed them in yet; later entries follow."""
+        """Returns up to `_MOST_ROWS` entries to save next, starting with this commit number. Entries up to the commit number
+        `least` that haven't been handed in are read from the journal. Later entries are included if they have been handed
+        in."""
         rows: List[Row] = []
         while len(rows) < _MOST_ROWS:
             row = self._handed_in.get(number)
@@ -157,7 +158,7 @@ class _Saver:
         return rows
 
     def flush(self) -> None:
-        """Saves what was written before the call."""
+        """Saves everything that was written before the call."""
         with self._line.turn():
             self._save_all()
 
@@ -168,7 +169,7 @@ class _Saver:
         self._save_up_to(number)
 
     def compact(self) -> None:
-        """Writes the current snapshot into the file, instead of the state and the entries that it contains."""
+        """Writes the current snapshot into the file, replacing the state and the entries that the snapshot includes."""
         with self._line.turn():
             self.check()
             with self.own.pin() as version:
@@ -178,7 +179,7 @@ class _Saver:
                 self._file.write_state(number, version.next_node, (batch.to_bytes() for batch in version.state()))
 
     def _save_now_and_then(self, every: float) -> None:
-        """Keeps saving what was written, `every` seconds after the first write. Closes the file at the end."""
+        """Repeatedly saves what was written, `every` seconds after the first unsaved write. Closes the file at the end."""
         while not self._ending.is_set():
             self._work.wait()
             self._ending.wait(min(every, threading.TIMEOUT_MAX))
@@ -203,14 +204,14 @@ class _Saver:
             self.close()
 
     def close(self) -> None:
-        """Saves what was written, and closes the file. A forked child leaves the file to its parent."""
+        """Saves what was written and closes the file. A forked child leaves the file to its parent."""
         if self.own._is_dead:
             return
         with self._line.turn():
             file = self._file
             if file is None:
                 return
-            self._is_closing = True  # so a write that comes now, and isn't saved below, raises an error
+            self._is_closing = True  # so that a write that comes now, and isn't saved below, raises an error
             try:
                 self._save_all()
             finally:
@@ -229,8 +230,8 @@ class _Saver:
 
 
 class SavedPass(_local.LocalPass):
-    """A pass whose writes are saved. Each call that writes may also raise `Stopped` if saving has stopped, and
-    `NotSaved` if the write couldn't be saved."""
+    """A pass whose writes are saved. Every call that writes may also raise `Stopped` if saving has stopped, or `NotSaved` if
+    the write couldn't be saved."""
 
     def __init__(self, saver: _Saver, first: Optional[Saved] = None) -> None:
         super().__init__()
@@ -260,20 +261,20 @@ class SavedPass(_local.LocalPass):
         return self._committed
 
     def another(self) -> SavedPass:
-        """A pass of the same store for another thread. Any pass can make it, in any thread. Raises `NoPass` if there is none left."""
+        """Returns a pass of the same store for another thread. Any pass can do this, in any thread. Raises `NoPass` if no pass is left."""
         other = SavedPass(self._saver, self._first)
         other._open_by(self._saver.own)
         return other
 
     def flush(self) -> None:
-        """Returns when everything written before the call is in the file. Raises `Stopped` if that fails."""
+        """Returns once everything written before the call is in the file. Raises `Stopped` if that fails."""
         self._check_process()
         self._saver.flush()
 
     def compact(self) -> None:
-        """Writes the current snapshot into the file, instead of the state and the entries that it contains. Writes wait
-        for the file meanwhile. `DiskFull` and `SqliteError` leave the file unchanged. Raises `Stopped` like `flush`.
-        Takes the time to read and write all attributes."""
+        """Writes the current snapshot into the file, replacing the state and the entries that the snapshot includes. Writes
+        wait for the file meanwhile. If this raises `DiskFull` or `SqliteError`, the file is unchanged. Raises `Stopped` like
+        `flush`. Takes time to read and write all attributes."""
         self._check_process()
         self._saver.compact()
 
@@ -284,7 +285,7 @@ class SavedPass(_local.LocalPass):
 
 
 class Saved(SavedPass):
-    """The first pass of a kept store. The file is closed with this pass, or when all of the store's passes are gone."""
+    """The first pass of a saved store. The file is closed together with this pass, or when all of the store's passes are gone."""
 
     def __init__(self, saver: _Saver) -> None:
         super().__init__(saver)
@@ -296,8 +297,8 @@ class Saved(SavedPass):
         return other
 
     def close(self) -> None:
-        """Saves what was written, and closes the file and this pass. Other passes can still read. Raises `Stopped` if
-        something couldn't be saved; the file and the pass are closed even then."""
+        """Saves what was written, and closes the file and this pass. Other passes can still read. Raises `Stopped` if something
+        couldn't be saved, but closes the file and the pass even then."""
         try:
             self._saver.close()
         finally:
@@ -320,16 +321,16 @@ class Saved(SavedPass):
 
 def open(path: Union[str, bytes, "os.PathLike[Any]"], pages: int = 4096, passes: int = PASSES, commits: int = 2**32 - 1,
          every: Optional[float] = None) -> Saved:
-    """Opens or makes the file, and rebuilds the store. The limits are those of `bestore.open`, except that `passes` is
-    at most 63. The journal begins with the file's contents, so `commits` has to allow for them.
+    """Opens or creates the file, and rebuilds the store. The limits are those of `bestore.open`, except that `passes` is at
+    most 63. The journal begins with the file's contents, so `commits` has to allow for them.
 
-    With `every`, a write returns immediately, and is in the file `every` seconds later. `flush` and `close` save it earlier.
+    With `every`, a write returns immediately and is saved `every` seconds later, or earlier by `flush` or `close`.
 
-    If the file has entries that are newer than its state, the state is rewritten; if the disk is full, the file stays unchanged.
+    If the file has entries that are newer than its state, the state is rewritten; if the disk is full, the file is left unchanged.
 
-    Raises `Foreign`, `Newer`, `Held`; `Damaged` and `CutOff` if part of the file was changed or lost; `Differs` and
-    `TooLarge` with the position in the file; `DiskFull` and `SqliteError`; the errors of `bestore.open`; and a
-    ValueError if `every` is below 0."""
+    Raises `Foreign`, `Newer` or `Held`; `Damaged` or `CutOff` if part of the file was changed or lost; `Differs` or `TooLarge`,
+    with the position in the file; `DiskFull` or `SqliteError`; the errors of `bestore.open`; and a ValueError if `every` is
+    below 0."""
     if not 1 <= operator.index(passes) <= 63:
         raise BadLimits()
     if every is not None and not every >= 0:
@@ -357,7 +358,7 @@ def open(path: Union[str, bytes, "os.PathLike[Any]"], pages: int = 4096, passes:
 
 
 def _few_commits(file: File, pages: int, passes: int, commits: int) -> _local.LocalPass:
-    """Opens a store for a file that has few entry numbers left. Raises `TooLarge` if it couldn't accept even one transaction."""
+    """Opens a store for a file that has few entry numbers left. Raises `TooLarge` if the store couldn't accept even one transaction."""
     if commits == 0:
         spent = CommitsSpent()
         raise refused(file.path, spent, entry=file.about().entries) from spent
@@ -372,25 +373,25 @@ class SavedShelf(_shelf.Shelf):
         self._saved = tuple(passes)
 
     def another(self) -> SavedShelf:
-        """A pass of the same shelf for another thread. Any pass can make it, in any thread. Raises `NoPass` if there is none left."""
+        """Returns a pass of the same shelf for another thread. Any pass can do this, in any thread. Raises `NoPass` if no pass is left."""
         return SavedShelf(_shelf.taken(user.another for user in self._saved))
 
     def flush(self) -> None:
-        """Returns when everything written before the call is in the files. Raises `Stopped` for the first volume that
-        can't be saved; the other volumes are saved."""
+        """Returns once everything written before the call is in the files. Raises `Stopped` for the first volume that can't be
+        saved; the other volumes are still saved."""
         with ExitStack() as calls_of_all:
-            for user in self._saved:  # the last volume comes first, so that the first volume's error is the one raised
+            for user in self._saved:  # the last volume first, so that the first volume's error is the one raised
                 calls_of_all.callback(user.flush)
 
     def compact(self) -> None:
-        """Writes the current snapshots into the files, as `SavedPass.compact` does for each volume. Raises the error
-        from the first volume that fails; the other volumes are compacted."""
+        """Writes the current snapshots into the files, as `SavedPass.compact` does for each volume. Raises the error from the
+        first volume that fails; the other volumes are still compacted."""
         with ExitStack() as calls_of_all:
             for user in self._saved:  # as in `flush`
                 calls_of_all.callback(user.compact)
 
     def _index_new(self) -> None:
-        """In volumes that have never had a node, makes the indices that all other volumes have."""
+        """In volumes that have never had a node, creates the indices that all other volumes have."""
         new, common = [], None
         for user in self._saved:
             with user.pin() as version:
@@ -421,12 +422,12 @@ def _file_of(folder: str, volume: int) -> str:
 
 def open_shelf(folder: Union[str, bytes, "os.PathLike[Any]"], volumes: Optional[int] = None, pages: int = 4096, passes: int = PASSES,
                commits: int = 2**32 - 1, every: Optional[float] = None) -> SavedShelf:
-    """Opens the volumes in the folder, each in its own file: `0.bestore`, `1.bestore` and so on. If `volumes` is given,
-    1 to 64, makes the folder and the missing volumes; a new volume gets the indices that the other volumes have. The
-    other parameters are those of `open`, for each volume. The Rust crate and bestored can open the same folder.
+    """Opens the volumes in the folder, each in its own file: `0.bestore`, `1.bestore` and so on. If `volumes` (1 to 64) is
+    given, creates the folder and any missing volumes; a new volume gets the indices that the other volumes have. The other
+    parameters are those of `open` and apply to each volume. The Rust crate and bestored can open the same folder.
 
-    Raises what `open` raises; `Fewer` if the folder has more volumes than `volumes`, or has no volumes and `volumes` is
-    None; `NoFile` if a volume is missing and a later volume exists; an OSError if the folder can't be read or made."""
+    Raises what `open` raises; `Fewer` if the folder has more volumes than `volumes`, or has none and `volumes` is None;
+    `NoFile` if a volume is missing and a later volume exists; an OSError if the folder can't be read or created."""
     path = os.fsdecode(folder)
     if volumes is not None:
         if not 1 <= volumes <= _shelf.MOST_VOLUMES:
@@ -468,8 +469,8 @@ def _load(file: File, own: _local.LocalPass) -> int:
 
 def _repeat(path: str, repeater: Repeater, data: bytes, entry: Optional[int] = None,
             batch: Optional[int] = None) -> Tuple[List[int], List[int]]:
-    """Applies a batch from the file. Returns two lists with, for each operation, the node that it made or 0: first the
-    nodes according to the file, then the nodes that were made now."""
+    """Applies a batch from the file. Returns two lists of the nodes that the operations created, with 0 for operations that
+    created none: first as recorded in the file, then as created now."""
     try:
         return repeater.repeat(data)
     except Error as error:

@@ -1,4 +1,4 @@
-"""Shelves: stores that have several volumes, which one query searches.
+"""Shelves: stores that have several volumes, all searched by a single query.
 
     with bestore.open_shelf(4) as store:
         store.make_index("size", bestore.INT64)
@@ -7,17 +7,16 @@
         with store.pin() as version:
             version.query("size>=5")
 
-A shelf has 1 to 64 volumes, each a separate store, so it can hold more nodes than one store. Use it like any other
-`Pass`, and its versions like any other `Version`: queries, counts and live queries cover all volumes. A node is one
-integer, its volume * 10^14 + its number within the volume: `volume_of` and `number_of` take a node apart, and `node_in`
-builds it. A node never leaves its volume. A server may have volumes too: then the pass that `connect` returns is such a
-store.
+A shelf has 1 to 64 volumes, each a separate store, so it can hold more nodes than one store. Use it like any other `Pass`, and
+its versions like any other `Version`: queries, counts and live queries cover all volumes. A node is an integer, its volume *
+10^14 + its number within the volume: `volume_of` and `number_of` split a node, and `node_in` composes it. A node never leaves
+its volume. A server may have volumes too, and then the pass that `connect` returns works like a shelf.
 
-**What is promised.** Each volume by itself keeps the promises of a store: its writes are serializable in its journal, and what is
-read from it is one snapshot. Across volumes there is no order. A version has a snapshot of each volume, pinned one after another,
-so it may include a later write to one volume, but not an earlier write to another. A batch or a change writes one volume, and
-what a change has read from other volumes may have changed meanwhile. Indices are made in one volume after another. If one volume
-can't answer a query, the error is `NotCovered`, with that `volume`, so no answer is partial.
+**What is promised.** Each volume on its own keeps a store's promises: its writes are serializable in the order of its journal,
+and reads from it see one snapshot. Across volumes there is no order. A version has a snapshot of each volume, pinned one after
+another, so it may include a later write to one volume but not an earlier write to another. A batch or a change writes to one
+volume, and the data that a change read from other volumes may have changed meanwhile. Indices are created in one volume after
+another. If one volume can't answer a query, the error is `NotCovered`, with that `volume`, so no answer is partial.
 """
 
 from __future__ import annotations
@@ -48,7 +47,7 @@ from .versions import Asked, Query, Version
 __all__ = ["MOST_VOLUMES", "Shelf", "ShelfVersion", "node_in", "number_of", "open", "volume_of"]
 
 _LEAST_ASKED = 8
-"""A volume is asked for at least this many nodes, if the page has room for them."""
+"""The minimum number of nodes to request from a volume, if the page has room for them."""
 
 _Result = TypeVar("_Result")
 _Taken = TypeVar("_Taken", bound=Union[Pass, Version, Witness])
@@ -60,7 +59,7 @@ class ShelfVersion(Version):
     def __init__(self, user: Shelf, versions: Sequence[Version]) -> None:
         self._user = user
         self.volumes = tuple(versions)
-        """The version of each volume, in which nodes have their numbers there."""
+        """Each volume's version, in which nodes have their numbers within that volume."""
 
     @property
     def number(self) -> int:
@@ -89,7 +88,7 @@ class ShelfVersion(Version):
         return node_in(volume, self.volumes[volume].next_node)
 
     def _each(self, read: Callable[[Version], _Result]) -> Iterator[Tuple[int, _Result]]:
-        """Yields what is read from each volume. An error names its volume, unless the error depends only on the call."""
+        """Yields what `read` returns for each volume. An error names its volume, unless it depends only on the call."""
         for volume, version in enumerate(self.volumes):
             with _of_volume(volume):
                 found = read(version)
@@ -116,7 +115,7 @@ class ShelfVersion(Version):
         return self._some(read, range(len(self.volumes)), limit)
 
     def _some(self, read: Callable[[int, int], List[int]], volumes: Iterable[int], limit: int) -> List[int]:
-        """Returns what is read from one volume after another, until there are `limit` nodes."""
+        """Reads one volume after another until there are `limit` nodes, and returns these."""
         found: List[int] = []
         for volume in volumes:
             if len(found) < limit:
@@ -141,7 +140,7 @@ class ShelfVersion(Version):
         return Page([decode_key(kind, key)[1] for key in keys], more, cursor)
 
     def _keys_in(self, volume: int, asked: Prepared, kind: Kind, after: Cursor, room: Optional[int]) -> Iterator[bytes]:
-        """Yields the keys of a volume's pages after a position in that volume, with the shelf's numbers for nodes."""
+        """Yields the keys from a volume's pages after a position in that volume, with the shelf's numbers for the nodes."""
         version, order, more = self.volumes[volume], after.order, True
         while more:
             with _of_volume(volume):
@@ -212,7 +211,8 @@ class ShelfVersion(Version):
         return found
 
     def refresh(self, prepared: Prepared) -> Tuple[List[int], List[int]]:
-        """Works as in a version of one store. All nodes that match the query stay in the program's memory until the query is closed."""
+        """Works as it does in a version of a single store. All nodes that match the query remain in the program's memory until
+        the query is closed."""
         return refreshed_by_all(prepared, self)
 
     def explain(self, text: str) -> str:
@@ -245,7 +245,7 @@ class ShelfVersion(Version):
 
 @contextmanager
 def _of_volume(volume: int) -> Iterator[None]:
-    """Adds the volume to the error that says that another index is needed."""
+    """Adds the volume to an error about a missing index."""
     try:
         yield
     except (NotCovered, NoIndex) as error:
@@ -254,9 +254,9 @@ def _of_volume(volume: int) -> Iterator[None]:
 
 
 def _position_in(volume: int, after: Cursor) -> Cursor:
-    """Returns the position in a volume that corresponds to a shelf's cursor. Among the nodes with the cursor's value,
-    in ascending order, nodes in lower volumes come before the cursor, and nodes in higher volumes come after it. No
-    node has the number 2^64 - 1 or 0."""
+    """Returns the position in a volume that corresponds to a shelf's cursor. Among the nodes with the cursor's value, in
+    ascending order, nodes in lower volumes come before the cursor and nodes in higher volumes come after it. No node has the
+    number 2^64 - 1 or 0."""
     if after.node is None:
         return after
     own, number = divmod(after.node, NUMBERS)
@@ -270,13 +270,13 @@ def _put(column: List[Optional[Value]], places: List[int], values: List[Optional
 
 
 def _in_volume(volume: int, numbers: List[int]) -> List[int]:
-    """Nodes of a volume."""
+    """Returns the shelf's numbers for a volume's nodes."""
     before = node_in(volume, 0)
     return [before + number for number in numbers] if before else numbers
 
 
 class ShelfWitness(Witness):
-    """A witness of a pass of each volume."""
+    """A witness for a pass of each volume."""
 
     def __init__(self, witnesses: List[Witness]) -> None:
         self._witnesses = witnesses
@@ -286,12 +286,12 @@ class ShelfWitness(Witness):
             witness.close()
 
     def __del__(self) -> None:
-        """Each witness is closed when nothing refers to it any more."""
+        """Each witness is closed once it is no longer referenced."""
 
 
 class Shelf(ThreadPass):
-    """A pass of a store that has several volumes, made of one pass of each volume. A shelf can be made from open passes, which it then
-    owns."""
+    """A pass of a store that has several volumes, consisting of a pass of each volume. A shelf can be made from open passes,
+    which it then owns."""
 
     _passes: Tuple[Pass, ...] = ()
 
@@ -317,7 +317,7 @@ class Shelf(ThreadPass):
         return self._passes[self._checked(volume)]
 
     def _checked(self, volume: Optional[int]) -> int:
-        """Returns the volume that a call names, or the only volume. Raises `NoVolume` if there is no such volume."""
+        """Returns the volume that a call names, or the only volume if there is just one. Raises `NoVolume` if there is no such volume."""
         if volume is None and len(self._passes) == 1:
             return 0
         if volume is None or not 0 <= volume < len(self._passes):
@@ -344,22 +344,22 @@ class Shelf(ThreadPass):
         ends.__exit__(kind, value, trace)
 
     def __del__(self) -> None:
-        """Each pass is closed when nothing refers to it any more."""
+        """Each pass is closed once it is no longer referenced."""
 
     def finish(self) -> str:
-        """Closes the volumes one after another, and returns their journals. After an error, the volumes before the failing one stay
-        closed."""
+        """Closes the volumes one after another, and returns their journals. After an error, the volumes before the failing one
+        remain closed."""
         return "".join(user.finish() for user in self._passes)
 
     def meet(self) -> int:
-        """Meets a closed pass in each volume. Returns how many entries both have seen, summed over the volumes."""
+        """Meets a closed pass in each volume. Returns how many entries both passes have seen, summed over the volumes."""
         return sum(user.meet() for user in self._passes)
 
     def witness(self) -> ShelfWitness:
         return ShelfWitness(taken(user.witness for user in self._passes))
 
     def join(self, witness: Witness) -> int:
-        """Joins a witness of the shelf, volume by volume. Returns how many entries both have seen together."""
+        """Joins a witness for the shelf, volume by volume. Returns how many entries both have seen, summed over the volumes."""
         if not isinstance(witness, Witness):
             raise TypeError(f"{witness!r} isn't a witness: a pass makes one with `witness()`")
         if not isinstance(witness, ShelfWitness) or len(witness._witnesses) != len(self._passes):
@@ -407,7 +407,7 @@ class Shelf(ThreadPass):
         return [user.status(tries) for user in self._passes]
 
     def _roomiest(self) -> int:
-        """Returns the volume with the most free pages, or the first such volume if several have equally many."""
+        """Returns the volume with the most free pages, or the first of them if there is a tie."""
         free = [status.free for status in self.statuses()]
         return free.index(max(free))
 
@@ -430,7 +430,7 @@ class Shelf(ThreadPass):
         return self._write_moved(self._checked(volume), within(batch, volume)[1], tries, expected)
 
     def _write_moved(self, volume: int, moved: Batch, tries: int, expected: Optional[int]) -> Tuple[int, List[int]]:
-        """Writes a batch to a volume. The batch has its nodes' numbers within that volume."""
+        """Writes a batch to a volume. The batch uses the nodes' numbers within that volume."""
         user = self._passes[volume]
         try:
             written = user.apply(moved, tries) if expected is None else user.apply_if(expected, moved, tries)
@@ -441,7 +441,7 @@ class Shelf(ThreadPass):
         return written[0], [node and node_in(volume, node) for node in written[1]]
 
     def _write_indices(self, batch: Batch, tries: int) -> Tuple[int, List[int]]:
-        """Makes and removes indices in each volume, one operation after another."""
+        """Creates and removes indices in each volume, one operation after another."""
         for operation in batch:
             if isinstance(operation, MakeIndex):
                 self._check_kind(operation)
@@ -449,7 +449,7 @@ class Shelf(ThreadPass):
         return sum(status.entries for status in self.statuses(tries)), [0] * len(batch)
 
     def _check_kind(self, wanted: MakeIndex) -> None:
-        """Raises `IndexExists` if a volume has the index with another kind, so that the index isn't made in the other volumes either."""
+        """Raises `IndexExists` if a volume has the index with a different kind, so that it isn't created in the other volumes either."""
         for volume, user in enumerate(self._passes):
             with user.pin() as version:
                 kind = version.indices().get(wanted.name)
@@ -459,7 +459,7 @@ class Shelf(ThreadPass):
                 raise error
 
     def _write_each(self, operation: Operation, tries: int) -> None:
-        """Makes an index in each volume that lacks it, or removes an index from each volume that has it."""
+        """Creates an index in each volume that lacks it, or removes an index from each volume that has it."""
         done, last = 0, None
         for volume in range(len(self._passes)):
             try:
@@ -482,7 +482,7 @@ class Shelf(ThreadPass):
 
 
 def taken(takes: Iterable[Callable[[], _Taken]]) -> List[_Taken]:
-    """Returns what these calls open. If a call raises, nothing stays open."""
+    """Returns what these calls open. If one raises, everything opened so far is closed."""
     opened: List[_Taken] = []
     with ExitStack() as ends:
         for take in takes:
@@ -494,9 +494,8 @@ def taken(takes: Iterable[Callable[[], _Taken]]) -> List[_Taken]:
 
 def open(volumes: int, pages: int = 4096, passes: int = PASSES, commits: int = 2**32 - 1) -> Shelf:
     """Opens a new store in memory with this many volumes, 1 to 64. The limits apply to each volume, as in
-    `bestore.open`. `bestore.open_shelf` is this function. Raises `BadLimits` if a limit is out of its range, or
-    `NoMemory`."""
+    `bestore.open`. `bestore.open_shelf` is this function. Raises `BadLimits` if a limit is out of range, or `NoMemory`."""
     if not 1 <= volumes <= MOST_VOLUMES:
         raise BadLimits()
-    from . import local  # which needs the library
+    from . import local  # needs the library
     return Shelf(taken([partial(local.open, pages, passes, commits)] * volumes))

@@ -26,14 +26,14 @@ from .watches import LocalWatch, Watch
 _Result = TypeVar("_Result")
 
 PASSES = 63
-"""How many passes a store has by default. Each takes about 90 bytes and adds 13 instructions to a write: 55 passes add 700 to about
-20,000. A pin costs the same however many there are."""
+"""How many passes a store has by default. Each takes about 90 bytes and adds 13 instructions to a write, so 55 passes add 700
+to about 20,000. The cost of a pin doesn't depend on their number."""
 TRIES = 10_000
-"""How often a call is tried by default while another pass is writing, which takes at least a few seconds."""
+"""How many times a call is tried by default while another pass is writing. That many tries take at least a few seconds."""
 PAUSES = 50
-"""How often a write waits, when no page is free, for another pass to unpin its snapshot: about 2 seconds in all."""
+"""How many times a write that finds no free page waits for another pass to unpin its snapshot: about 2 seconds in total."""
 ATTEMPTS = 10_000
-"""How often the function of a change is run, at most, by default."""
+"""How many times a change's function may run by default."""
 
 
 class Held(NamedTuple):
@@ -49,31 +49,31 @@ class Status(NamedTuple):
 
     pages: int
     free: int
-    """The pages that a write may take."""
+    """How many pages are available to writes."""
     retired: int
-    """The pages of older versions that are kept because a pass may read them."""
+    """How many pages of older versions are kept because a pass may read them."""
     entries: int
-    """How many writes the journal has."""
+    """How many writes the journal contains."""
     commits: int
-    """How many it may have."""
+    """How many writes it may contain."""
     oldest: Optional[Held]
     """None if no pass is pinned."""
 
 
 class Entry(NamedTuple):
-    """An entry of the journal: one accepted write."""
+    """A journal entry: one accepted write."""
 
     number: int
-    """Its commit number, from 1."""
+    """Its commit number, counting from 1."""
     pass_number: int
     """The pass that wrote it."""
     operations: Tuple[Operation, ...]
-    """Its operations. A `NewNode` has the number of the node that it made."""
+    """Its operations. A `NewNode` has the number of the node that it created."""
 
 
 class StandingBack:
-    """Yields to other threads: each time twice as often as before, up to 1,024 times. Otherwise two passes that take
-    turns with each write would each wait for what the other has just written."""
+    """Yields to other threads, twice as many times on each call as on the previous one, up to 1,024 times. Without this, two
+    passes that take turns with each write would each wait for what the other has just written."""
 
     def __init__(self) -> None:
         self._turns = 1
@@ -84,8 +84,8 @@ class StandingBack:
         self._turns = min(2 * self._turns, 1024)
 
     def wait_by_chance(self) -> None:
-        """Yields a random number of times, at most as many as `wait` would, so that threads that arrived together come back at different
-        times."""
+        """Yields a random number of times, up to as many as `wait` would, so that threads that arrived together return at
+        different times."""
         self.wait(random.randint(1, self._turns))
 
 
@@ -97,7 +97,7 @@ class _Waits:
         self._back = StandingBack()
 
     def wait_after(self, error: Refusal) -> bool:
-        """Waits. Returns whether a later attempt may succeed."""
+        """Waits. Returns whether another attempt may succeed."""
         if isinstance(error, Full):
             if self._tries <= 1 or self._pauses == PAUSES or not self._user._may_be_given_pages(error):
                 return False
@@ -114,84 +114,83 @@ class _Waits:
 
 
 def pause_at_full(pauses: int) -> None:
-    """Waits 1 to 50 milliseconds for pages. `pauses` is how many pauses came before."""
+    """Waits 1 to 50 milliseconds for pages. `pauses` is the number of earlier pauses."""
     time.sleep(min(0.001 * 2**pauses, 0.05))
 
 
 class Witness(Owner, ABC):
-    """Records what a pass has seen of its store, for a pass of the same store in another thread. `Pass.witness` makes a
-    witness, and `Pass.join` joins it. A witness holds no part of the store."""
+    """Records what a pass has seen of its store, so that another thread's pass of the same store can join it. `Pass.witness`
+    creates a witness, and `Pass.join` joins it. A witness doesn't hold on to any part of the store."""
 
     @abstractmethod
     def close(self) -> None:
-        """Closes the witness, if it is open."""
+        """Closes the witness if it is open."""
 
 
 class Pass(Owner, ABC):
-    """A session: one thread's handle on the store. `open` returns the first pass of a store in this process, and
-    `connect` returns a pass of a server's store. `another` makes further passes.
-
-    Give each thread its own pass, since calls on the same pass wait for each other."""
+    """A session: one thread's handle on the store. `open` returns the first pass of a store in this process, and `connect`
+    returns a pass of a server's store. `another` returns further passes. Give each thread its own pass, because calls on the
+    same pass wait for each other."""
 
     _committed: int
-    _is_changing: bool  # whether this thread runs the function of a change
+    _is_changing: bool  # whether this thread is running a change's function
 
     @property
     def committed(self) -> int:
-        """The commit number of the last write that this pass made, or 0 before the first. With several volumes, it is
-        the commit number in the volume that was written."""
+        """The commit number of this pass's last write, or 0 before its first. With several volumes, it is the commit number in
+        the volume that was written."""
         return self._committed
 
     @property
     @abstractmethod
     def number(self) -> int:
-        """The pass's number, which `Busy`, `Status` and the journal use. With several volumes, it is the pass's number in the first
+        """The pass's number, as used by `Busy`, `Status` and the journal. With several volumes, it is the number in the first
         volume."""
 
     @property
     def volumes(self) -> int:
-        """How many volumes the store has: 1, except for a shelf. `help(bestore.shelf)` says what a shelf promises."""
+        """How many volumes the store has: 1, unless it is a shelf. `help(bestore.shelf)` says what a shelf promises."""
         return 1
 
     @abstractmethod
     def another(self) -> Pass:
-        """Returns a pass of the same store for another thread. Unused passes stay with the pass that `open` returned:
-        its thread makes a pass for each other thread before that thread starts. Any pass can hand out a pass that was
+        """Returns a pass of the same store for another thread. Unused passes belong to the pass that `open` returned, so its
+        thread calls this on behalf of every other thread, before that thread starts. Any pass can hand out a pass that was
         closed. Raises `NoPass` if no pass is left."""
 
     @abstractmethod
     def close(self) -> None:
-        """Closes the pass, if it is open, and returns it to the store: `another` may hand it out again. The store
-        is freed with its last pass."""
+        """Closes the pass if it is open, and returns it to the store, so that `another` may hand it out again. The store is
+        freed with its last pass."""
 
     @abstractmethod
     def finish(self) -> str:
-        """Closes the store through its last pass, which is then closed, and returns the whole journal, as `journal`
-        does. For each pass, the journal has exactly the writes that its calls have committed, at their commit numbers.
-        Raises `InUse` if another pass is open, which is always so for a kept store, because it has its own pass.
-        May also raise `NoMemory`. After either error, the pass is unchanged."""
+        """Closes the store through its last pass, which is then closed, and returns the whole journal, as `journal` does. For
+        each pass, the journal contains exactly the writes that its calls committed, at their commit numbers. Raises `InUse` if
+        another pass is open; that is always so for a saved store, which has a pass of its own. May also raise `NoMemory`. After
+        either error, the pass is unchanged."""
 
     @abstractmethod
     def meet(self) -> int:
-        """Meets a pass that was closed: afterwards each has seen what the other had. Returns how many journal entries
+        """Meets a pass that was closed, after which each has seen what the other had seen. Returns how many journal entries
         both have seen. Raises `NoPass` if there is no closed pass, or if another thread is meeting it."""
 
     @abstractmethod
     def witness(self) -> Witness:
-        """Returns a witness of all journal entries that the pass has seen so far, including the pass's own. Hand the
-        witness to another thread, whose pass joins it. May raise `NoMemory`."""
+        """Returns a witness that records all journal entries that the pass has seen so far, including its own. Give the witness
+        to another thread, whose pass joins it. May raise `NoMemory`."""
 
     @abstractmethod
     def join(self, witness: Witness) -> int:
-        """Joins a witness: afterwards the pass and the witness have each seen what the other had. So each later version
-        of the pass includes everything that the witness's pass had seen, and each later commit number of the pass is
-        greater than the commit numbers of those entries. Returns how many journal entries both have seen. Raises
-        `OtherStore` if the witness belongs to another store."""
+        """Joins a witness, after which the pass and the witness have each seen what the other had seen. So each later version
+        of the pass includes everything that the witness's pass had seen, and each later commit number of the pass is greater
+        than those entries' commit numbers. Returns how many journal entries both have seen. Raises `OtherStore` if the witness
+        belongs to another store."""
 
     @abstractmethod
     def pin(self) -> Version:
-        """Pins the current version and returns it: use `with store.pin() as version:`, which unpins the version at the
-        end. Raises `Pinned` if the pass is already pinned. Takes constant time."""
+        """Pins the current version and returns it. Use `with store.pin() as version:`, which unpins the version at the end of
+        the block. Raises `Pinned` if the pass is already pinned. Takes constant time."""
 
     @abstractmethod
     def _write(self, batch: Batch, tries: int, expected: Optional[int]) -> Tuple[int, List[int]]:
@@ -200,9 +199,9 @@ class Pass(Owner, ABC):
 
     @abstractmethod
     def journal(self, tries: int = TRIES) -> str:
-        """Returns the journal up to now: a line for each write, with the pass that wrote it, its operations and their
-        outcomes. Makes up to `tries` tries while another pass is writing. Takes memory for the whole journal, and other
-        writes are `Busy` meanwhile."""
+        """Returns the journal so far: a line for each write, with the pass that wrote it, its operations and their outcomes.
+        Tries up to `tries` times while another pass is writing. Uses memory for the whole journal, and other writes are `Busy`
+        meanwhile."""
 
     def _write_in(self, volume: int, batch: Batch, tries: int, expected: Optional[int]) -> Tuple[int, List[int]]:
         """Writes a batch to this volume, like `_write`. Raises `NoVolume` if there is no such volume."""
@@ -212,17 +211,15 @@ class Pass(Owner, ABC):
 
     @abstractmethod
     def journal_from(self, number: int = 0, tries: int = TRIES, volume: Optional[int] = None) -> Iterator[Entry]:
-        """Yields the journal entries after the first `number`, until there are no more. So
-        `store.journal_from(version.number)` yields what was written after a snapshot. Each entry is read by a separate
-        call, which is tried up to `tries` times while another pass is writing, and then raises `Busy`.
-
-        If there are several volumes, reads the journal of `volume`. Raises `NoVolume` if `volume` isn't given."""
+        """Yields the journal entries after the first `number` ones, until there are no more. So
+        `store.journal_from(version.number)` yields what was written after a snapshot. Each entry is read by a separate call,
+        which is tried up to `tries` times while another pass is writing, and then raises `Busy`. If there are several volumes,
+        reads the journal of `volume`, and raises `NoVolume` if that isn't given."""
 
     @abstractmethod
     def status(self, tries: int = TRIES) -> Status:
-        """Returns how full the store is, and which pass is the oldest active reader. Makes up to `tries` tries while
-        another pass is writing. With several volumes the numbers are sums, and the reader is taken from the first
-        volume that has one."""
+        """Returns how full the store is, and which pass is the oldest active reader. Tries up to `tries` times while another
+        pass is writing. With several volumes, the numbers are sums, and the reader is that of the first volume that has one."""
 
     def statuses(self, tries: int = TRIES) -> List[Status]:
         """Returns how full each volume is."""
@@ -231,7 +228,7 @@ class Pass(Owner, ABC):
     def reach(self, numbers: Union[int, Sequence[int]], within: float = 5) -> Tuple[int, ...]:
         """Waits up to `within` seconds until the journal, or each volume's journal, has at least this many entries.
         Returns how many entries each journal has. Versions that the pass pins from then on include these entries.
-        Raises `NotReached` if the entries don't come in time."""
+        Raises `NotReached` if the entries aren't there in time."""
         wanted = _numbers(numbers, self.volumes)
         until = time.monotonic() + within
         with waiting(self._commits, self.volumes) as waiter:
@@ -246,21 +243,21 @@ class Pass(Owner, ABC):
                 waiter.wait(left)
 
     def prepare(self, text: str) -> Prepared:
-        """Prepares this query text for repeated use in versions of this store, like `bestore.prepare`. A server's store
-        has the server parse the text, and needs no library; such a query can be run only in versions of servers'
-        stores. The errors are those of `bestore.prepare`."""
+        """Prepares this query text for repeated use in versions of this store, like `bestore.prepare`. For a server's store,
+        the server parses the text, so no library is needed; such a query can run only in versions of stores on servers. The
+        errors are those of `bestore.prepare`."""
         return prepare(text)
 
     def watch(self, query: Optional[str] = None) -> Watch:
-        """Starts to follow what a query finds, or every commit if `query` is None: `Watch.wait` waits for changes. For
-        a store in this process, the watch pins the pass for each look, and takes memory for the nodes that the query
-        finds. Raises a `QueryError`, or `Pinned`."""
+        """Begins to follow what a query finds, or every commit if `query` is None. `Watch.wait` then waits for changes. For a
+        store in this process, the watch pins the pass for each check, and uses memory for the nodes that the query finds.
+        Raises a `QueryError` or `Pinned`."""
         return LocalWatch(self, query)
 
     def change(self, function: Callable[[Change], _Result], attempts: int = ATTEMPTS, *, check_kinds: bool = True,
                tries: int = TRIES, volume: Optional[int] = None) -> _Result:
-        """Writes based on reads. Runs the function on a new snapshot, and commits the operations that the function
-        collected, but only if nothing else was written since. Otherwise runs the function again, on a newer snapshot.
+        """Makes a write that depends on reads. Runs the function on a new snapshot, and commits the operations that it
+        collected, but only if nothing else has been written since. Otherwise runs the function again, on a newer snapshot.
 
             def file(change):
                 node = change.new()
@@ -269,21 +266,21 @@ class Pass(Owner, ABC):
 
             node = store.change(file)
 
-        Returns what the function returned the last time; `committed` is then the commit number. If the function
-        collected no operation, nothing is written. The function may run up to `attempts` times, so it shouldn't do
-        anything else that can't be done twice. If the function raises, nothing is written.
+        Returns what the function's last run returned; `committed` is then the commit number. If the function collects no
+        operation, nothing is written. The function may run up to `attempts` times, so it shouldn't have other effects that
+        mustn't happen twice. If the function raises, nothing is written.
 
-        With several volumes, a change reads all volumes and writes one: `volume` if it is given, otherwise the volume
-        of the first operation. If the change makes a node before that volume is known, the node is made in the volume
-        with the most free pages. The change is committed if nothing else was written to that volume; what it read from
-        other volumes may have changed. Raises `OtherVolume` if the function writes to another volume.
+        With several volumes, a change reads all volumes and writes to one: `volume` if it is given, otherwise the volume of the
+        first operation. If the change creates a node before that volume is known, it does so in the volume with the most free
+        pages. The change is committed if nothing else was written to its volume; what it read from other volumes may have
+        changed. Raises `OtherVolume` if the function writes to a different volume.
 
-        The function also runs again if another pass is writing, up to `tries` times. With more than one try, it also
-        runs again at `Full` while another pass has the oldest snapshot, for about 2 seconds: by then the snapshot
-        usually isn't current any more.
+        The function also runs again if another pass is writing, up to `tries` times. With more than one try, it also runs again
+        on `Full` while another pass has the oldest snapshot, for about 2 seconds; after that, the change's snapshot is usually
+        no longer current.
 
-        Raises `TooManyAttempts` if other writes intervened at every attempt; `Pinned` if this pass is pinned; `Nested` if
-        the function writes through this pass; and the errors of `apply`. `Change.set` says what `check_kinds` does."""
+        Raises `TooManyAttempts` if another write came first on every attempt; `Pinned` if this pass is pinned; `Nested` if the
+        function writes through this pass; and the errors of `apply`. `Change.set` explains `check_kinds`."""
         waits, left = _Waits(self, tries), max(attempts, 1)
         while True:
             with self._begin_change(check_kinds, volume) as change:
@@ -303,7 +300,7 @@ class Pass(Owner, ABC):
                 raise failed
 
     def _begin_change(self, check_kinds: bool, volume: Optional[int]) -> Change:
-        """Begins a change on the current version. Raises `NoVolume` if the change is to write a volume that doesn't exist."""
+        """Begins a change on the current version. Raises `NoVolume` if there is no such volume to write to."""
         if volume:
             raise NoVolume(volume, 1)
         return self._change_on(self.pin(), check_kinds)
@@ -314,12 +311,12 @@ class Pass(Owner, ABC):
 
     @abstractmethod
     def _commit(self, change: Change) -> int:
-        """Writes what a change has collected, if nothing was written to its volume since, and unpins its snapshot.
-        Returns the commit number. Doesn't wait: raises `Busy` immediately if another pass is writing, and likewise
-        `Full`."""
+        """Writes what a change has collected, if nothing else has been written to its volume since, and unpins its snapshot.
+        Returns the commit number. Doesn't wait, but raises `Busy` immediately if another pass is writing, and `Full` if no page
+        is free."""
 
     def _run(self, function: Callable[[Change], _Result], change: Change) -> _Result:
-        """Runs the function of a change."""
+        """Runs a change's function."""
         self._is_changing = True
         try:
             return function(change)
@@ -327,35 +324,33 @@ class Pass(Owner, ABC):
             self._is_changing = False
 
     def _may_be_given_pages(self, error: Full) -> bool:
-        """Returns whether pages may become free for a write that found no free page, because another pass can still unpin its snapshot."""
+        """Returns whether pages may become free for a write that found none, because another pass can still unpin its snapshot."""
         return False
 
     def apply(self, batch: Batch, tries: int = TRIES, volume: Optional[int] = None) -> Tuple[int, List[int]]:
-        """Applies all operations of a batch or none, whatever other passes have written meanwhile. Returns the commit
-        number and, for each operation, the new node's number or 0. For a write based on a read, use `change`.
+        """Applies all operations of a batch or none, whatever other passes have written meanwhile. Returns the commit number
+        and, for each operation, the new node's number or 0. For a write that depends on reads, use `change`.
 
-        While another pass is writing, the call tries again, `tries` times in all. With more than one try, it also waits
-        up to about five seconds at `Full` while another pass has the oldest snapshot. Takes memory for the operations,
-        and new pages on the path to each change in a tree.
+        While another pass is writing, the call is tried up to `tries` times. With more than one try, it also waits up to about
+        five seconds on `Full` while another pass has the oldest snapshot. Uses memory for the operations, and new pages on the
+        path to each change in a tree.
 
-        With several volumes the batch is written to one of them: `volume` if it is given, otherwise the volume of the
-        nodes that the batch names, otherwise the volume with the most free pages. The commit number is the volume's. A
-        batch with only `make_index` and `remove_index` is written to one volume after another: to each that lacks the
-        index that is made, or has the index that is removed. If a volume refuses, the volumes before it have been
-        written, and applying the same batch again writes the others. For such a batch, the commit number is the sum of
-        the volumes' numbers.
+        With several volumes the batch is written to one of them: `volume` if it is given, otherwise the volume of the nodes
+        that the batch names, otherwise the volume with the most free pages. The commit number is that volume's. A batch with
+        only `make_index` and `remove_index` operations is written to one volume after another: to each that lacks the index to
+        create, or has the index to remove. If a volume refuses the batch, the volumes before it have already been written, and
+        applying the same batch again writes the others. For such a batch, the commit number is the sum of the volumes' numbers.
 
-        Raises `Busy`, `BadCount`, `NoMemory`; `NameLength`, `DataLength`, `HasNul`, `NotUTF8`, `NoKind` and
-        `NoValue` with the first operation that can't be read; `NoNode`, `NoAttribute`, `TooManyAttributes`,
-        `IndexExists`, `NoIndex`, `TooManyIndices` and `NotIndexable`; `CommitsSpent`, `Full`. With several volumes also
-        `NoVolume`, `OtherVolume`, `PartialIndex`."""
+        Raises `Busy`, `BadCount` or `NoMemory`; `NameLength`, `DataLength`, `HasNul`, `NotUTF8`, `NoKind` or `NoValue`, with
+        the first invalid operation; `NoNode`, `NoAttribute`, `TooManyAttributes`, `IndexExists`, `NoIndex`, `TooManyIndices` or
+        `NotIndexable`; `CommitsSpent` or `Full`. With several volumes, may also raise `NoVolume`, `OtherVolume` or
+        `PartialIndex`."""
         return self._written(batch, tries, volume=volume)
 
     def apply_if(self, number: int, batch: Batch, tries: int = TRIES, volume: Optional[int] = None) -> Tuple[int, List[int]]:
-        """Applies a batch like `apply`, but only if the journal has exactly `number` entries, so that no write came
-        after the snapshot with this number. Otherwise raises `Conflict`, and nothing is written. With several volumes,
-        the journal is that of the batch's volume. Raises `NoVolume` if the batch names no node and `volume` isn't
-        given."""
+        """Applies a batch like `apply`, but only if the journal has exactly `number` entries, that is, if nothing was written
+        after the snapshot with this number. Otherwise raises `Conflict`, and nothing is written. With several volumes, the
+        journal is that of the batch's volume. Raises `NoVolume` if the batch names no node and `volume` isn't given."""
         try:
             return self._written(batch, tries, number, volume)
         except Conflict as conflict:
@@ -380,18 +375,18 @@ class Pass(Owner, ABC):
 
     @property
     def _commits(self) -> Tuple[Commits, ...]:
-        """Returns the threads that wait for commits, for each volume whose passes wake them."""
+        """Returns the threads waiting for commits, for each volume whose passes wake them."""
         return ()
 
     def _wake(self) -> None:
-        """Wakes the threads that wait for what this pass has written."""
+        """Wakes the threads that are waiting for this pass's writes."""
 
     def new_node(self) -> int:
-        """Makes a node, and returns its number. Errors are those of `apply`, here and in the next calls."""
+        """Creates a node and returns its number. The errors are those of `apply`, here and in the calls below."""
         return self.apply(Batch().new_node())[1][0]
 
     def new_nodes(self, count: int) -> List[int]:
-        """Makes this many nodes, and returns their numbers. Each write makes up to 64 nodes."""
+        """Creates this many nodes and returns their numbers. Each write creates up to 64 nodes."""
         if count < 0:
             raise ValueError(f"can't make {count} nodes; ask for 0 or more")
         made: List[int] = []
@@ -407,7 +402,7 @@ class Pass(Owner, ABC):
         self.apply(Batch().remove_node(node))
 
     def set(self, node: int, name: str, value: Value, kind: Optional[int] = None) -> None:
-        """Sets an attribute, like `Batch.set`. Unlike in a change, the kind isn't compared with the index's kind."""
+        """Sets an attribute, like `Batch.set`. Unlike in a change, the value's kind isn't checked against the index's kind."""
         self.apply(Batch().set(node, name, value, kind))
 
     def unset(self, node: int, name: str) -> None:
@@ -415,7 +410,7 @@ class Pass(Owner, ABC):
         self.apply(Batch().unset(node, name))
 
     def make_index(self, name: str, kind: int) -> None:
-        """Makes an index with this name, for values of this kind. The index gets only attributes that are set from then
+        """Creates an index with this name, for values of this kind. The index receives only attributes that are set from then
         on; `reindex` adds earlier ones by setting them again."""
         self.apply(Batch().make_index(name, kind))
 
@@ -424,10 +419,10 @@ class Pass(Owner, ABC):
         self.apply(Batch().remove_index(name))
 
     def reindex(self, name: str) -> int:
-        """Adds attributes that were set before the index with this name was made, by setting them to the same values
-        again. Sets up to 64 attributes in each change, so no newer value is lost. Returns how many attributes were set.
-        Raises `NoIndex` if there is no such index; other errors are those of `change`. Reads each node, and writes each
-        of these attributes."""
+        """Adds attributes to the index with this name that were set before it was created, by setting them to the same values
+        again. Each change sets up to 64 attributes, so no newer value is lost. Returns how many attributes were set. Raises
+        `NoIndex` if there is no such index; other errors are those of `change`. Reads every node, and writes each of these
+        attributes."""
         with self.pin() as version:
             kind = version.indices().get(name)
             if kind is None:
@@ -440,9 +435,9 @@ class Pass(Owner, ABC):
 
 
 class ThreadPass(Pass):
-    """A pass that isn't a handle of the library. It remembers which thread is running the function of a change."""
+    """A pass that isn't one of the library's handles. It remembers which thread is running a change's function."""
 
-    _changing: Optional[int] = None  # the thread that runs it
+    _changing: Optional[int] = None  # the thread that is running it
 
     @property
     def _is_changing(self) -> bool:
@@ -454,7 +449,7 @@ class ThreadPass(Pass):
 
 
 def _numbers(numbers: Union[int, Sequence[int]], volumes: int) -> Tuple[int, ...]:
-    """Returns the commit number of each volume. Raises a ValueError unless there is one number per volume."""
+    """Returns each volume's commit number. Raises a ValueError unless there is one number per volume."""
     found = (numbers,) if isinstance(numbers, int) else tuple(numbers)
     if len(found) != volumes:
         raise ValueError(f"{len(found)} commit numbers for {volumes} volumes")
@@ -462,7 +457,7 @@ def _numbers(numbers: Union[int, Sequence[int]], volumes: int) -> Tuple[int, ...
 
 
 def _set_again(name: str, kind: Kind, nodes: List[int], change: Change) -> int:
-    """Sets an attribute of these nodes to its present value, if the value is of this kind."""
+    """Sets an attribute of these nodes to its current value, if the value is of this kind."""
     for node in nodes:
         typed = change.typed(node, name)
         if typed is not None and typed.kind == kind:

@@ -10,11 +10,11 @@ from typing import ClassVar, NamedTuple, Optional, SupportsIndex, Tuple, Type, T
 from .errors import NoKind, NoValue, WrongKind, decoded, encoded, wrong_kind
 
 Value = Union[str, bytes, int]
-"""A text, raw bytes, or a number."""
+"""A string, raw bytes, or a number."""
 
 
 class Kind(enum.IntEnum):
-    """The kinds of values, by the type codes of BeOS."""
+    """The kinds of values, with the type codes of BeOS."""
 
     # surface.toml: kinds
     STRING = 0x43535452
@@ -31,7 +31,7 @@ class Kind(enum.IntEnum):
 
 
 KIND_OF = {int(kind): kind for kind in Kind}
-"""The kinds by their codes."""
+"""The kinds, by type code."""
 RANGES = {
     # surface.toml: ranges
     Kind.INT32: range(-(2**31), 2**31),
@@ -40,13 +40,14 @@ RANGES = {
     Kind.UINT64: range(2**64),
     # surface.toml: end
 }
-"""The kinds of numbers, and what each holds."""
+"""The kinds of numbers, and the range of each."""
 
 _Self = TypeVar("_Self", bound="Integer")
 
 
 class Integer(int):
-    """An integer with an explicit kind. Raises `NoValue` if the kind can't hold it. Results of arithmetic are plain ints."""
+    """An integer with an explicit kind. Creating one raises `NoValue` if the kind can't hold the value. Results of arithmetic
+    are plain ints."""
 
     kind: ClassVar[Kind]
 
@@ -95,13 +96,13 @@ Encoded = Tuple[Kind, int, bytes]
 
 
 def plain(value: SupportsIndex) -> int:
-    """Returns an integer as a plain int, since a range would search number by number for an int of another class."""
+    """Returns an integer as a plain int, because `in` searches a range number by number for an int of another class."""
     return int(operator.index(value))
 
 
 def encode_value(value: Value, kind: Optional[int] = None) -> Encoded:
-    """Returns a value in the library's form. If `kind` is None, a str is STRING, bytes are RAW, and an int has the kind
-    of its class, or INT64 if it is a plain int."""
+    """Returns a value in the library's form. If `kind` is None, a str is a STRING, bytes are RAW, and an int has the kind of
+    its class, or INT64 if it is a plain int."""
     if isinstance(value, str):
         return _fitting(value, kind, "a str is", (Kind.STRING, Kind.MIME)), 0, encoded(value)
     if isinstance(value, (bytes, bytearray)):
@@ -116,7 +117,7 @@ def encode_value(value: Value, kind: Optional[int] = None) -> Encoded:
 
 
 def _number(value: SupportsIndex) -> int:
-    """Returns a value as a number. Raises a TypeError if it isn't a number. A bool would be read back as 0 or 1, so it is refused."""
+    """Returns a value as a number. Raises a TypeError if it isn't a number. A bool is refused, because it would be read back as 0 or 1."""
     if isinstance(value, bool):
         raise TypeError(f"{value} isn't an attribute's value: write int({value}), which is {int(value)}, or a string")
     try:
@@ -126,7 +127,7 @@ def _number(value: SupportsIndex) -> int:
 
 
 def _fitting(value: Value, kind: Optional[int], called: str, kinds: Tuple[Kind, ...]) -> Kind:
-    """Returns the kind that is given, or the first kind that the value may have."""
+    """Returns `kind` if it is given, otherwise the first kind that the value may have."""
     if kind is None:
         return kinds[0]
     for fitting in kinds:
@@ -140,11 +141,11 @@ def _fitting(value: Value, kind: Optional[int], called: str, kinds: Tuple[Kind, 
 
 
 _TEXTS, _SIGNED = frozenset((Kind.STRING, Kind.MIME)), frozenset(kind for kind, numbers in RANGES.items() if numbers[0] < 0)
-_NUMBERS = (Kind.INT64, *(kind for kind in RANGES if kind is not Kind.INT64))  # for a plain int, the first
+_NUMBERS = (Kind.INT64, *(kind for kind in RANGES if kind is not Kind.INT64))  # a plain int has the first
 
 
 def decode_value(code: int, number: int, value: bytes) -> Value:
-    """The value that these encode."""
+    """Returns the value that these encode."""
     if code in _TEXTS:
         return decoded(value)
     if code not in RANGES:
@@ -153,10 +154,10 @@ def decode_value(code: int, number: int, value: bytes) -> Value:
 
 
 def typed_value(code: int, number: int, value: bytes) -> Typed:
-    """The value that these encode, with its kind."""
+    """Returns the value that these encode, with its kind."""
     return Typed(decode_value(code, number, value), KIND_OF[code])
 
 
 def kind_mismatch(name: str, kind: int, index_kind: int) -> WrongKind:
-    """Returns the error for an attribute whose kind its name's index doesn't take. Both kinds are given as codes."""
+    """Returns the error for an attribute whose kind differs from its index's kind. Both kinds are given as type codes."""
     return wrong_kind(name, Kind(kind).name, Kind(index_kind).name)

@@ -16,14 +16,14 @@ from .queries import Item, Name, Prepared, with_prepared
 from .values import Kind, Typed, Value
 
 _Self = TypeVar("_Self", bound="Version")
-Asked = Union[str, Prepared]  # a query by its text or prepared
-Query = Union[str, Prepared, Tuple[Item, ...]]  # as it was asked
+Asked = Union[str, Prepared]  # a query as text, or prepared
+Query = Union[str, Prepared, Tuple[Item, ...]]  # a query in any form
 Row = Tuple[int, List[Optional[Value]]]
-"""A node, and values of its attributes."""
+"""A node and the values of its attributes."""
 
 
 def not_covered(asked: Query, indices: Iterable[str]) -> NotCovered:
-    """Returns the error for a query that needs an index other than these, with the position of the first name that has no index."""
+    """Returns the error for a query that needs an index not in `indices`, with the position of the first name that has no index."""
     if isinstance(asked, Prepared):
         asked = asked.source or asked.text
     if isinstance(asked, str):
@@ -41,23 +41,22 @@ def not_covered(asked: Query, indices: Iterable[str]) -> NotCovered:
 
 
 class Version(ABC):
-    """A snapshot: the store as it was when the pass was pinned, whatever is written meanwhile.
-
-    A version can be read until it is unpinned: at the end of a `with`, by `unpin`, or when the object is destroyed.
-    After that, each read raises `NotPinned`. `version[node]` returns a node's attributes, `node in version` says
-    whether the node exists, and `for node in version` iterates over all nodes. While a version is pinned, the store
-    keeps the version's pages, so unpin it soon."""
+    """A snapshot: the store as it was when the pass was pinned, whatever is written meanwhile. A version can be read until it
+    is unpinned, which happens at the end of a `with` block, by `unpin`, or when the object is destroyed. After that, each read
+    raises `NotPinned`. `version[node]` returns a node's attributes, `node in version` says whether the node exists, and `for
+    node in version` iterates over all nodes. While a version is pinned, the store keeps the version's pages, so unpin it
+    soon."""
 
     _shown: ClassVar[str] = "version"
 
     @property
     @abstractmethod
     def number(self) -> int:
-        """The commit number of the last write that the version includes, which is also how many writes it includes."""
+        """The commit number of the last write that the version includes, which is also the number of writes that it includes."""
 
     @property
     def numbers(self) -> Tuple[int, ...]:
-        """The commit number of each volume. Their sum is `number`. A store without volumes has one commit number."""
+        """Each volume's commit number. Their sum is `number`. A store without volumes has a single commit number."""
         return (self.number,)
 
     @property
@@ -77,7 +76,7 @@ class Version(ABC):
 
     @abstractmethod
     def unpin(self) -> None:
-        """Unpins the version, if it is still pinned."""
+        """Unpins the version if it is still pinned."""
 
     @property
     @abstractmethod
@@ -85,7 +84,7 @@ class Version(ABC):
         """The number that the next new node gets, if no other write comes first."""
 
     def _next_in(self, volume: int) -> int:
-        """Returns the number of a volume's next new node. Raises `NoVolume` if there is no such volume."""
+        """Returns the number that the next new node in a volume gets. Raises `NoVolume` if there is no such volume."""
         if volume != 0:
             raise NoVolume(volume, 1)
         return self.next_node
@@ -103,7 +102,7 @@ class Version(ABC):
         """Returns a node's attribute. Raises `NoAttribute` if the node has no such attribute."""
 
     def _value(self, node: int, name: str) -> Value:
-        """Returns an attribute's value without its kind, like `_read`."""
+        """Like `_read`, but returns the value without its kind."""
         return self._read(node, name).value
 
     @abstractmethod
@@ -112,14 +111,14 @@ class Version(ABC):
 
     @abstractmethod
     def _nodes_from(self, first: int, room: int) -> List[int]:
-        """Returns up to `room` nodes whose numbers are `first` or greater: fewer only if there are no more nodes."""
+        """Returns up to `room` nodes whose numbers are `first` or greater, and fewer only if there are no more nodes."""
 
     def _not_covered(self, asked: Query) -> NotCovered:
         """Returns the error for a query that needs another index."""
         return not_covered(asked, self.indices())
 
     def _first_of(self, asked: Query, start: int, limit: int) -> List[int]:
-        """Returns the first nodes that match a query, up to `limit` of them, beginning with the number `start`."""
+        """Returns the first nodes that match a query and whose numbers are `start` or greater, up to `limit` of them."""
         nodes = self._nodes_of(asked)
         begin = bisect_left(nodes, start)
         return nodes[begin:begin + limit]
@@ -129,7 +128,7 @@ class Version(ABC):
         return self._nodes_of(asked)[:limit]
 
     def _page_of(self, asked: Asked, order: Order, after: Optional[Cursor], limit: Optional[int]) -> Page[int]:
-        """Returns a page in this order, with all nodes if `limit` is None."""
+        """Returns a page in this order, which has all nodes if `limit` is None."""
         if isinstance(asked, str):
             return with_prepared(asked, lambda prepared: self._page_of(prepared, order, after, limit))
         if after is None:
@@ -139,8 +138,8 @@ class Version(ABC):
         return self._page_after(asked, after, limit)
 
     def _page_after(self, asked: Prepared, after: Cursor, limit: Optional[int]) -> Page[int]:
-        """Returns the page after a cursor from this query. This implementation cuts the page out of the whole answer; a
-        store that can walk an index overrides it."""
+        """Returns the page after one of this query's cursors. This implementation cuts the page out of the whole answer; a
+        store that can traverse an index overrides it."""
         order = after.order
         kind = self._order_kind(order.by)
         if after.kind not in (None, kind):
@@ -191,21 +190,20 @@ class Version(ABC):
 
     def query(self, text: str, *, by: Optional[str] = None, descending: bool = False, limit: Optional[int] = None,
               after: After = None, start: int = 0) -> List[int]:
-        """Returns the nodes that match the query, in ascending order. Raises a `QueryError` if the text isn't a valid
-        query, or `NotCovered` if the query needs another index. Takes the time to parse the text, and to read the part
-        of the indices that the query needs.
+        """Returns the nodes that match the query, in ascending order. Raises a `QueryError` if the text isn't a valid query, or
+        `NotCovered` if the query needs another index. Takes time to parse the text and to read the part of the indices that the
+        query needs.
 
-        With `limit`, returns the first nodes, up to that many, beginning with the number `start`. With `by`, returns a
-        `Page`: the nodes in the order of their values in the index with this name, and by number where the values are
-        equal; `descending` is the exact reverse. A page leaves out nodes that have no value in that index. `after` is
-        the cursor from an earlier page of the same query and order; the new page continues there. A page takes less
-        time than the whole answer. Raises `NoIndex`, `BadCursor` or `NoRoom` if there is no such page."""
+        With `limit`, returns up to that many nodes, beginning with the number `start`. With `by`, returns a `Page`: the nodes
+        in the order of their values in the index with this name, and by number if their values are equal; `descending` gives
+        the exact reverse. A page omits nodes that have no value in that index. `after` is the cursor from an earlier page of
+        the same query and order; the new page continues there. A page takes less time than the whole answer. Raises `NoIndex`,
+        `BadCursor` or `NoRoom` if there is no such page."""
         return self._part_of(text, by=by, descending=descending, limit=limit, after=after, start=start)
 
     def any(self, query: Asked, limit: int) -> List[int]:
-        """Returns any `limit` of the nodes that match the query, or all nodes if fewer match, in no particular order.
-        If the answer is large, the call takes less time than `query`: use it, for example, to find one of the jobs that
-        no one has taken."""
+        """Returns any `limit` of the nodes that match the query, or all of them if fewer match, in no particular order. If the
+        answer is large, this takes less time than `query`. Use it, for example, to find a job that nobody has taken."""
         if operator.index(limit) < 1:
             raise no_room(limit)
         return self._any_of(query, limit)
@@ -230,45 +228,42 @@ class Version(ABC):
 
     def query_prepared(self, prepared: Prepared, *, by: Optional[str] = None, descending: bool = False,
                        limit: Optional[int] = None, after: After = None, start: int = 0) -> List[int]:
-        """Returns the nodes that match a prepared query, like `query`. The result of the query's last refresh is unchanged."""
+        """Returns the nodes that match a prepared query, like `query`. This doesn't change the result of the query's last refresh."""
         return self._part_of(prepared, by=by, descending=descending, limit=limit, after=after, start=start)
 
     def count(self, query: Union[str, Prepared]) -> int:
-        """Returns how many nodes match the query, given as text or prepared. Costs as much as the query, but without the list."""
+        """Returns how many nodes match the query, given as text or prepared. Costs as much as the query, but builds no list."""
         return self._count_of(query)
 
     def pairs(self, name: str) -> int:
-        """Returns how many pairs of a value and a node the index with this name has. Raises `NoIndex` if there is no such
-        index. Takes the time to read the whole index."""
+        """Returns how many pairs of a value and a node are in the index with this name. Raises `NoIndex` if there is no such
+        index. Takes time to read the whole index."""
         return self._count_of(all_in(name, self._order_kind(name)))
 
     def hints(self, query: Union[str, Prepared]) -> List[Hint]:
-        """Returns the comparisons in a query that are never true, because the value isn't a number of the kind that the
-        name's index takes: size>1.5, or last_modified>2024-01-01. Raises a `QueryError` if the text isn't a valid
-        query."""
+        """Returns the comparisons in a query that are never true because the value isn't a number of the kind that the name's
+        index takes, such as size>1.5 or last_modified>2024-01-01. Raises a `QueryError` if the text isn't a valid query."""
         text = query if isinstance(query, str) else query._asked_text()
         return hints_in(text, self.indices())
 
     @abstractmethod
     def refresh(self, prepared: Prepared) -> Tuple[List[int], List[int]]:
-        """Returns which nodes joined the answer and which left it since the prepared query was last refreshed: two lists in ascending
-        order. The first time, all nodes that match the query come. Refresh a query only in versions of one store, or of
-        another store that the first store's state was carried on to, because nodes are compared by their numbers.
-        After an error the query is unchanged.
-
-        Runs the whole query and takes no lock, so it never makes another pass's write `Busy`."""
+        """Returns the nodes that joined the answer and those that left it since the prepared query was last refreshed, as two
+        lists in ascending order. The first time, all nodes that match the query join. Refresh a query only in versions of the
+        same store, or of a store to which that store's state was carried over, because nodes are compared by number. After an
+        error the query is unchanged. Runs the whole query and takes no lock, so it never makes another pass's write `Busy`."""
 
     def refresh_changed(self, prepared: Prepared) -> Tuple[List[int], List[int]]:
-        """Returns what `refresh` does. In a store in this process, it reads what was written since the last refresh,
-        and checks only the nodes that were written, so it takes less time if the answer has 96 nodes or more and few
-        nodes were written. Other passes' writes are `Busy` meanwhile. Otherwise, and in a shelf or a server's store, it
-        runs the whole query."""
+        """Returns the same as `refresh`. In a store in this process, it reads what was written since the last refresh and
+        checks only the nodes that were written, so it takes less time if the answer has 96 nodes or more and few nodes were
+        written. Other passes' writes are `Busy` meanwhile. Otherwise, and in a shelf or a server's store, it runs the whole
+        query."""
         return self.refresh(prepared)
 
     @abstractmethod
     def explain(self, text: str) -> str:
-        """Returns how the query would be answered: the comparisons whose indices would be read, and a cost. Reads no
-        node. The errors are those of `query`."""
+        """Returns how the query would be run: the comparisons whose indices would be read, and a cost. Reads no nodes. The
+        errors are those of `query`."""
 
     @overload
     def attributes(self, node: int) -> Dict[str, Value]: ...
@@ -289,49 +284,50 @@ class Version(ABC):
 
     @abstractmethod
     def indices(self) -> Dict[str, Kind]:
-        """Returns the indices: a dict from names to kinds, in ascending order of names. With several volumes, returns
-        only the indices that every volume has with the same kind."""
+        """Returns the indices as a dict from names to kinds, in ascending order of names. With several volumes, returns only
+        the indices that every volume has with the same kind."""
 
     def partial_indices(self) -> Dict[str, List[int]]:
-        """Returns the indices that some volumes lack, or have with another kind: a dict from names to the volumes that have the index."""
+        """Returns the indices that some volumes lack or have with a different kind, as a dict from names to the volumes that
+        have the index."""
         return {}
 
     @abstractmethod
     def state(self, volume: Optional[int] = None) -> Iterator[Batch]:
-        """Yields the operations that rebuild the version in an empty store, as batches of 1 to 64 operations, each for one `Pass.apply`:
+        """Yields the operations that rebuild the version in an empty store, as batches of 1 to 64 operations for `Pass.apply`:
 
             for batch in version.state():
                 other.apply(batch)
 
-        If there are several volumes, yields the batches for `volume`; apply them with the same `volume`. Raises
-        `NoVolume` if `volume` isn't given."""
+        If there are several volumes, yields the batches for `volume`, and raises `NoVolume` if that isn't given. Apply them
+        with the same `volume`."""
 
     def typed(self, node: int, name: str) -> Optional[Typed]:
-        """Returns a node's attribute with its kind, or None if the node has no such attribute. Takes one search in a tree."""
+        """Returns a node's attribute with its kind, or None if the node has no such attribute. Takes one tree search."""
         try:
             return self._read(node, name)
         except (NoAttribute, NoNode):
             return None
 
     def get(self, node: int, name: str) -> Optional[Value]:
-        """Returns a node's attribute, a str, bytes or an int, or None if the node has no such attribute. Takes one search in a tree."""
+        """Returns a node's attribute as a str, bytes or an int, or None if the node has no such attribute. Takes one tree search."""
         typed = self.typed(node, name)
         return None if typed is None else typed.value
 
     def kind(self, node: int, name: str) -> Optional[Kind]:
-        """Returns the kind of a node's attribute, or None if the node has no such attribute. Takes one search in a tree."""
+        """Returns the kind of a node's attribute, or None if the node has no such attribute. Takes one tree search."""
         typed = self.typed(node, name)
         return None if typed is None else typed.kind
 
     def column(self, nodes: Iterable[int], name: str) -> List[Optional[Value]]:
-        """Returns one attribute of many nodes: a list with each node's value, or None if the node has no such
-        attribute. Takes one search in a tree per node, and memory for the list."""
+        """Returns one attribute of many nodes: a list with each node's value, or None for a node without the attribute. Takes
+        one tree search per node, and memory for the list."""
         return [self.get(node, name) for node in nodes]
 
     def columns(self, nodes: Iterable[int], names: Iterable[str]) -> List[List[Optional[Value]]]:
-        """Returns several attributes of many nodes: for each name a list, like `column`. Takes less time than calling
-        `column` for each name, since it reads node by node. On a server, one round trip can carry a few thousand nodes
-        with five attributes each."""
+        """Returns several attributes of many nodes, with a list for each name as in `column`. Takes less time than calling
+        `column` for each name, because it reads node by node. With a server, one round trip can carry a few thousand nodes with
+        five attributes each."""
         read = list(nodes)
         return [self.column(read, name) for name in names]
 
@@ -344,11 +340,11 @@ class Version(ABC):
 
     def rows(self, query: Asked, names: Iterable[str], first: int = 0, most: int = 1024, *, by: Optional[str] = None,
              descending: bool = False, after: After = None) -> List[Row]:
-        """Returns up to `most` nodes that match the query, in ascending order and beginning with the number `first`,
-        each with its values for these names: pairs of a node and a list of values, with None where the node has no
-        such attribute. Takes as long as the query, plus one search in a tree per value. On a server, the call takes a
-        round trip for every few thousand rows, and allows up to 64 names. With `by`, returns a `Page` of rows, with the
-        nodes that `query` returns for the same `by`, `descending` and `after`."""
+        """Returns up to `most` nodes that match the query, in ascending order and beginning with the number `first`, each with
+        its values for these names. A row is a pair of a node and a list of values, with None for each missing attribute. Takes
+        as long as the query, plus one tree search per value. With a server, the call takes a round trip for every few thousand
+        rows, and allows up to 64 names. With `by`, returns a `Page` of rows, with the nodes that `query` returns for the same
+        `by`, `descending` and `after`."""
         if by is not None:
             if first:
                 raise TypeError("first is the number of a node; an order continues from a cursor: after=page.cursor")
@@ -373,7 +369,7 @@ class Version(ABC):
         return [(node, list(values)) for node, values in zip(nodes, zip(*found))] if names else [(node, []) for node in nodes]
 
     def __getitem__(self, node: int) -> Attributes:
-        """Returns a node's attributes. Each one is read when you access it."""
+        """Returns a node's attributes. Each is read when you access it."""
         return Attributes(self, node)
 
     def __contains__(self, node: int) -> bool:

@@ -15,29 +15,29 @@ if TYPE_CHECKING:
 
 
 class Changes(NamedTuple):
-    """What changed in a query's answer. It unpacks like what `Version.refresh` returns."""
+    """What changed in a query's answer. It unpacks like the result of `Version.refresh`."""
 
     created: List[int]
-    """The nodes that came, ascending."""
+    """The nodes that joined, in ascending order."""
     removed: List[int]
-    """The nodes that left, ascending."""
+    """The nodes that left, in ascending order."""
 
 
 class Watch(ABC):
-    """A live query that waits for changes, made by `Pass.watch`. At first, all nodes that match the query join.
+    """A live query that waits for changes, created by `Pass.watch`. The first time, all nodes that match the query join.
 
         with store.watch("MAIL:status==New") as unread:
             for came, went in unread:
                 print(came, went)
 
-    Taken together, what its calls return is what the query finds at `commit`. Changes from several commits arrive as one.
-    Without a query it waits for every commit, and never returns nodes."""
+    The changes returned so far add up to what the query finds at `commit`. Changes from several commits are returned together.
+    Without a query, a watch waits for every commit and never returns nodes."""
 
     def __init__(self, query: Optional[str]) -> None:
         self.query = query
-        """The text of the query, or None if each commit is watched."""
+        """The query's text, or None if every commit is watched."""
         self.commit = 0
-        """The commit number of the snapshot that the returned changes lead to; at first that of the first answer."""
+        """The commit number of the snapshot that the returned changes lead to, which is initially that of the first answer."""
 
     def __repr__(self) -> str:
         return f"<watch of {self.query or 'each commit'} at commit {self.commit}>"
@@ -49,7 +49,7 @@ class Watch(ABC):
         self.close()
 
     def __iter__(self) -> Iterator[Changes]:
-        """Yields the changes forever, each as soon as it comes."""
+        """Yields changes forever, each as soon as it arrives."""
         while True:
             changes = self.wait()
             assert changes is not None
@@ -57,35 +57,35 @@ class Watch(ABC):
 
     @abstractmethod
     def refresh(self) -> Changes:
-        """Returns what changed since a call on this watch last returned something, up to what the pass's reads see now."""
+        """Returns what changed since a call on this watch last returned something, up to what the pass would read now."""
 
     @abstractmethod
     def wait(self, timeout: Optional[float] = None) -> Optional[Changes]:
-        """Returns the changes that haven't been returned yet. If there are no such changes, waits for up to `timeout`
-        seconds, or forever if `timeout` is None, and returns None if no change came."""
+        """Returns the changes that haven't been returned yet. If there are none, waits up to `timeout` seconds, or forever if
+        `timeout` is None, and returns None if no change arrives."""
 
     @abstractmethod
     def close(self) -> None:
-        """Ends the watch, if it hasn't ended."""
+        """Ends the watch, unless it has already ended."""
 
 
 class LocalWatch(Watch):
-    """A watch in a store in this process. A pass that writes wakes the waiting threads, so nothing polls. Each look
-    pins the pass, and raises `Pinned` if the pass is pinned already. It runs the query with `Version.refresh_changed`,
-    since little is written between two looks."""
+    """A watch on a store in this process. A pass that writes wakes the waiting threads, so nothing polls. Each check pins the
+    pass, and raises `Pinned` if the pass is already pinned. It runs the query with `Version.refresh_changed`, because little is
+    written between two checks."""
 
     def __init__(self, user: Pass, query: Optional[str]) -> None:
         super().__init__(query)
         self._user, self._is_open = user, True
         with user.pin() as version:
             if query is not None:
-                version.explain(query)  # which raises the error if the query isn't valid
+                version.explain(query)  # raises the error if the query isn't valid
             self.commit = version.number
             self._seen = None if query is not None else version.numbers
         self._live = None if query is None else prepare(query)
 
     def _look(self) -> Optional[Changes]:
-        """Returns what changed since the last look, or None if nothing was committed since."""
+        """Returns what changed since the last check, or None if nothing has been committed since."""
         if not self._is_open:
             raise Closed()
         with self._user.pin() as version:

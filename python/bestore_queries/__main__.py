@@ -29,7 +29,7 @@ def parser() -> argparse.ArgumentParser:
 
 
 def source_of(options: argparse.Namespace) -> Source:
-    """Returns the store that the command line names."""
+    """Returns the store that the command line specifies."""
     if options.folder is None:
         return ServerSource(options.socket)
     if not os.path.isdir(options.folder):

@@ -1,5 +1,5 @@
-"""The thread that runs queries for a window, reads the hits, and writes attributes. The window sends requests to the
-thread, and takes its reports; neither waits for the other."""
+"""The thread that runs queries for a window, reads the hits, and writes attributes. The window sends requests to the thread and
+takes its reports. Neither waits for the other."""
 
 from __future__ import annotations
 
@@ -17,14 +17,14 @@ from .places import PLACE_NAMES, Places
 from .sorted_hits import Hit, Node
 from .sources import LiveAnswer, Numbers, Session, Source
 
-SLICE = 1_000   # hits that are read from one snapshot
-REPORTED = 100  # hits in one report, so that the window needs little time for it
-FEW = 100       # hits that are read individually, without running the query again
+SLICE = 1_000   # hits to read from one snapshot
+REPORTED = 100  # hits in one report, so that the window spends little time on it
+FEW = 100       # hits to read individually, without running the query again
 PAUSE = 0.2     # seconds between checks for new writes
 RETRY = 1.0     # seconds between attempts to open the store
-NAMED = 20      # hits whose attributes are named
+NAMED = 20      # hits whose attribute names are reported
 COUNTING = 1.0  # seconds between counts of all nodes
-ENDING = 5.0    # seconds to wait for the end
+ENDING = 5.0    # seconds to wait for the thread to end
 
 
 class Begin(NamedTuple):
@@ -32,7 +32,7 @@ class Begin(NamedTuple):
 
     order: Order
     most: int
-    """How many of them: the visible ones, and a few more."""
+    """How many of them: the visible ones and a few more."""
 
 
 class Sort(NamedTuple):
@@ -46,12 +46,12 @@ class Ask(NamedTuple):
     """A request: run this query, and follow it."""
 
     turn: int
-    """A number that is in each report about it."""
+    """A number that every report about the query contains."""
     text: str
     names: Sequence[str]
-    """The attributes that are read for each hit."""
+    """The attributes to read for each hit."""
     begin: Optional[Begin] = None
-    """The hits that are reported before all others."""
+    """The hits to report before all others."""
 
 
 class Write(NamedTuple):
@@ -61,7 +61,7 @@ class Write(NamedTuple):
     name: str
     text: str
     shown: Optional[bestore.Value]
-    """What the window shows. If the store has a different value by now, nothing is written."""
+    """The value that the window shows. If the store has a different value by now, nothing is written."""
 
 
 class Opened(NamedTuple):
@@ -71,20 +71,20 @@ class Opened(NamedTuple):
 
 
 class Lost(NamedTuple):
-    """A report: the store isn't available. It is opened again as soon as it is back."""
+    """A report: the store isn't available. It will be reopened as soon as it is back."""
 
     reason: str
 
 
 class Accepted(NamedTuple):
-    """A report: the query is followed."""
+    """A report: the query is being followed."""
 
     turn: int
     hints: List[bestore.Hint]
 
 
 class Refused(NamedTuple):
-    """A report: the query isn't followed, or no longer."""
+    """A report: the query isn't being followed, or is no longer."""
 
     turn: int
     error: bestore.Error
@@ -114,14 +114,14 @@ class Came(NamedTuple):
 
 
 class Went(NamedTuple):
-    """A report: nodes that aren't hits any more."""
+    """A report: nodes that are no longer hits."""
 
     turn: int
     nodes: List[Node]
 
 
 class Counted(NamedTuple):
-    """A report: how many hits there are, how many of them haven't been read yet, and how many nodes could be found."""
+    """A report: how many hits there are, how many of them haven't been read yet, and how many nodes a query could find."""
 
     turn: int
     hits: int
@@ -130,7 +130,7 @@ class Counted(NamedTuple):
 
 
 class Written(NamedTuple):
-    """A report: the write has been made, or why it hasn't."""
+    """A report: the write was made, or the reason why it wasn't."""
 
     write: Write
     fault: Optional[str]
@@ -140,24 +140,24 @@ Report = Union[Opened, Lost, Accepted, Refused, Named, First, Came, Went, Counte
 
 
 class NotWritten(Exception):
-    """A write isn't made, for the reason in the text."""
+    """A write wasn't made, for the reason given in the message."""
 
 
 class _Following:
-    """A followed query: its hits, those that haven't been read yet, and the snapshot up to which they are known."""
+    """A query being followed: its hits, the hits that haven't been read yet, and the snapshot up to which they are known."""
 
     def __init__(self, ask: Ask, live: LiveAnswer) -> None:
         self.ask, self.live = ask, live
         self.known: Set[Node] = set()
         self.reported: Set[Node] = set()
-        self._ahead: List[Node] = []  # hits reported from a snapshot that the answer hasn't caught up with yet
+        self._ahead: List[Node] = []  # hits reported from a snapshot that is newer than the answer
         self.waiting: Dict[Node, None] = {}
-        self.gone: List[Node] = []  # hits that have left, but haven't been reported yet
+        self.gone: List[Node] = []  # hits that have left but haven't been reported yet
         self.seen: Optional[Numbers] = None
         self.is_named = False
 
     def refresh(self, version: bestore.Version, changed: Iterable[Node]) -> None:
-        """Moves to a snapshot in which these nodes' attributes may have changed."""
+        """Advances to a snapshot in which these nodes' attributes may have changed."""
         came, went = self.live.refresh(version)
         self.seen = version.numbers
         self.known.difference_update(went)
@@ -177,8 +177,8 @@ class _Following:
         self.reported.update(self._ahead)
 
     def reports(self, hits: List[Hit]) -> List[Report]:
-        """Returns what there is to report once these hits have been read. Hits that left come first, since one of them may have
-        returned."""
+        """Returns what there is to report now that these hits have been read. Hits that left come first, because one of them
+        may have returned."""
         turn, gone, self.gone = self.ask.turn, self.gone, []
         for hit in hits:
             del self.waiting[hit.node]
@@ -197,12 +197,12 @@ class _Following:
 
 
 def _names(ask: Ask) -> List[str]:
-    """Returns the attributes of each hit that the window needs."""
+    """Returns the attributes that the window needs for each hit."""
     return list(dict.fromkeys([*ask.names, *PLACE_NAMES]))
 
 
 class _Requests:
-    """The window's requests: the last query, and the writes that haven't been made yet."""
+    """The window's requests: its latest query, and the writes that haven't been made yet."""
 
     def __init__(self) -> None:
         self._came = threading.Condition()
@@ -212,7 +212,7 @@ class _Requests:
         self._is_ended = False
 
     def put(self, request: Union[Ask, Sort, Write, None]) -> None:
-        """Adds a request, or ends the requests if it is None."""
+        """Adds a request; None ends the requests."""
         with self._came:
             if isinstance(request, Ask):
                 self._ask, self._sort = request, None
@@ -225,12 +225,12 @@ class _Requests:
             self._came.notify()
 
     def put_back(self, write: Write) -> None:
-        """Puts back a write that wasn't made, so that it is the next one."""
+        """Puts back a write that wasn't made, so that it comes next."""
         with self._came:
             self._writes.appendleft(write)
 
     def wait(self, timeout: float) -> None:
-        """If nothing is queued, waits up to this many seconds."""
+        """Waits up to this many seconds if nothing is queued."""
         with self._came:
             self._came.wait_for(lambda: self._ask or self._sort or self._writes or self._is_ended, timeout)
 
@@ -241,7 +241,7 @@ class _Requests:
             return ask
 
     def take_sort(self) -> Optional[Sort]:
-        """Takes the order whose first hits are wanted, if there is one."""
+        """Takes the order whose first hits are requested, if there is one."""
         with self._came:
             sort, self._sort = self._sort, None
             return sort
@@ -253,7 +253,7 @@ class _Requests:
 
 
 class Asker(threading.Thread):
-    """Runs queries on a source. The window calls `send`, and reads `reports`."""
+    """Runs queries on a source. The window calls `send` and reads `reports`."""
 
     def __init__(self, source: Source) -> None:
         super().__init__(name="asker", daemon=True)
@@ -264,7 +264,7 @@ class Asker(threading.Thread):
         self._following: Optional[_Following] = None
         self._indices: Mapping[str, bestore.Kind] = {}
         self._places = Places()
-        self._store: Optional[str] = None  # the store that was open last
+        self._store: Optional[str] = None  # the last store that was open
         self._has_news = False
         self._all, self._counted_at = 0, 0.0
 
@@ -273,7 +273,7 @@ class Asker(threading.Thread):
         self._requests.put(request)
 
     def end(self) -> None:
-        """Ends the thread. If a server doesn't reply, this doesn't wait long."""
+        """Ends the thread, without waiting long for a server that doesn't reply."""
         self._ended.set()
         self._requests.put(None)
         if self.is_alive():
@@ -297,7 +297,7 @@ class Asker(threading.Thread):
                 session.close()
 
     def _report(self, *reports: Report) -> None:
-        """Reports to the window, as soon as the window has taken the earlier reports."""
+        """Reports to the window once it has taken the earlier reports."""
         for report in reports:
             while not self._ended.is_set():
                 try:
@@ -307,7 +307,7 @@ class Asker(threading.Thread):
                     continue
 
     def _serve(self, session: Session) -> None:
-        """Does what the window asks for, and follows the query."""
+        """Carries out the window's requests, and follows the query."""
         self._places, self._counted_at = Places(), 0.0
         self._check_store(session.store)
         with session.user.pin() as version:
@@ -328,14 +328,14 @@ class Asker(threading.Thread):
                 self._step(session, self._following)
 
     def _check_store(self, store: str) -> None:
-        """Refuses the waiting writes if their nodes belong to another store."""
+        """Refuses the pending writes if their nodes belong to another store."""
         if self._store not in (None, store):
             for write in iter(self._requests.take_write, None):
                 self._report(Written(write, "there is a different store now"))
         self._store = store
 
     def _ask(self, session: Session, ask: Ask) -> None:
-        """Follows a query instead of the previous one. The previous query may have many hits, so they are freed only once the new
+        """Follows a query in place of the previous one. That one may have many hits, so they are freed only after the new
         query's first hits have been reported."""
         try:
             first = self._report_first(session, ask, ask.begin)
@@ -365,8 +365,8 @@ class Asker(threading.Thread):
             self._has_news = True
 
     def _report_first(self, session: Session, ask: Ask, begin: Optional[Begin]) -> List[Hit]:
-        """Reads the first hits in an order, and reports them. After an error it reports no hits: the window sorts all
-        hits once it has them."""
+        """Reads and reports the first hits in an order. After an error it reports none, and the window sorts all hits once it
+        has them."""
         if begin is None:
             return []
         names, (by, descending), hits = _names(ask), begin.order, []  # type: List[str], Order, List[Hit]
@@ -382,7 +382,7 @@ class Asker(threading.Thread):
         return hits
 
     def _step(self, session: Session, following: _Following) -> None:
-        """Moves to the current snapshot, and reads hits from it."""
+        """Advances to the current snapshot, and reads hits from it."""
         self._has_news = session.has_news() or self._has_news or following.seen is None
         if not self._has_news and not following.waiting:
             return
@@ -390,7 +390,7 @@ class Asker(threading.Thread):
             with session.user.pin() as version:
                 reports = self._follow(session, following, version)
         except bestore.Expired:
-            return  # the server ended the snapshot: the next step gets a new one
+            return  # the server ended the snapshot, so the next step gets a new one
         except bestore.BrokenConnection:
             raise
         except bestore.Error as error:
@@ -401,7 +401,7 @@ class Asker(threading.Thread):
             self._report(*reports)
 
     def _follow(self, session: Session, following: _Following, version: bestore.Version) -> List[Report]:
-        """Returns what there is to report from a snapshot. If this call raises, the next call reports the same."""
+        """Returns what there is to report from a snapshot. If this raises, the next call reports it again."""
         turn = following.ask.turn
         if version.numbers != following.seen:
             following.refresh(version, self._changed(session, following, version))
@@ -426,7 +426,7 @@ class Asker(threading.Thread):
         return written
 
     def _read(self, following: _Following, version: bestore.Version) -> List[Hit]:
-        """Returns the next waiting hits, with the attributes that the window needs."""
+        """Reads the next unread hits, with the attributes that the window needs, and returns them."""
         names = _names(following.ask)
         return [self._hit(version, node, names, values) for node, values in following.read(version, names).items()]
 
@@ -437,7 +437,7 @@ class Asker(threading.Thread):
         return Hit(node, attributes)
 
     def _count(self, version: bestore.Version) -> int:
-        """Returns how many nodes could be found. They are counted only now and then."""
+        """Returns how many nodes a query could find. They are counted only now and then."""
         if time.monotonic() >= self._counted_at + COUNTING:
             everything = find.everything(self._indices)
             self._all = version.count(everything) if everything else 0
@@ -445,7 +445,7 @@ class Asker(threading.Thread):
         return self._all
 
     def _write(self, session: Session, write: Write) -> None:
-        """Makes a write. If the store disappears before the write is made, the write waits until the store is back."""
+        """Makes a write. If the store becomes unavailable first, the write waits until the store is back."""
         fault: Optional[str] = None
         try:
             session.user.change(lambda change: self._set(change, write))
@@ -463,7 +463,7 @@ class Asker(threading.Thread):
         self._report(Written(write, fault))
 
     def _set(self, change: bestore.Change, write: Write) -> None:
-        """Writes an attribute, if the attribute still has the value that the window shows."""
+        """Writes an attribute if it still has the value that the window shows."""
         if write.node not in change:
             raise NotWritten("it is gone")
         typed = change.typed(write.node, write.name)

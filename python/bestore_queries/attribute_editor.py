@@ -1,4 +1,4 @@
-"""Edits an attribute in place in the list."""
+"""Edits an attribute in place, in the list."""
 
 from __future__ import annotations
 
@@ -14,7 +14,7 @@ Box = Tuple[int, int, int, int]
 
 
 class Cell(NamedTuple):
-    """What is being edited: a node's attribute, and the value that the list showed at the start."""
+    """The cell being edited: a node's attribute, and the value that the list showed at the start."""
 
     node: Node
     column: Column
@@ -22,15 +22,15 @@ class Cell(NamedTuple):
 
 
 class AttributeEditor:
-    """An entry over a cell of the list. Return or a click elsewhere accepts the text, Escape doesn't."""
+    """An entry over a cell of the list. Return or a click elsewhere accepts the text; Escape discards it."""
 
     def __init__(self, tree: ttk.Treeview, take: Callable[[Cell, str], None]) -> None:
         self._tree, self._take = tree, take
         self.entry: Optional[ttk.Entry] = None
-        """Where it is typed."""
+        """The entry that the user types in."""
         self._before = ""
         self.cell: Optional[Cell] = None
-        """What is being edited."""
+        """The cell that is being edited."""
 
     def begin(self, cell: Cell, before: str, text: str, box: Box) -> None:
         """Shows an entry with this text over a cell. `before` is the value as text."""
@@ -50,11 +50,11 @@ class AttributeEditor:
 
     @property
     def text(self) -> str:
-        """What has been typed so far."""
+        """The text typed so far."""
         return "" if self.entry is None else self.entry.get()
 
     def move(self, box: Optional[Box]) -> None:
-        """Follows the cell, which isn't visible if it has no box."""
+        """Follows the cell. Without a box, the cell isn't visible."""
         if self.entry is None:
             return
         if box is None:
@@ -73,7 +73,7 @@ class AttributeEditor:
         return "break"
 
     def end(self) -> None:
-        """Removes the entry and its text."""
+        """Removes the entry together with its text."""
         entry, self.entry, self.cell = self.entry, None, None
         if entry is not None:
             entry.destroy()

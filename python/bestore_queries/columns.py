@@ -1,4 +1,4 @@
-"""Attributes as columns: how their values are shown, and how typed values are read."""
+"""Attributes as columns: how their values are shown, and how typed values are parsed."""
 
 from __future__ import annotations
 
@@ -15,7 +15,7 @@ from . import dates
 MAIL_TYPE = "text/x-email"
 FOLDER_TYPE = "application/x-vnd.Be-directory"
 HIDDEN = frozenset({"FILE:parent", "FILE:root", "FILE:name", "FILE:stat", "FILE:xattrs"})
-"""The attributes by which an import recognises files. Nobody looks at it."""
+"""The attributes by which an import recognises files. They are of no interest to users."""
 OF_FILES = HIDDEN | {"name", "size", "last_modified", "created", "folder", "path"}
 """The attributes that the file itself determines. The window doesn't edit them."""
 
@@ -27,7 +27,7 @@ class NotAValue(ValueError):
 
 
 def is_time(attribute: str) -> bool:
-    """Returns whether an attribute with this name, if its value is an integer, is a time in seconds since 1970."""
+    """Returns whether an integer attribute with this name is a time in seconds since 1970."""
     return _TIME.fullmatch(attribute) is not None
 
 
@@ -48,7 +48,7 @@ def size_in_words(size: bestore.Value) -> str:
 
 
 def time_in_words(seconds: bestore.Value) -> str:
-    """Returns a time in a readable form. A number outside the calendar is shown unchanged."""
+    """Returns a time in a readable form, or the number itself if it is outside the calendar."""
     if not isinstance(seconds, int):
         return text_of(seconds)
     try:
@@ -65,7 +65,7 @@ def text_of(value: bestore.Value) -> str:
 
 
 class Column(NamedTuple):
-    """A column of the list: an attribute, and how it is shown."""
+    """A column of the list: an attribute and how it is shown."""
 
     attribute: str
     title: str
@@ -74,13 +74,13 @@ class Column(NamedTuple):
     in_words: Callable[[bestore.Value], str] = text_of
 
     def shown(self, attributes: Mapping[str, bestore.Value]) -> str:
-        """Returns what the list shows for a node's attributes."""
+        """Returns what the list shows in this column for a node with these attributes."""
         value = attributes.get(self.attribute)
         return "" if value is None else self.in_words(value)
 
     @property
     def is_edited(self) -> bool:
-        """Whether the window writes this attribute."""
+        """Whether the window can edit this attribute."""
         return self.attribute not in OF_FILES
 
 
@@ -108,7 +108,7 @@ def column_of(attribute: str, kind: Optional[bestore.Kind] = None) -> Column:
 
 
 def default_columns(indices: Mapping[str, bestore.Kind], is_mail: bool = False) -> List[Column]:
-    """Returns the default columns for a store with these indices: the columns for files or for mails, otherwise the first six
+    """Returns the default columns for a store with these indices: the columns for files or for mail, or otherwise the first six
     attributes."""
     if "MAIL:subject" in indices and is_mail:
         return [_KNOWN[it] for it in _MAIL if it in indices]
@@ -132,7 +132,7 @@ def edited_text(attribute: str, value: Optional[bestore.Value]) -> str:
 
 
 def _edited_time(seconds: int) -> str:
-    """Returns a time as a date that can be read back. A number outside the calendar is edited unchanged."""
+    """Returns a time as a date that can be parsed again, or the number itself if it is outside the calendar."""
     try:
         return datetime.fromtimestamp(seconds).isoformat(" ")
     except (ValueError, OverflowError, OSError):
@@ -140,7 +140,7 @@ def _edited_time(seconds: int) -> str:
 
 
 def typed_value(attribute: str, text: str, kind: bestore.Kind) -> bestore.Value:
-    """Reads a typed value of this kind for an attribute. Raises `NotAValue` if the text isn't valid."""
+    """Parses a typed value of this kind for an attribute. Raises `NotAValue` if the text isn't valid."""
     if kind == bestore.RAW:
         try:
             return bytes.fromhex(text)

@@ -36,22 +36,22 @@ class NotADate(ValueError):
 
 
 class Span(NamedTuple):
-    """The time span that a date means, in seconds since 1970: from `begin` up to, but not including, `end`."""
+    """The period that a date means, in seconds since 1970: from `begin` up to but not including `end`."""
 
     begin: int
     end: int
 
 
 class _Moment(NamedTuple):
-    """A time, and how large a part of the calendar it means, such as "day"."""
+    """A time, and the unit of the calendar that it means, such as "day"."""
 
     at: datetime
     unit: str
 
 
 def span_of(text: str, now: Optional[datetime] = None) -> Span:
-    """Returns the time that a typed date means, by the local clock: a date is the whole day, a month the whole month,
-    and a time of day one minute. Raises `NotADate`."""
+    """Returns the period that a typed date means in local time: a date is the whole day, a month the whole month, and a time of
+    day one minute. Raises `NotADate`."""
     at = datetime.now() if now is None else now
     words = " ".join(text.lower().split())
     try:
@@ -75,7 +75,7 @@ def _moment(words: str, now: datetime) -> Optional[_Moment]:
 
 
 def _with_time(words: str, now: datetime) -> Optional[_Moment]:
-    """Parses a day with a time of day. If no day is named, it is today."""
+    """Parses a time of day with an optional day, which is today by default."""
     found = _TIME.search(words)
     if found is None:
         return None
@@ -88,7 +88,7 @@ def _with_time(words: str, now: datetime) -> Optional[_Moment]:
 
 
 def _start_of(unit: str, at: datetime) -> datetime:
-    """Returns the start of the part of the calendar that contains a time."""
+    """Returns the start of the calendar unit that contains a time."""
     if unit == "week":
         at -= timedelta(days=at.weekday())
     fields = {"second": 5, "minute": 4, "hour": 3, "day": 2, "week": 2, "month": 1, "year": 0}[unit]
@@ -98,7 +98,7 @@ def _start_of(unit: str, at: datetime) -> datetime:
 
 
 def _moved(at: datetime, unit: str, count: int) -> datetime:
-    """Returns a time this many units later. A day past the end of the month becomes the month's last day."""
+    """Returns the time this many units later. A day past the end of its month becomes the month's last day."""
     if unit in ("month", "year"):
         months = at.year * 12 + at.month - 1 + count * (12 if unit == "year" else 1)
         year, month = divmod(months, 12)
@@ -109,7 +109,7 @@ def _moved(at: datetime, unit: str, count: int) -> datetime:
 
 
 def _word(words: str, now: datetime) -> Optional[_Moment]:
-    """Parses now, today, yesterday, tomorrow, this week, last month, next year."""
+    """Parses now, today, yesterday, tomorrow, this week, last month, next year and the like."""
     days = {"today": 0, "yesterday": -1, "tomorrow": 1}
     if words == "now":
         return _Moment(now, "second")
@@ -123,7 +123,7 @@ def _word(words: str, now: datetime) -> Optional[_Moment]:
 
 
 def _ago(words: str, now: datetime) -> Optional[_Moment]:
-    """Parses "2 days ago", which means that moment and not the whole day."""
+    """Parses "2 days ago", which means that moment rather than the whole day."""
     found = _AGO.fullmatch(words)
     if found is None:
         return None
@@ -132,7 +132,7 @@ def _ago(words: str, now: datetime) -> Optional[_Moment]:
 
 
 def _weekday(words: str, now: datetime) -> Optional[_Moment]:
-    """Parses a day of the week: the last such day before today. `next monday` is the first Monday after today."""
+    """Parses a day of the week, which means the last such day before today. `next monday` is the first Monday after today."""
     which, _, name = words.rpartition(" ")
     days = [place for place, day in enumerate(_DAYS) if len(name) >= 3 and day.startswith(name)]
     if which not in ("", "last", "next") or len(days) != 1:
@@ -144,7 +144,7 @@ def _weekday(words: str, now: datetime) -> Optional[_Moment]:
 
 
 def _iso(words: str, now: datetime) -> Optional[_Moment]:
-    """Parses 2024, 2024-01, 2024-01-31."""
+    """Parses 2024, 2024-01 and 2024-01-31."""
     found = _ISO.fullmatch(words)
     if found is None:
         return None
@@ -158,7 +158,7 @@ def _date(year: int, month: Optional[str], day: Optional[str]) -> _Moment:
 
 
 def _dotted(words: str, now: datetime) -> Optional[_Moment]:
-    """Parses 31.1.2024. A date with `/` is ambiguous, and isn't read."""
+    """Parses 31.1.2024. A date with `/` is ambiguous, so it isn't accepted."""
     if re.fullmatch(r"[0-9]{1,4}/[0-9]{1,2}/[0-9]{1,4}", words):
         raise NotADate(words, "it is ambiguous; type a date like 2024-01-31")
     found = _DOTTED.fullmatch(words)
@@ -166,7 +166,7 @@ def _dotted(words: str, now: datetime) -> Optional[_Moment]:
 
 
 def _named(words: str, now: datetime) -> Optional[_Moment]:
-    """Parses 31 Jan 2024, Jan 31, 2024, Jan 2024, 31 Jan. Without a year, it is the last such date up to today."""
+    """Parses 31 Jan 2024, Jan 31, 2024, Jan 2024 and 31 Jan. Without a year, it means the last such date up to today."""
     found = _NAMED.fullmatch(words)
     if found is None:
         return None

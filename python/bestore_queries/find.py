@@ -1,4 +1,4 @@
-"""The query of a Find row: an attribute, a comparison, and what was typed."""
+"""A Find row's query, made from an attribute, a comparison, and the typed text."""
 
 from __future__ import annotations
 
@@ -13,7 +13,7 @@ from . import columns
 
 
 class Relation(enum.Enum):
-    """How an attribute is compared. The value is what the row shows."""
+    """How an attribute is compared. The value is the text that the row shows."""
 
     CONTAINS = "contains"
     IS = "is"
@@ -43,13 +43,13 @@ def relations_of(attribute: str, kind: Optional[bestore.Kind]) -> List[Relation]
 
 
 def attributes_of(indices: Mapping[str, bestore.Kind]) -> List[str]:
-    """Returns the attributes that can be searched, the most common ones first."""
+    """Returns the attributes that can be searched, with the most common ones first."""
     order = ["name", "MAIL:subject", "MAIL:from", "MAIL:to", "size", "last_modified", "MAIL:when", "BEOS:TYPE"]
     return sorted(indices, key=lambda name: (order.index(name) if name in order else len(order), name))
 
 
 def everything(indices: Mapping[str, bestore.Kind]) -> Optional[str]:
-    """Returns the query that finds all files, or all nodes with some other attribute. Returns None if there are no indices."""
+    """Returns the query that finds all files, or otherwise all nodes with some other attribute, or None if there are no indices."""
     for attribute in attributes_of(indices)[:1]:
         numbers = RANGES.get(indices[attribute])
         return query_of(attribute, Relation.CONTAINS, "") if numbers is None else f"{_quoted(attribute)}>={numbers[0]}"
@@ -63,7 +63,7 @@ def _quoted(attribute: str) -> str:
 
 
 def query_of(attribute: str, relation: Relation, typed: str) -> str:
-    """Returns the query for a row. Texts match regardless of case. An empty row finds all nodes that have the attribute."""
+    """Returns a row's query. Strings match regardless of case. An empty row finds all nodes that have the attribute."""
     name, text = _quoted(attribute), typed.strip()
     if relation in _TIME:
         return f"{name}{_SIGNS[relation]}%{text}%" if text else f"{name}>=0"

@@ -1,4 +1,4 @@
-"""A row where people say what they are looking for: an attribute, a comparison, and a value."""
+"""A row in which the user enters what to find: an attribute, a comparison, and a value."""
 
 from __future__ import annotations
 
@@ -13,13 +13,13 @@ from .theme import FACE
 
 
 class FindRow(tk.Frame):
-    """The row. It calls `asks` with its query while the user is typing."""
+    """The row, which calls `asks` with its query as the user types."""
 
     def __init__(self, parent: tk.Misc, asks: Callable[[str], None]) -> None:
         super().__init__(parent, background=FACE)
         self._asks, self._is_filled = asks, True
         self._indices: Mapping[str, bestore.Kind] = {}
-        self._attributes: Dict[str, str] = {}  # by the texts that the row shows for them
+        self._attributes: Dict[str, str] = {}  # by the text that the row shows for each
         self._attribute, self._relation, self._text = tk.StringVar(self), tk.StringVar(self), tk.StringVar(self)
         tk.Label(self, text="Find", background=FACE, padx=2).pack(side="left")
         self._attribute_box = ttk.Combobox(self, textvariable=self._attribute, state="readonly", width=13)
@@ -34,7 +34,7 @@ class FindRow(tk.Frame):
         self._is_filled = False
 
     def take_indices(self, indices: Mapping[str, bestore.Kind]) -> None:
-        """Offers the attributes that can be searched in a store with these indices."""
+        """Offers the attributes that a store with these indices can search."""
         if indices == self._indices:
             return
         self._indices = indices
@@ -60,7 +60,7 @@ class FindRow(tk.Frame):
         self._changed()
 
     def choose(self, attribute: str, relation: find.Relation, text: str) -> None:
-        """Fills the row as if the user had."""
+        """Fills in the row as if the user had done so."""
         self._is_filled = True
         self._attribute.set(next(title for title, name in self._attributes.items() if name == attribute))
         self._offer_relations()
@@ -70,7 +70,7 @@ class FindRow(tk.Frame):
         self._changed()
 
     def empty(self) -> None:
-        """Clears the text, since another query is running."""
+        """Clears the text, because another query is running."""
         self._is_filled = True
         self._text.set("")
         self._is_filled = False

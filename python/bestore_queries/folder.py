@@ -1,4 +1,4 @@
-"""Imports a folder of files or mails into a store in this process, in a separate thread that follows the folder."""
+"""Imports a folder of files or mail into a store in this process, in a separate thread that follows the folder."""
 
 from __future__ import annotations
 
@@ -17,7 +17,7 @@ INDICES = {
     "MAIL:when": bestore.INT64, "MAIL:status": bestore.STRING,
 }
 RESERVE = 48
-"""Pages of a volume that new files don't use, so that files can still be changed and removed."""
+"""Pages of a volume that new files may not use, so that files can still be changed and removed."""
 
 
 def type_of(name: str) -> str:
@@ -27,7 +27,7 @@ def type_of(name: str) -> str:
 
 
 def files_below(folder: str) -> Iterator[os.DirEntry[str]]:
-    """Yields the files in a folder and its subfolders. Skips anything that disappears meanwhile or may not be read."""
+    """Yields the files in a folder and its subfolders. Skips anything that disappears in the meantime or may not be read."""
     waiting = [folder]
     while waiting:
         try:
@@ -42,31 +42,31 @@ def files_below(folder: str) -> Iterator[os.DirEntry[str]]:
 
 
 class Known(NamedTuple):
-    """A file with a node."""
+    """A file that has a node."""
 
     node: int
     size: int
     changed: int
-    """In nanoseconds since 1970."""
+    """When the file changed, in nanoseconds since 1970."""
 
 
 class Waiting(NamedTuple):
-    """A file that has to be written, or a file that is gone."""
+    """A file to write, or a file that is gone."""
 
     path: str
     values: Dict[str, bestore.Value]
     about: Optional[os.stat_result]
-    """None if it is gone."""
+    """None if the file is gone."""
 
     @property
     def operations(self) -> int:
-        """How many operations it takes at most."""
+        """The maximum number of operations that the file takes."""
         return len(self.values) + 1
 
 
 class FolderReader(threading.Thread):
-    """Keeps a node for each file in a folder, and keeps looking for files that were added, removed or changed. A changed file
-    keeps its node."""
+    """Maintains a node for each file in a folder, and keeps looking for files that were added, removed or changed. A changed
+    file keeps its node."""
 
     def __init__(self, user: bestore.Pass, folder: str, pause: float) -> None:
         super().__init__(name="folder", daemon=True)
@@ -77,13 +77,13 @@ class FolderReader(threading.Thread):
         self._is_full = False  # whether a file didn't fit in this round
         self._counted = 0
         self.rounds = 0
-        """How often the folder has been read to its end."""
+        """How many times the whole folder has been read."""
         self.left_out = 0
-        """How many files the store has no room for."""
+        """How many files the store had no room for."""
         self.is_gone = False
-        """Whether the folder can't be read. The nodes of its files stay."""
+        """Whether the folder can't be read. Its files' nodes are kept."""
         self.fault: Optional[BaseException] = None
-        """What has ended the thread, if anything has."""
+        """The exception that ended the thread, if any."""
 
     def __len__(self) -> int:
         return len(self._known)
@@ -97,7 +97,7 @@ class FolderReader(threading.Thread):
             self.fault = fault
 
     def end(self) -> None:
-        """Stops the thread, and closes its pass."""
+        """Stops the thread and closes its pass."""
         self._ended.set()
         if self.is_alive():
             self.join()
@@ -117,7 +117,7 @@ class FolderReader(threading.Thread):
             try:
                 self._read_file(entry)
             except OSError:
-                gone.add(entry.path)  # the file has disappeared meanwhile, or can't be read
+                gone.add(entry.path)  # the file has disappeared in the meantime, or can't be read
         for path in gone & self._known.keys():
             self._wait(Waiting(path, {}, None))
         self._write()
@@ -146,7 +146,7 @@ class FolderReader(threading.Thread):
         return values
 
     def _wait(self, file: Waiting) -> None:
-        """Queues the file until there are enough files for one change."""
+        """Queues the file until there are enough files for a change."""
         if sum(it.operations for it in [*self._waiting, file]) > bestore.MOST_OPERATIONS:
             self._write()
         self._waiting.append(file)
@@ -165,7 +165,7 @@ class FolderReader(threading.Thread):
             self._remove([file for file in files if file.about is None])
 
     def _remove(self, gone: List[Waiting]) -> None:
-        """Removes files from a full store. Removing takes pages too, so if necessary fewer files are removed at a time. A file
+        """Removes files from a full store. Removing takes pages too, so if necessary it removes fewer files at a time. A file
         that can't be removed now is removed in a later round."""
         try:
             self._commit(gone)
@@ -176,7 +176,7 @@ class FolderReader(threading.Thread):
                 self._remove(gone[half:])
 
     def _commit(self, files: List[Waiting]) -> None:
-        """Writes files, with one change per volume. New files go into the volume with the most free space."""
+        """Writes files, with one change per volume. New files go to the volume with the most free pages."""
         parts: Dict[Optional[int], List[Waiting]] = {}
         for file in files:
             known = self._known.get(file.path)
@@ -194,7 +194,7 @@ class FolderReader(threading.Thread):
                 self._known[file.path] = Known(node, file.about.st_size, file.about.st_mtime_ns)
 
     def _file(self, change: bestore.Change, file: Waiting) -> int:
-        """Writes a file, and returns its node."""
+        """Writes a file and returns its node."""
         known = self._known.get(file.path)
         if file.about is None:
             if known is not None:

@@ -1,4 +1,4 @@
-"""The list of hits. The widget has only the visible rows, so a million hits take no longer than ten."""
+"""The list of hits. The widget contains only the visible rows, so a million hits take no longer than ten."""
 
 from __future__ import annotations
 
@@ -13,12 +13,12 @@ from .selection import Selection
 from .sorted_hits import Hit, Node, SortedHits
 from .theme import LINE, MARKED, STRIPE, Icons, row_height
 
-SHIFT, CONTROL = 0x1, 0x4     # in the state of an event
-SLOW_CLICK = 600              # how long after a click on a selected hit it is edited, in milliseconds, unless there is a second click
+SHIFT, CONTROL = 0x1, 0x4     # in an event's state
+SLOW_CLICK = 600              # milliseconds from a click on a selected hit until it is edited, unless a second click follows
 WHEEL = 3                     # rows per turn of the wheel
-STEP_SIDEWAYS = 60            # pixels by which a key or a wheel scrolls sideways
-NARROWEST, NARROWEST_FIRST = 40, 160  # minimum width in pixels: of a column, and of the first column, which names the hit
-MOST_OPENED = 20              # files that are opened at a time
+STEP_SIDEWAYS = 60            # how many pixels a key or the wheel scrolls sideways
+NARROWEST, NARROWEST_FIRST = 40, 160  # the minimum width in pixels of a column, and of the first column, which names the hit
+MOST_OPENED = 20              # files that can be opened at a time
 
 
 class Actions(NamedTuple):
@@ -38,19 +38,19 @@ class HitList(tk.Frame):
         self._hits, self._actions, self._icons = hits, actions, Icons()
         self.selection = Selection(hits)
         self.columns: List[Column] = []
-        self._places: List[str] = []      # the columns, by the widget's names
+        self._places: List[str] = []      # the columns, by the widget's names for them
         self._painted: List[Tuple[object, ...]] = []  # what the widget's rows show
         self._top, self._top_node = 0, -1
         self._room, self._row_height = 1, row_height(self)  # how many rows fit
         self._clicked: Optional[Column] = None
         self._edit_later = ""
-        # The list requests no rows, so its requested height is only its headings and edges.
+        # The list requests no rows, so the height that it requests is only that of its heading and borders.
         self.tree = ttk.Treeview(self, selectmode="none", height=0, xscrollcommand=self._scrolled_sideways)
         self.tree.tag_configure("stripe", background=STRIPE)
         self.tree.tag_configure("selected", background=MARKED)
         self._bar = ttk.Scrollbar(self, command=self._scroll)
         self.bar_below = ttk.Scrollbar(self, orient="horizontal", command=self._scroll_sideways)
-        """It is shown as long as some columns are beyond the edge."""
+        """Shown while some columns are out of view."""
         self._lay_out()
         self.editor = AttributeEditor(self.tree, actions.write)
         self._bind_keys()
@@ -94,7 +94,7 @@ class HitList(tk.Frame):
         return self._room
 
     def show_columns(self, shown: List[Column]) -> None:
-        """Shows these columns. The first one has the icon."""
+        """Shows these columns. The first has the icon."""
         self.editor.end()
         self.columns, self._painted = shown, []
         self.tree.delete(*self.tree.get_children())
@@ -122,7 +122,7 @@ class HitList(tk.Frame):
         self.paint()
 
     def hit_went(self, node: Node) -> None:
-        """Forgets a hit that is gone."""
+        """Forgets a hit that has left."""
         self.selection.forget(node)
         cell = self.editor.cell
         if cell is not None and cell.node == node:
@@ -130,7 +130,7 @@ class HitList(tk.Frame):
             self.editor.end()
 
     def paint(self) -> None:
-        """Shows the hits as they are now. Unless the list is at its start, the hit at the top stays there."""
+        """Shows the hits as they are now. Unless the list is at its start, the top hit stays at the top."""
         if self._top > 0:
             place = self._hits.place_of(self._top_node)
             self._top = self._top if place is None else place
@@ -169,12 +169,12 @@ class HitList(tk.Frame):
         self._paint_from(self._top)
 
     def shown(self) -> List[List[str]]:
-        """The texts of the visible rows."""
+        """The text of each visible row."""
         rows = self.tree.get_children()
         return [[str(self.tree.item(it, "text"))[1:], *map(str, self.tree.item(it, "values"))] for it in rows]
 
     def see(self, place: int) -> None:
-        """Scrolls as little as necessary to show a position."""
+        """Scrolls no further than necessary to show a position."""
         if place < self._top:
             self._paint_from(place)
         elif place >= self._top + self._room:
@@ -194,7 +194,7 @@ class HitList(tk.Frame):
         return "break"
 
     def _scroll_sideways(self, what: str, number: str, unit: str = "") -> None:
-        """Scrolls sideways as the bar below requests."""
+        """Scrolls sideways as the scroll bar below the list requests."""
         if what == "moveto":
             self.tree.xview_moveto(float(number))
         elif unit.startswith("page"):
@@ -207,7 +207,7 @@ class HitList(tk.Frame):
         return "break"
 
     def _scrolled_sideways(self, first: float, last: float) -> None:
-        """Adjusts to which part of the widget's columns is visible."""
+        """Adjusts to the part of the columns that is now visible."""
         if float(first) > 0 or float(last) < 1:
             self.bar_below.grid()
         else:
@@ -216,7 +216,7 @@ class HitList(tk.Frame):
         self.editor.move(self._box_of_editor())
 
     def _see_column(self, column: Column) -> None:
-        """Scrolls sideways as little as necessary to show a column, from its left edge on."""
+        """Scrolls sideways no further than necessary to show a column, starting at its left edge."""
         widths = [int(self.tree.column(it, "width")) for it in self._places]
         at = self.columns.index(column)
         begin, end, total = sum(widths[:at]), sum(widths[:at + 1]), sum(widths)
@@ -272,7 +272,7 @@ class HitList(tk.Frame):
         self._edit_later = ""
 
     def _steps_of(self, key: str) -> int:
-        """Returns how many positions a key moves."""
+        """Returns how many positions a key moves by."""
         return {"Up": -1, "Down": 1, "Prior": -self._room, "Next": self._room, "Home": -len(self._hits)}.get(key, len(self._hits))
 
     def _move(self, steps: int, extends: bool) -> str:
@@ -296,7 +296,7 @@ class HitList(tk.Frame):
         return "break"
 
     def edit(self) -> str:
-        """Edits an attribute of the hit that keys move from: the clicked attribute, otherwise the first that can be edited."""
+        """Edits an attribute of the current hit: the clicked attribute, or otherwise the first that can be edited."""
         self._cancel_edit()
         place = self.selection.cursor
         can = [column for column in self.columns if column.is_edited]
@@ -330,7 +330,7 @@ class HitList(tk.Frame):
         return None if self.editor.cell is None else self._box(self.editor.cell)
 
     def _box(self, cell: Cell) -> Optional[Box]:
-        """Returns where a cell is visible, or None if it isn't."""
+        """Returns the area where a cell is visible, or None if it isn't."""
         place = self._hits.place_of(cell.node)
         if place is None or not self._top <= place < self._top + len(self._painted):
             return None

@@ -1,4 +1,4 @@
-"""A mail's attributes, under BeOS's names."""
+"""A mail's attributes, with the names that BeOS uses."""
 
 from __future__ import annotations
 
@@ -16,16 +16,16 @@ import bestore
 from .columns import MAIL_TYPE
 
 _WORD = r"=\?[^?\s]+\?[bq]\?[^?]*\?="
-_ENCODED = re.compile(rf"{_WORD}(?:\s+{_WORD})*", re.IGNORECASE)  # words of a header that aren't ASCII
+_ENCODED = re.compile(rf"{_WORD}(?:\s+{_WORD})*", re.IGNORECASE)  # a header's words that aren't ASCII
 
 
 def cut(text: str) -> str:
-    """Returns as much of a text as fits into a value."""
+    """Returns as much of a text as fits in a value."""
     return text.replace("\0", "").encode(errors="replace")[:255].decode(errors="ignore")
 
 
 def is_mailbox(folder: str) -> bool:
-    """Returns whether a folder is one of the two folders in a Maildir that hold mails."""
+    """Returns whether a folder is one of a Maildir's two folders with mail."""
     maildir, side = os.path.split(folder)
     return side in ("cur", "new") and is_maildir(maildir)
 
@@ -36,7 +36,7 @@ def is_maildir(folder: str) -> bool:
 
 
 def header_of(head: email.message.Message, name: str) -> str:
-    """Returns a header as plain text. Bytes that aren't ASCII are read as UTF-8, or as Windows-1252 if they aren't valid
+    """Returns a header as plain text. Bytes that aren't ASCII are decoded as UTF-8, or as Windows-1252 if they aren't valid
     UTF-8."""
     raw = next((str(value) for key, value in head.raw_items() if key.lower() == name.lower()), "")
     return _ENCODED.sub(_decoded_words, _decoded_bytes(raw.encode(errors="surrogateescape")))
@@ -58,7 +58,7 @@ def _decoded_words(found: Match[str]) -> str:
 
 
 def mail_attributes(path: str) -> Dict[str, bestore.Value]:
-    """Returns the attributes in a mail's headers."""
+    """Returns the attributes from a mail's headers."""
     with open(path, "rb") as file:
         head = email.parser.BytesHeaderParser().parse(file)
     is_read = "S" in os.path.basename(path).rpartition(":2,")[2] and os.path.basename(os.path.dirname(path)) == "cur"

@@ -1,4 +1,4 @@
-"""Opens a file with the desktop's program for its type."""
+"""Opens a file with the desktop's default program for its type."""
 
 from __future__ import annotations
 
@@ -12,7 +12,7 @@ _MEANINGS = {2: "there is no such file", 3: "a program that it needs is missing"
 
 
 class CannotOpen(Exception):
-    """A file can't be opened, for the reason in the text."""
+    """A file can't be opened, for the reason given in the message."""
 
 
 class Opening:

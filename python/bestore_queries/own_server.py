@@ -12,7 +12,7 @@ import bestore
 from bestore.connected import SocketPath
 
 PATIENCE = 10.0
-"""How many seconds a server may take until it listens."""
+"""How many seconds a server may take to start listening."""
 
 
 class CannotStart(Exception):
@@ -20,7 +20,7 @@ class CannotStart(Exception):
 
 
 def kept_path() -> str:
-    """Returns the file where the systemd units keep the store too."""
+    """Returns the path of the store's file, which the systemd units use too."""
     folder = os.environ.get("XDG_DATA_HOME") or os.path.join(os.path.expanduser("~"), ".local", "share")
     return os.path.join(folder, "bestore", "store.bestore")
 
@@ -67,7 +67,7 @@ class OwnServer:
             time.sleep(0.02)
 
     def close(self) -> None:
-        """Ends the server, which flushes its file."""
+        """Stops the server, which flushes its file."""
         self._process.terminate()
         try:
             self._process.wait(PATIENCE)

@@ -1,4 +1,4 @@
-"""Keeps Python itself from pausing the window for long."""
+"""Keeps Python itself from causing long pauses in the window."""
 
 from __future__ import annotations
 
@@ -9,17 +9,17 @@ import tkinter as tk
 from typing import Iterator
 
 SWITCH = 0.0005
-"""Seconds after which a thread lets another one run. The window often calls Tk, and waits for its turn each time."""
+"""Seconds after which a thread lets another one run. The window calls Tk often, and has to wait for its turn each time."""
 LOOK = 1_000
-"""Milliseconds between two collections."""
+"""Milliseconds between garbage collections."""
 MANY = 50_000
-"""How many new objects trigger a collection. Most others are hits, which have no cycles and are never looked at."""
+"""With more new objects than this, nothing is collected: most are hits, which have no cycles and are never examined."""
 
 
 @contextlib.contextmanager
 def short_pauses(root: tk.Tk) -> Iterator[None]:
-    """During the `with`, threads take turns quickly, and the garbage collector looks only at new objects. Otherwise it would take
-    longer the more hits there are."""
+    """During the `with` block, threads take turns quickly, and the garbage collector examines only new objects. Otherwise, the
+    more hits there were, the longer it would take."""
     before = sys.getswitchinterval()
     sys.setswitchinterval(SWITCH)
     gc.disable()

@@ -1,4 +1,4 @@
-"""Finds where a file is: the path of its folder, from the attributes that an import writes."""
+"""Locates a file: finds its folder's path from the attributes that an import writes."""
 
 from __future__ import annotations
 
@@ -10,8 +10,8 @@ import bestore
 from .sorted_hits import Node
 
 PLACE_NAMES = ("name", "path", "folder", "BEOS:TYPE", "FILE:parent", "FILE:root", "FILE:name")
-"""The attributes that say where a file is, and what it is."""
-_DEEPEST = 256  # folders within one another
+"""The attributes that say where a file is and what it is."""
+_DEEPEST = 256  # maximum depth of nested folders
 
 
 class Places:
@@ -25,7 +25,7 @@ class Places:
         return any(node in self._paths for node in nodes)
 
     def locate(self, version: bestore.Version, attributes: Dict[str, bestore.Value]) -> None:
-        """Adds a file's folder, if an import has written only the folder's node."""
+        """Adds a file's folder if an import wrote only the folder's node."""
         parent, root = attributes.get("FILE:parent"), attributes.get("FILE:root")
         if "folder" in attributes:
             return
@@ -34,7 +34,7 @@ class Places:
             attributes["folder"] = path
 
     def _path_of(self, version: bestore.Version, node: Node, depth: int) -> Optional[str]:
-        """Returns a folder's path, or None if it isn't known."""
+        """Returns a folder's path, or None if it is unknown."""
         if node not in self._paths:
             values = [column[0] for column in version.columns([node], ("FILE:root", "FILE:parent", "FILE:name", "name"))]
             root, parent, raw, name = values
@@ -46,7 +46,7 @@ class Places:
 
 
 def _decoded(value: Optional[bestore.Value]) -> Optional[str]:
-    """Converts a path or a name to the form that system calls take. Its bytes don't have to be valid text."""
+    """Converts a path or a name to the form that system calls accept. Its bytes don't have to be valid text."""
     if value is None or isinstance(value, int):
         return None
     return os.fsdecode(value)
@@ -63,7 +63,7 @@ def _above(root: Optional[bestore.Value]) -> Optional[str]:
 
 
 def path_of(attributes: Mapping[str, bestore.Value]) -> Optional[str]:
-    """Returns a file's path, or None if its attributes don't give it."""
+    """Returns a file's path, or None if its attributes don't determine it."""
     whole = _decoded(attributes.get("FILE:root")) or _decoded(attributes.get("path"))
     if whole is not None:
         return whole

@@ -11,7 +11,7 @@ from .theme import FACE
 
 
 class QueryMenu(ttk.Menubutton):
-    """The saved queries. They are read when the menu is opened."""
+    """The menu of saved queries, which are read when it is opened."""
 
     def __init__(self, parent: tk.Misc, saved: SavedQueries, ask: Callable[[Saved], None], ask_name: Callable[[], None],
                  warn: Callable[[str], None]) -> None:
@@ -47,7 +47,7 @@ class QueryMenu(ttk.Menubutton):
 
 
 class AttributeMenu(ttk.Menubutton):
-    """The attributes that can be columns."""
+    """The menu of attributes that can be columns."""
 
     def __init__(self, parent: tk.Misc, choose: Callable[[List[str]], None]) -> None:
         super().__init__(parent, text="Attributes", width=9)
@@ -93,7 +93,7 @@ class NameRow(tk.Frame):
         self.entry.select_range(0, "end")
 
     def finish(self) -> None:
-        """Saves the query under the name, if the row has one."""
+        """Saves the query under the name in the row, if there is one."""
         name = self._typed.get().strip()
         if name:
             self.pack_forget()

@@ -1,4 +1,4 @@
-"""The file of saved queries, which all of a user's windows share."""
+"""The file of saved queries, which is shared by all of a user's windows."""
 
 from __future__ import annotations
 
@@ -15,13 +15,13 @@ class Saved(NamedTuple):
 
     name: str
     query: str
-    """As it was typed, so that `yesterday` is a different day each time."""
+    """The query as typed, so that `yesterday` stays relative to the current day."""
     columns: Tuple[str, ...] = ()
-    """The attributes that were shown, or empty if nobody chose any."""
+    """The attributes that were shown, or empty if none were chosen."""
 
 
 class BadFile(Exception):
-    """The file can't be read or written. It stays unchanged."""
+    """The file can't be read or written. It is unchanged."""
 
     def __init__(self, path: str, reason: str) -> None:
         super().__init__(path, reason)
@@ -38,8 +38,7 @@ def default_path() -> str:
 
 
 class SavedQueries:
-    """The saved queries, by name. Each call reads the file, since another window may have written
-    it."""
+    """The saved queries, by name. Each call reads the file, because another window may have written it."""
 
     def __init__(self, path: Optional[str] = None) -> None:
         self.path = default_path() if path is None else path
@@ -49,19 +48,18 @@ class SavedQueries:
         return sorted(self._read(), key=lambda it: it.name.casefold())
 
     def save(self, saved: Saved) -> None:
-        """Saves a query, and replaces any query with the same name. If it raises `BadFile`, the
-        file is unchanged."""
+        """Saves a query, replacing any query with the same name. If this raises `BadFile`, the file is unchanged."""
         with self._alone():
             self._write([it for it in self._read() if it.name != saved.name] + [saved])
 
     def remove(self, name: str) -> None:
-        """Removes a query, if it exists. Raises `BadFile`."""
+        """Removes a query if it exists. Raises `BadFile`."""
         with self._alone():
             self._write([it for it in self._read() if it.name != name])
 
     @contextlib.contextmanager
     def _alone(self) -> Iterator[None]:
-        """Keeps other windows from writing meanwhile."""
+        """Keeps other windows from writing at the same time."""
         try:
             os.makedirs(os.path.dirname(self.path), exist_ok=True)
             with open(f"{self.path}.lock", "w", encoding="utf-8") as lock:
@@ -84,7 +82,7 @@ class SavedQueries:
             raise BadFile(self.path, f"it has no list of queries: {error}") from error
 
     def _write(self, queries: List[Saved]) -> None:
-        """Replaces the file, so that a reader gets either the old file or the new one."""
+        """Replaces the file, so that a reader sees either the old file or the new one."""
         text = json.dumps({"queries": [it._asdict() for it in queries]}, ensure_ascii=False, indent=1)
         folder = os.path.dirname(self.path)
         descriptor, path = tempfile.mkstemp(dir=folder, prefix=".queries-")

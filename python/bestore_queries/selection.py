@@ -1,4 +1,4 @@
-"""Which hits in a list are selected. They are remembered by node, so the selection stays as the list changes."""
+"""Which hits in a list are selected. They are remembered by node, so the selection is preserved when the list changes."""
 
 from __future__ import annotations
 
@@ -8,7 +8,7 @@ from .sorted_hits import Node, SortedHits
 
 
 class Selection:
-    """The selected hits, the hit that keys move from, and the hit where a range begins."""
+    """The selected hits, the current hit (from which keys move), and the hit where a range begins."""
 
     def __init__(self, hits: SortedHits) -> None:
         self._hits = hits
@@ -30,7 +30,7 @@ class Selection:
 
     @property
     def cursor(self) -> Optional[int]:
-        """Returns the position of the hit that keys move from."""
+        """Returns the position of the current hit."""
         return None if self._cursor is None else self._hits.place_of(self._cursor)
 
     def clear(self) -> None:
@@ -38,7 +38,7 @@ class Selection:
         self._nodes, self._cursor, self._anchor = set(), None, None
 
     def forget(self, node: Node) -> None:
-        """Forgets a hit that is gone."""
+        """Forgets a hit that has left."""
         self._nodes.discard(node)
 
     def choose(self, place: int) -> None:
@@ -69,7 +69,7 @@ class Selection:
             self._anchor = self._hits[0].node
 
     def move(self, steps: int, extends: bool = False) -> Optional[int]:
-        """Moves by this many positions, and selects the hit there, or everything up to it. Returns the new position."""
+        """Moves by this many positions, selects the hit there or everything up to it, and returns the new position."""
         if not len(self._hits):
             return None
         at = self.cursor

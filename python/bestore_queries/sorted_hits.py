@@ -1,5 +1,5 @@
-"""A query's hits in order. A new hit is inserted at its position. Re-sorting is done in steps, so that no step takes long however
-many hits there are."""
+"""A query's hits in order. A new hit is inserted at its position. Re-sorting is split into steps, so that none takes long
+however many hits there are."""
 
 from __future__ import annotations
 
@@ -12,7 +12,7 @@ import bestore
 
 Node = int
 CHUNK = 1_000
-"""How many hits a step sorts."""
+"""How many hits are sorted per step."""
 
 
 class Hit(NamedTuple):
@@ -26,7 +26,7 @@ Entry = Tuple[int, Any, Any, Node]
 
 
 def entry_of(attribute: str, hit: Hit) -> Optional[Entry]:
-    """Returns a hit's sort key, or None if it lacks the attribute: numbers come before texts, and case is ignored."""
+    """Returns a hit's sort key, or None if it lacks the attribute. Numbers come before strings, and case is ignored."""
     value = hit.attributes.get(attribute)
     if value is None:
         return None
@@ -36,7 +36,7 @@ def entry_of(attribute: str, hit: Hit) -> Optional[Entry]:
 
 
 class _Listed:
-    """Hits in the order of an attribute, and then those without this attribute."""
+    """Hits in the order of an attribute, followed by those without it."""
 
     def __init__(self, attribute: str, entries: Optional[List[Entry]] = None, lacking: Optional[List[Node]] = None) -> None:
         self.attribute = attribute
@@ -59,7 +59,7 @@ class _Listed:
 
 
 class _Sorting:
-    """Hits that are being sorted by another attribute: first in parts, which are then merged."""
+    """Hits that are being sorted by another attribute, first in parts, which are then merged."""
 
     def __init__(self, attribute: str, hits: Iterator[Hit]) -> None:
         self.attribute = attribute
@@ -70,7 +70,7 @@ class _Sorting:
         self._lacking: List[Node] = []
         self._has_read_all = False
         self.touched: Dict[Node, Optional[Hit]] = {}
-        """The hits that came, changed or went meanwhile, as they were at the beginning, or None if they weren't there."""
+        """The hits that joined, changed or left meanwhile, as they were at the beginning, or None for those that weren't there."""
 
     def step(self) -> Optional[_Listed]:
         """Continues sorting. Returns the hits once they are sorted."""
@@ -105,11 +105,11 @@ class SortedHits:
         self._hits: Dict[Node, Hit] = {}
         self._listed = _Listed(attribute)
         self._sorting: Optional[_Sorting] = None
-        self._sorted: Optional[_Listed] = None  # doesn't have the touched hits yet
+        self._sorted: Optional[_Listed] = None  # doesn't contain the touched hits yet
         self._first: List[Node] = []  # the first hits in the new order, which come before all others
-        self._gaps: Optional[List[int]] = None  # if known, their positions in the order that the other hits still have
+        self._gaps: Optional[List[int]] = None  # if known, the positions of these hits in the order that the others still have
         self.is_turned = self.will_be_turned = False
-        """Whether the greatest values come first. Hits without the attribute come last in either case."""
+        """Whether the greatest values come first. Hits without the attribute always come last."""
 
     def __len__(self) -> int:
         return len(self._hits)
@@ -133,7 +133,7 @@ class SortedHits:
         return self._hits.get(node)
 
     def place_of(self, node: Node) -> Optional[int]:
-        """Returns a node's position, from 0, or None if the node isn't a hit."""
+        """Returns a node's position, counting from 0, or None if the node isn't a hit."""
         hit = self._hits.get(node)
         if hit is None:
             return None
@@ -170,7 +170,7 @@ class SortedHits:
         self._listed.add(hit)
 
     def remove(self, node: Node) -> None:
-        """Removes a hit, if it is in the list."""
+        """Removes a hit if it is in the list."""
         old = self._hits.pop(node, None)
         if old is not None:
             self._touch(node, old)
@@ -189,11 +189,11 @@ class SortedHits:
 
     @property
     def attribute(self) -> str:
-        """What the hits are sorted by, or will be sorted by once `step` has finished."""
+        """The attribute that the hits are sorted by, or will be sorted by once `step` has finished."""
         return self._listed.attribute if self._sorting is None else self._sorting.attribute
 
     def sort(self, attribute: str, is_turned: bool = False) -> None:
-        """Sorts the hits by an attribute. They stay in the old order until `step` has finished."""
+        """Begins to sort the hits by an attribute. They remain in the old order until `step` has finished."""
         self._set_first([])
         if attribute == self._listed.attribute:
             self._sorting = self._sorted = None
@@ -203,7 +203,7 @@ class SortedHits:
         self.will_be_turned = is_turned
 
     def show_first(self, nodes: Sequence[Node]) -> None:
-        """Puts these hits before all others until `step` has sorted them. The store has found them to be the first in the new
+        """Puts these hits before all others until `step` has sorted them. According to the store, they are the first in the new
         order."""
         if self._sorting is not None:
             self._set_first([node for node in nodes if node in self._hits])

@@ -14,7 +14,7 @@ from . import own_server
 from .folder import INDICES, FolderReader, files_below
 from .sorted_hits import Node
 
-MANY = 5_000           # how many journal entries are read at most to find what they set
+MANY = 5_000           # the maximum number of journal entries to read in order to find what was set
 MOST_PAGES = 16_384    # per volume
 PAGES_OF_A_FILE = 1.1  # for a file with five attributes, all indexed
 GROWTH = 1.3           # how much growth to allow for, as a multiple of the files at the start
@@ -28,7 +28,7 @@ class Condition(NamedTuple):
 
 
 Numbers = Tuple[int, ...]
-"""The commit number of each volume of a store."""
+"""The commit number of each of a store's volumes."""
 
 
 class LiveAnswer(ABC):
@@ -36,7 +36,7 @@ class LiveAnswer(ABC):
 
     @abstractmethod
     def refresh(self, version: bestore.Version) -> Tuple[List[Node], List[Node]]:
-        """Returns which nodes joined and which left between the last call and this version. At first, all nodes join."""
+        """Returns the nodes that joined and those that left between the last call and this version. The first time, all nodes join."""
 
     @abstractmethod
     def close(self) -> None:
@@ -44,11 +44,11 @@ class LiveAnswer(ABC):
 
 
 class Session(ABC):
-    """An open store. One thread makes all its calls."""
+    """An open store. All its calls are made by one thread."""
 
     user: bestore.Pass
     store: str = ""
-    """Nodes are the same in sessions with the same text."""
+    """Sessions with the same string have the same nodes."""
 
     @abstractmethod
     def begin(self, text: str) -> LiveAnswer:
@@ -59,7 +59,7 @@ class Session(ABC):
         """Returns whether something may have been written since the last call."""
 
     def written(self, since: Numbers, version: bestore.Version) -> Optional[Set[Node]]:
-        """Returns the nodes whose attributes were set after these commits and up to a snapshot, or None if there is too much to read."""
+        """Returns the nodes whose attributes were set after these commits, up to a snapshot, or None if there is too much to read."""
         now = version.numbers
         if len(now) != len(since) or sum(now) - sum(since) > MANY:
             return None
@@ -82,10 +82,10 @@ class Session(ABC):
 
 
 class Source(ABC):
-    """What a window opens: a store, which may have to be reopened."""
+    """What a window opens: a store that may have to be reopened."""
 
     title: str
-    """What the window's title names."""
+    """The name in the window's title."""
 
     @abstractmethod
     def open(self) -> Session:
@@ -97,7 +97,7 @@ class Source(ABC):
         """The source's current state."""
 
     def close(self) -> None:
-        """Ends whatever belongs only to this window."""
+        """Ends whatever belongs to this window only."""
 
 
 class _Prepared(LiveAnswer):
@@ -106,7 +106,7 @@ class _Prepared(LiveAnswer):
     def __init__(self, user: bestore.Pass, text: str) -> None:
         self._query = bestore.prepare(text)
         with user.pin() as version:
-            version.explain(text)  # raises any error that the query has in this store
+            version.explain(text)  # raises the query's error, if it has one in this store
 
     def refresh(self, version: bestore.Version) -> Tuple[List[Node], List[Node]]:
         return version.refresh(self._query)
@@ -143,7 +143,7 @@ class _FolderSession(Session):
 class _ServerSession(Session):
     def __init__(self, user: ConnectedPass) -> None:
         self.user, self._connected = user, user
-        if user.server.kept != "each":  # another run of the server may make other nodes
+        if user.server.kept != "each":  # another run of the server may create different nodes
             self.store = user.server.run
         self._commits = user.watch()
 
@@ -155,21 +155,21 @@ class _ServerSession(Session):
 
 
 def size_for(files: int) -> Tuple[int, int]:
-    """Returns how many volumes a store needs for this many files and a few more, and how many pages each volume needs."""
+    """Returns how many volumes a store needs for this many files plus some growth, and how many pages each volume needs."""
     pages = 4096 + math.ceil(files * PAGES_OF_A_FILE * GROWTH)
     volumes = min(math.ceil(pages / MOST_PAGES), MOST_VOLUMES)
     return volumes, min(math.ceil(pages / volumes), MOST_PAGES)
 
 
 class FolderSource(Source):
-    """A store in this process with a folder's files. It is made when it is first opened, with room for the files that exist
+    """A store in this process with a folder's files. It is created when it is first opened, with room for the files that exist
     then."""
 
     def __init__(self, folder: str, pages: Optional[int] = None, pause: float = 1.0) -> None:
         self.title, self._folder, self._pages, self._pause = folder, folder, pages, pause
         self._store: Optional[bestore.Pass] = None
         self.reader: Optional[FolderReader] = None
-        """What reads the folder, once the store has been opened."""
+        """The folder's reader, once the store has been opened."""
 
     def open(self) -> Session:
         if self._store is None:

@@ -12,9 +12,9 @@ from .columns import MAIL_TYPE
 DESKTOP, TAB, FACE, LINE, PAPER, STRIPE, MARKED = "#336698", "#ffcb00", "#d8d8d8", "#989898", "#ffffff", "#f3f6fa", "#9fb6d2"
 FAULT, FAULT_PAPER, QUIET = "#b3261e", "#fbe4e1", "#4f4f4f"
 ICON_HEIGHT = 16  # in pixels
-SELECT_ALL = ("Control-a", "Control-Lock-A")  # the keys that move to the start of the line in Tk on X11
+SELECT_ALL = ("Control-a", "Control-Lock-A")  # these keys would move to the start of the line in Tk on X11
 
-# A file icon's paper, and the colour of the lines on it, by the first part of the file's type.
+# The colours of a file icon's paper and of the lines on it, by the first part of the file's type.
 _SHEETS = [
     (MAIL_TYPE, "#fff3c4", "#b07d00"), ("message/", "#fff3c4", "#b07d00"), ("text/html", "#dceefb", "#1769aa"),
     ("text/", "#ffffff", "#7a7a7a"), ("image/", "#e3f4e1", "#2e7d32"), ("audio/", "#f6e1f3", "#8e24aa"),
@@ -59,7 +59,7 @@ class Icons:
 
 
 def row_height(widget: tk.Misc) -> int:
-    """Returns the height of a list row in pixels: its letters or icon, plus some space."""
+    """Returns the height of a list row in pixels: that of its text or icon, plus some space."""
     return max(tkinter.font.nametofont("TkDefaultFont", widget).metrics("linespace"), ICON_HEIGHT) + 4
 
 
@@ -81,6 +81,6 @@ def apply(root: tk.Tk) -> None:
     style.configure("TMenubutton", padding=(8, 3), arrowcolor="#333333")
     style.configure("Treeview", background=PAPER, fieldbackground=PAPER, rowheight=row_height(root), borderwidth=0)
     style.configure("Treeview.Heading", background=FACE, relief="flat", padding=(3, 4))
-    # An icon and a text, without a mark for rows below a row.
+    # An icon and a text, without an indicator for child rows.
     parts = [(part, {"side": "left", "sticky": ""}) for part in ("Treeitem.image", "Treeitem.text")]
     style.layout("Treeview.Item", [("Treeitem.padding", {"sticky": "nswe", "children": parts})])

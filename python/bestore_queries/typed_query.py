@@ -1,5 +1,5 @@
-"""Turns a typed query into the form that is sent to the store: dates become numbers. Errors are shown at their position in what
-was typed."""
+"""Converts a typed query to the form that is sent to the store, in which dates are numbers. Errors are shown at their position
+in the typed text."""
 
 from __future__ import annotations
 
@@ -22,18 +22,18 @@ _TOKEN = re.compile(r"""
 """, re.VERBOSE | re.DOTALL)
 _SEPARATORS = re.compile(r"[ \t\n\r]*")
 _WORD = re.compile(r"""(?P<word>(?:[^ \t\n\r"'=!<>&|()\\]|\\.)+)""", re.DOTALL)
-_NO_DATE = re.compile(r"(?!(?:19|20|21)[0-9]{2}$)-?[0-9]+", re.ASCII)  # a whole number that isn't a year
+_NO_DATE = re.compile(r"(?!(?:19|20|21)[0-9]{2}$)-?[0-9]+", re.ASCII)  # an integer that isn't a year
 
 
 class Fault(NamedTuple):
-    """What is wrong with a query, and at which typed character, if that is known."""
+    """What is wrong with a query, and at which typed character, if known."""
 
     message: str
     column: Optional[int] = None
 
 
 class TypedFault(Exception):
-    """The typed query can't be sent, because it has an invalid date."""
+    """The typed query can't be sent because it contains an invalid date."""
 
     def __init__(self, fault: Fault) -> None:
         super().__init__(fault.message)
@@ -56,7 +56,7 @@ class _Token(NamedTuple):
 
 
 class _Part(NamedTuple):
-    """A comparison that was typed with a date, what is sent instead, and what the date means."""
+    """A comparison that was typed with a date, the comparison that is sent instead, and what the date means."""
 
     start: int
     end: int
@@ -65,15 +65,15 @@ class _Part(NamedTuple):
 
 
 class TypedQuery(NamedTuple):
-    """A typed query, and the query that is sent for it."""
+    """A typed query, and the query that is sent in its place."""
 
     typed: str
     sent: str
     parts: Tuple[_Part, ...]
 
     def column_of(self, offset: int) -> int:
-        """Returns the typed character that a byte of the sent text comes from. For a date, that is the first character of its
-        comparison."""
+        """Returns the position of the typed character that a byte of the sent text comes from. For a date, that is the first
+        character of its comparison."""
         column = len(self.sent.encode(errors="surrogatepass")[:offset].decode(errors="ignore"))
         for part in self.parts:
             if column < part.start:
@@ -89,8 +89,8 @@ class TypedQuery(NamedTuple):
 
 
 def read(typed: str, now: Optional[datetime] = None) -> TypedQuery:
-    """Returns the query to send for what was typed. A value in `%` is a date. So is any value of a time attribute, unless it is a
-    number of seconds or has a wildcard. Raises `TypedFault` if a date is invalid."""
+    """Returns the query to send for what was typed. A value between `%` signs is a date, and so is any value of a time
+    attribute, unless it is a number of seconds or contains a wildcard. Raises `TypedFault` if a date is invalid."""
     found, parts = _tokens(typed), []
     for name, operator, value in zip(found, found[1:], found[2:]):
         if name.kind in ("word", "quoted") and operator.kind == "compares" and _is_date(name, value):
@@ -103,7 +103,7 @@ def read(typed: str, now: Optional[datetime] = None) -> TypedQuery:
 
 
 def _tokens(typed: str) -> List[_Token]:
-    """Returns the tokens, up to the first character that can't begin one. A `%` begins a date if it is where a value can be."""
+    """Returns the tokens, up to the first character that can't begin one. A `%` begins a date wherever a value may be."""
     found: List[_Token] = []
     at = len(_SEPARATORS.match(typed)[0])  # type: ignore[index]
     while at < len(typed):
@@ -144,7 +144,7 @@ def _dated(name: _Token, operator: _Token, value: _Token, now: Optional[datetime
 
 
 def fault_of(error: bestore.Error, query: TypedQuery, indices: Mapping[str, bestore.Kind]) -> Fault:
-    """Describes an error of the sent query, in terms of what was typed."""
+    """Describes an error in the sent query, in terms of what was typed."""
     if not isinstance(error, bestore.QueryError):
         return Fault(str(error))
     if isinstance(error, bestore.QueryNotUTF8):
@@ -199,14 +199,14 @@ def _ends_comparison(before: List[_Token]) -> bool:
 
 
 def _open_quote(typed: str) -> bool:
-    """Returns whether an unclosed quoted text begins after the last token."""
+    """Returns whether an unclosed quoted string begins after the last token."""
     found = _tokens(typed)
     return typed[found[-1].end if found else 0:].strip()[:1] in ('"', "'")
 
 
 def lines_of(fault: Fault, typed: str, width: int) -> List[str]:
-    """Formats a fault in lines of up to this many columns: what it is, and what was typed, with a caret under the position. If
-    the typed text is wider, only the part around the position is shown."""
+    """Formats a fault in lines of up to this many columns: what is wrong, and the typed text with a caret below the position.
+    If the typed text is wider, only the part around the position is shown."""
     message = fault.message[:1].upper() + fault.message[1:]
     lines = [shortened(message, width)]
     if fault.column is not None:

@@ -1,4 +1,4 @@
-"""The window: a Find row, the query as a formula, its errors, the list, and the lines below."""
+"""The window: a Find row, the query as a formula, its errors, the list, and the lines below the list."""
 
 from __future__ import annotations
 
@@ -27,11 +27,11 @@ from .sorted_hits import Hit, SortedHits
 from .sources import Source
 from .theme import DESKTOP, FACE, FAULT, FAULT_PAPER, QUIET, TAB
 
-BUDGET = 0.015      # seconds that the window spends on reports at a time
-BUSY_PAUSE = 5      # milliseconds until the next look for reports, if there were any
-IDLE_PAUSE = 50     # milliseconds until the next look, if there were none
+BUDGET = 0.015      # seconds to spend on reports at a time
+BUSY_PAUSE = 5      # milliseconds until the next check for reports, if there were any
+IDLE_PAUSE = 50     # milliseconds until the next check, if there were none
 TYPING_PAUSE = 150  # milliseconds without a keystroke before a query runs
-FIRST_PAUSE = 0.1   # seconds that sorting waits for an order's first hits, which the store may have immediately
+FIRST_PAUSE = 0.1   # seconds that sorting waits for an order's first hits, which the store may find immediately
 LINES = 3           # below the query: what is wrong with it, and where
 
 
@@ -43,15 +43,15 @@ class Window:
         self._saved = SavedQueries() if saved is None else saved
         self.hits = SortedHits()
         self._indices: Mapping[str, bestore.Kind] = {}
-        self._attributes: List[str] = []  # attributes of the first hits
+        self._attributes: List[str] = []  # the first hits' attributes
         self._chosen: List[str] = []      # the attributes that the user has chosen to show
         self._query, self._typing = tk.StringVar(root), ""
         self._typed = typed_query.TypedQuery("", "", ())
         self._fault: Optional[typed_query.Fault] = None
         self._hints: List[bestore.Hint] = []
         self._turn, self._is_answered = 0, False
-        self._awaits_first = False  # whether first hits were requested and haven't come yet
-        self._sorts_at = 0.0        # when sorting stops waiting for them
+        self._awaits_first = False  # whether first hits were requested and haven't arrived yet
+        self._sorts_at = 0.0        # when sorting stops waiting for these hits
         self._count: Optional[Counted] = None
         self._is_open, self._lost = False, ""
         self._openings: List[Opening] = []
@@ -130,7 +130,7 @@ class Window:
     # What the user does.
 
     def ask(self, text: str) -> None:
-        """Puts a query into the line, and runs it immediately."""
+        """Enters a query, and runs it immediately."""
         self._query.set(text)
         self._ask()
 
@@ -142,7 +142,7 @@ class Window:
         self.ask(saved.query)
 
     def _found(self, query: str) -> None:
-        """Runs a query that the Find row has made."""
+        """Runs a query from the Find row."""
         self._query.set(query)
 
     def _typed_something(self) -> None:
@@ -151,7 +151,7 @@ class Window:
         self._typing = self.root.after(TYPING_PAUSE, self._ask)
 
     def _ask(self) -> None:
-        """Runs the query in the line. The old answer disappears immediately, even if there is no query to run."""
+        """Runs the entered query. The old answer disappears immediately, even if there is no query to run."""
         if self._typing:
             self.root.after_cancel(self._typing)
         self._typing = ""
@@ -172,12 +172,12 @@ class Window:
         self._tell_state()
 
     def choose(self, attributes: Sequence[str]) -> None:
-        """Shows these attributes as columns, and has them read."""
+        """Shows these attributes as columns, and requests their values."""
         self._chosen = list(attributes)
         self._ask()
 
     def sort(self, column: Column) -> None:
-        """Sorts the hits by a column from now on. The second time, reverses the order."""
+        """Sorts the hits by a column from now on, or reverses the order if they are already sorted by it."""
         is_turned = self.hits.attribute == column.attribute and not self.hits.will_be_turned
         self.hits.sort(column.attribute, is_turned)
         begin = self._begin()
@@ -188,26 +188,26 @@ class Window:
         self.list.paint()
 
     def _begin(self) -> Optional[Begin]:
-        """Returns the hits that the list begins with, if an index has its order: the visible ones, and one more page. An index of
-        texts doesn't have the list's order, which ignores case."""
+        """Returns which hits the list begins with, if an index provides its order: the visible ones and one more page. An index
+        of strings doesn't, because the list ignores case."""
         attribute = self.hits.attribute
         if not columns.is_number(self._indices.get(attribute)):
             return None
         return Begin(Order(attribute, self.hits.will_be_turned), 2 * self.list.room)
 
     def _await_first(self, begin: Optional[Begin]) -> None:
-        """Looks for reports at short intervals until the first hits come, if they were requested."""
+        """If first hits were requested, checks for reports at short intervals until they arrive."""
         self._awaits_first = begin is not None
         if self._awaits_first:
             self._sorts_at = time.monotonic() + FIRST_PAUSE
             self._look_after(BUSY_PAUSE)
 
     def _may_sort(self) -> bool:
-        """Returns whether there are hits to sort. Sorting would keep the thread that runs queries from reading the first hits."""
+        """Returns whether to sort hits now. Sorting would keep the thread that runs queries from reading the first hits."""
         return self.hits.is_sorting and not (self._awaits_first and time.monotonic() < self._sorts_at)
 
     def _look_after(self, milliseconds: int) -> None:
-        """Schedules the next look for reports after this time."""
+        """Schedules the next check for reports."""
         if self._next_step:
             self.root.after_cancel(self._next_step)
         self._next_step = self.root.after(milliseconds, self._step)
@@ -251,20 +251,20 @@ class Window:
             self.name(name)
 
     def name(self, name: str) -> None:
-        """Names the window."""
+        """Sets the window's name."""
         self._tab_text = name
         self._tab.configure(text=f"Query: {name}")
         self.root.title(f"Query: {name}")
 
     def warn(self, text: str) -> None:
-        """Shows that something couldn't be done, until the user does something else."""
+        """Shows that something couldn't be done, until the user's next action."""
         self._warning = text
         self._show_notice()
 
-    # What is reported.
+    # What the thread reports.
 
     def _step(self) -> None:
-        """Takes reports for a short time, and repeats this as long as the window exists."""
+        """Takes reports for a short time, and schedules itself again as long as the window exists."""
         end, is_busy, is_changed = time.monotonic() + BUDGET, self.hits.is_sorting or self._awaits_first, False
         awaited_first = self._awaits_first
         while time.monotonic() < end:
@@ -330,13 +330,13 @@ class Window:
             self._refuse(report)
 
     def _take_nothing(self) -> None:
-        """Shows nothing, since there is no answer."""
+        """Shows no hits, because there is no answer."""
         self._is_answered, self._awaits_first, self._count = False, False, None
         self.hits.clear()
         self.list.clear()
 
     def _refuse(self, report: Refused) -> None:
-        """Shows that the query isn't followed: the list isn't an answer to it."""
+        """Shows that the query isn't being followed, so the list isn't its answer."""
         self._take_nothing()
         self._take_indices(report.indices)
         self._fault = typed_query.fault_of(report.error, self._typed, report.indices)
@@ -352,7 +352,7 @@ class Window:
             now = hit.attributes.get(write.name)
             self.list.edit_cell(Cell(write.node, columns.column_of(write.name, self._indices.get(write.name)), now), write.text)
 
-    # What is shown.
+    # What the window shows.
 
     def _columns(self) -> List[Column]:
         if self._chosen:
@@ -378,7 +378,7 @@ class Window:
         return max(room // tkinter.font.nametofont("TkFixedFont").measure("0"), 20)
 
     def _tell_query(self) -> None:
-        """Shows what is wrong with the query, or what it can't find. If there is neither, shows which dates it has."""
+        """Shows what is wrong with the query or what it can't find, or otherwise the dates that it contains."""
         width = self._width()
         if self._fault is not None:
             lines = typed_query.lines_of(self._fault, self._query.get(), width)
@@ -405,7 +405,7 @@ class Window:
         self.state.configure(text="   ·   ".join(words))
 
     def _show_notice(self) -> None:
-        """Shows what is wrong with the source, and what couldn't be done, as long as there is something to show."""
+        """Shows what is wrong with the source and what couldn't be done, if anything."""
         condition = self._source.condition
         faults = [self._warning] if self._warning else []
         if self._lost:

@@ -1,11 +1,11 @@
-/* Batches: operations, and the bytes of their names and values, in the library's form. */
+/* Batches: operations in the library's form, and the bytes of their names and values. */
 #include "native.h"
 
 #include <string.h>
 
 PyTypeObject *batch_type;
 
-/* Makes room for this many more elements, and at least doubles the capacity. */
+/* Makes room for this many elements in total, by doubling the capacity until they fit. */
 static void *grown(void *kept, size_t *room, size_t needed, size_t size)
 {
     size_t more = *room == 0 ? 4 : *room;
@@ -64,7 +64,7 @@ bool add_operation(Batch *batch, bes_operation operation, const uint8_t *name, s
     return true;
 }
 
-/* Adds an operation to a batch, and returns the batch, like every call that adds an operation. */
+/* Adds an operation to a batch and returns the batch, as every call that adds an operation does. */
 static PyObject *added(PyObject *self, bes_operation operation, PyObject *name, const uint8_t *value, size_t value_length)
 {
     const uint8_t *bytes = NULL;
@@ -86,7 +86,7 @@ static bool keep_bytes(Encoded *encoded, PyObject *bytes)
     return true;
 }
 
-/* Encodes a value with the package's own function. */
+/* Encodes a value with the package's Python function. */
 static bool encode_slowly(PyObject *value, PyObject *kind, Encoded *encoded)
 {
     PyObject *parts = PyObject_CallFunctionObjArgs(known.encode_value, value, kind == NULL ? Py_None : kind, NULL);
@@ -103,7 +103,7 @@ static bool encode_slowly(PyObject *value, PyObject *kind, Encoded *encoded)
     return is_done;
 }
 
-/* Encodes a value: the common types here, with the same kinds that encode_value gives them. */
+/* Encodes a value. Common types are encoded here, with the same kinds that encode_value gives them. */
 bool encode(PyObject *value, PyObject *kind, Encoded *encoded)
 {
     PyTypeObject *type = Py_TYPE(value);
@@ -247,7 +247,7 @@ static PyObject *batch_parts(PyObject *self, PyObject *nothing)
     return list;
 }
 
-/* Replaces the batch's contents with operations in the library's form, and their bytes. */
+/* Replaces the batch's contents with operations in the library's form, and the bytes that belong to them. */
 static PyObject *batch_put(PyObject *self, PyObject *arguments)
 {
     Batch *batch = (Batch *)self;
@@ -280,7 +280,7 @@ PyObject *batch_of(const Listed *listed)
     return made;
 }
 
-/* Adds each operation that a batch is created with, through the batch's method `add`. */
+/* Adds the operations that a batch is created from, using the batch's method `add`. */
 static int add_all(PyObject *self, PyObject *operations)
 {
     PyObject *all = PyObject_GetIter(operations), *operation;

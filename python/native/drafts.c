@@ -1,4 +1,4 @@
-/* Changes: the operations that are collected on a reader's snapshot, in one of the library's drafts, and written on that
+/* Changes: operations that are collected on a reader's snapshot, in one of the library's drafts, and then written on that
  * snapshot. */
 #include "reader.h"
 
@@ -13,7 +13,7 @@ void abandon_draft(Reader *reader)
     reader->count = reader->length = 0;
 }
 
-/* Begins a draft on the reader's snapshot, unless there is one already. The caller has to have the pass. */
+/* Begins a draft on the reader's snapshot, unless there already is one. The caller must have the pass. */
 static uint32_t begin_draft(Reader *reader, Handle *user)
 {
     uint64_t number, next;
@@ -26,11 +26,11 @@ static uint32_t begin_draft(Reader *reader, Handle *user)
     return answer;
 }
 
-/* An operation to collect, the bytes of its name and value, and what the library returns for it. */
+/* An operation to collect, the bytes of its name and value, and the library's result. */
 typedef struct Collected {
     bes_operation operation;
     const uint8_t *name, *value;
-    uint64_t made; /* the node that it makes, or the type code of the index that doesn't take its value */
+    uint64_t made; /* the node that it creates, or the type code of the index that refuses its value */
 } Collected;
 
 static uint32_t add_to_draft(Reader *reader, Collected *it)
@@ -51,7 +51,7 @@ static uint32_t add_to_draft(Reader *reader, Collected *it)
     return answer;
 }
 
-/* Adds an operation to the draft. If it is refused, raises the error and returns false. */
+/* Adds an operation to the draft. If the operation is refused, raises the error and returns false. */
 static bool collect(PyObject *self, Collected *it, PyObject *name)
 {
     Reader *reader = (Reader *)self;
@@ -164,7 +164,7 @@ PyObject *reader_remove_index(PyObject *self, PyObject *name)
     return none_if(read_name(name, &it) && collect(self, &it, NULL));
 }
 
-/* Gives the operations that make nodes their numbers: the snapshot's next node number and the ones after it. */
+/* Numbers the nodes that operations create, starting from the snapshot's next node number. */
 static void number_new_nodes(Listed *listed, uint64_t next)
 {
     for (size_t at = 0; at < listed->counts.operations; at++)

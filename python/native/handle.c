@@ -1,4 +1,4 @@
-/* Handles: whose turn it is, what happens to handles in a forked child, and unpinning for versions that are gone. */
+/* Handles: which thread's turn it is, what happens to handles in a forked child, and unpinning for destroyed versions. */
 #include "native.h"
 
 #include <pythread.h>
@@ -17,13 +17,13 @@ PyObject *after_fork(PyObject *module, PyObject *nothing)
 
 /* A thread that is waiting for its turn. */
 struct Waiter {
-    PyThread_type_lock lock; /* this lock is taken until the thread gets its turn */
+    PyThread_type_lock lock; /* held until the thread gets its turn */
     bool has_turn;
     struct Waiter *next;
 };
 
-/* Returns whether this thread may use the handle now. Waiting threads come first, so a thread that keeps calling can't shut them
- * out. */
+/* Returns whether this thread may use the handle now. Waiting threads go first, so a thread that calls repeatedly can't starve
+ * them. */
 static bool may_enter(const Handle *handle, unsigned long self)
 {
     if (handle->depth != 0)
@@ -59,7 +59,7 @@ static void give_turn(Handle *handle)
     PyThread_release_lock(waiter->lock);
 }
 
-/* Waits in the queue for its turn, or for a signal. */
+/* Waits in the queue for a turn or a signal. */
 static void wait_in_line(Handle *handle, Waiter *waiter)
 {
     line_up(handle, waiter);
@@ -120,7 +120,7 @@ void leave(Handle *handle)
     give_turn(handle);
 }
 
-/* Returns the object as a handle, if it is of this sort. */
+/* Returns the object as a handle if it is of this sort. */
 Handle *handle_of(PyObject *object, enum Sort sort)
 {
     static const char *const names[] = { "handle", "pass", "prepared query", "cursor", "witness" };
@@ -130,7 +130,7 @@ Handle *handle_of(PyObject *object, enum Sort sort)
     return NULL;
 }
 
-/* Calls arguments[0] with the handle, as ctypes takes it, and the other arguments. The caller has to have the handle. */
+/* Calls arguments[0] with the handle, in the form that ctypes expects, and the other arguments. The caller must have the handle. */
 PyObject *call_guarded(Handle *handle, PyObject *const *arguments, Py_ssize_t count)
 {
     PyObject *pointer, *taken, *result = NULL;
@@ -202,7 +202,7 @@ static int handle_init(PyObject *self, PyObject *arguments, PyObject *names)
     return 0;
 }
 
-/* Closes the handle, unless its owner has closed it. */
+/* Closes the handle, unless its owner has already closed it. */
 static void end_handle(Handle *handle)
 {
     if (is_dead(handle))

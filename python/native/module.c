@@ -1,4 +1,4 @@
-/* The module bestore._native: the most frequent calls, on handles of the library that bestore._library has loaded. */
+/* The module bestore._native: the most frequent calls on handles of the library that bestore._library has loaded. */
 #include "native.h"
 
 #include <string.h>
@@ -23,7 +23,7 @@ static const Named calls[] = {
     CALL(abandon_change),
 };
 
-/* Stores the loaded library's calls, given as a dict from names to addresses. */
+/* Stores the loaded library's calls, which are passed as a dict from names to addresses. */
 static PyObject *use(PyObject *module, PyObject *addresses)
 {
     (void)module;
@@ -38,7 +38,7 @@ static PyObject *use(PyObject *module, PyObject *addresses)
     Py_RETURN_NONE;
 }
 
-/* Stores one of the package's objects, and releases the one before. */
+/* Stores one of the package's objects, and releases the previous one. */
 static void keep(PyObject **place, PyObject *object)
 {
     PyObject *before = *place;
@@ -46,7 +46,7 @@ static void keep(PyObject **place, PyObject *object)
     Py_XDECREF(before);
 }
 
-/* Stores what the module has to know about the package. The package's modules pass it bit by bit as they are imported. */
+/* Stores the package's objects that the module needs. The package's modules pass them as they are imported. */
 static PyObject *know(PyObject *module, PyObject *arguments, PyObject *names)
 {
     static char *parameters[] = { "refusal", "forked", "encoded_query", "encode_value", "typed", "batch", "user",
@@ -82,7 +82,7 @@ static PyMethodDef functions[] = {
     { NULL, NULL, 0, NULL },
 };
 
-/* Makes a type, and adds it to the module. */
+/* Creates a type and adds it to the module. */
 static PyTypeObject *add_type(PyObject *module, PyType_Spec *spec)
 {
     PyObject *type = PyType_FromSpec(spec);

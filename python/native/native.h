@@ -1,8 +1,8 @@
-/* What the parts of bestore._native share. The module calls the library that bestore._library has loaded, through the calls of
- * bestore.h.
+/* Declarations shared by the parts of bestore._native. The module uses the calls in bestore.h, from the library that
+ * bestore._library has loaded.
  *
- * Its state is shared by the whole process, and the GIL guards it. Code that releases the GIL touches no object until it has it
- * again. */
+ * Its state is shared by the whole process and guarded by the GIL. Code that releases the GIL touches no object until it holds
+ * the GIL again. */
 #ifndef BESTORE_NATIVE_H
 #define BESTORE_NATIVE_H
 
@@ -20,8 +20,8 @@ enum {
     MOST_OPERATIONS = 64,
     BYTES_OF_A_BATCH = MOST_OPERATIONS * (63 + 255),
     BYTES_OF_A_VALUE = 255,
-    /* A write of up to this many operations keeps the GIL: it takes microseconds. Getting the GIL back from a thread that
-     * computes takes milliseconds. */
+    /* A write of up to this many operations keeps the GIL, because it takes microseconds. Getting the GIL back from a thread
+     * that is computing takes milliseconds. */
     SHORT_OPERATIONS = 8,
     SHORT_BYTES = 2048,
 };
@@ -74,15 +74,15 @@ extern Library library;
 enum { KINDS = 7 };
 /* surface.toml: end */
 
-/* What the module knows about the package. The package passes each of these once, through `know`. */
+/* The package's objects that the module needs. The package passes each of them once, to `know`. */
 typedef struct Known {
     PyObject *refusal;       /* makes the error for an error number */
     PyObject *forked;        /* the class of the error in a forked child */
     PyObject *encoded_query; /* raises the error for a query's text that isn't valid UTF-8 */
     PyObject *encode_value;  /* encodes values of less common types */
-    PyObject *typed;         /* the class of pairs of value and kind */
+    PyObject *typed;         /* the class of pairs of a value and its kind */
     PyObject *batch;         /* the class of batches */
-    PyObject *user;          /* the class of passes whose writes need nothing else */
+    PyObject *user;          /* the class of passes whose writes need nothing more */
     PyObject *wrong_kind;    /* makes the error for a value whose kind isn't its index's kind */
     PyObject *kinds[KINDS];  /* in the order of kind_index */
 } Known;
@@ -91,10 +91,10 @@ extern Known known;
 
 typedef struct Waiter Waiter;
 
-/* What kind of handle the library has. */
+/* The sorts of library handles. */
 enum Sort { NO_SORT, OF_PASS, OF_PREPARED, OF_CURSOR, OF_WITNESS };
 
-/* One of the library's handles, with its guard: one thread at a time uses it, and that thread may enter again. */
+/* One of the library's handles and its guard. One thread uses the handle at a time, and that thread may enter again. */
 typedef struct Handle {
     PyObject_HEAD
     union {
@@ -104,26 +104,26 @@ typedef struct Handle {
         bes_witness witness;
     } held;
     enum Sort sort;
-    unsigned long forks; /* how many forks there had been when the handle was made */
+    unsigned long forks; /* how many forks there had been when the handle was created */
     unsigned long owner; /* the thread that is using the handle, if depth isn't 0 */
     unsigned depth;
     Waiter *first;     /* the first waiting thread */
-    bool is_given;     /* whether the turn has been given to a thread that hasn't run since */
-    bool is_pinned;    /* for a pass: whether a version has it pinned */
-    bool is_left;      /* whether that version is gone, so that the thread that is using the pass has to unpin */
-    uint64_t snapshot; /* the commit number of the snapshot, if it is pinned */
+    bool is_given;     /* whether a thread was given the turn and hasn't run since */
+    bool is_pinned;    /* for a pass: whether a version pins it */
+    bool is_left;      /* whether that version is gone, so that the thread using the pass has to unpin */
+    uint64_t snapshot; /* the snapshot's commit number, if pinned */
     uint64_t committed;     /* for a pass: the commit number of its last write, or 0 */
-    unsigned long changing; /* the thread that is running the function of a change, or 0 */
+    unsigned long changing; /* the thread that is running a change's function, or 0 */
     uint64_t *nodes;   /* for a pass: the buffer that queries write into, or NULL */
     size_t room;
     bool is_long;   /* for a prepared query: whether the GIL is released while the query runs */
-    unsigned asked; /* how many times the query was run with the GIL */
+    unsigned asked; /* how many times the query has run with the GIL held */
 } Handle;
 
 extern PyTypeObject *handle_type;
 extern PyTypeObject *batch_type;
 
-/* Operations, and the bytes that their names and values are in. */
+/* Operations, and the bytes of their names and values. */
 typedef struct Batch {
     PyObject_HEAD
     bes_operation *operations;
@@ -146,8 +146,8 @@ typedef struct Listed {
     uint8_t bytes[BYTES_OF_A_BATCH];
 } Listed;
 
-/* Guards: handle.c. `enter` waits until no other thread is using the handle. If the handle is dead or the wait is interrupted, it
- * raises and returns false. */
+/* Guards: handle.c. `enter` waits until no other thread is using the handle. If the handle is dead or the wait is interrupted,
+ * it raises an exception and returns false. */
 bool enter(Handle *handle);
 void leave(Handle *handle);
 bool is_dead(const Handle *handle);
@@ -156,7 +156,7 @@ void unpin(Handle *handle);
 PyObject *call_guarded(Handle *handle, PyObject *const *arguments, Py_ssize_t count);
 Handle *handle_of(PyObject *object, enum Sort sort);
 
-/* Values: values.c. If one of these functions fails, it raises and returns NULL or false. */
+/* Values: values.c. If one of these functions fails, it raises an exception and returns NULL or false. */
 PyObject *refused(uint32_t answer);
 PyObject *refused_at(uint32_t answer, uint64_t carried, const char *listed);
 PyObject *refused_kind(PyObject *name, uint32_t kind, uint32_t index_kind);
@@ -179,7 +179,7 @@ typedef struct Signature {
 
 bool read_arguments(const Signature *signature, PyObject *const *given, Py_ssize_t count, PyObject *names, PyObject **read);
 
-/* A value as the library takes it. Its bytes belong to `keeper`, which has to be released unless it is NULL. */
+/* A value in the library's form. Its bytes belong to `keeper`, which must be released unless it is NULL. */
 typedef struct Encoded {
     uint32_t code;
     uint64_t number;
@@ -194,7 +194,7 @@ bool add_operation(Batch *batch, bes_operation operation, const uint8_t *name, s
                    size_t value_length);
 PyObject *batch_of(const Listed *listed);
 
-/* The methods of the types: handle.c, batch.c, reader.c, queries.c, drafts.c, writes.c. */
+/* The types' methods: handle.c, batch.c, reader.c, queries.c, drafts.c, writes.c. */
 extern PyType_Spec handle_spec, batch_spec, reader_spec;
 PyObject *after_fork(PyObject *module, PyObject *nothing);
 PyObject *handle_apply(PyObject *self, PyObject *const *given, Py_ssize_t count);

@@ -13,7 +13,7 @@ enum {
 };
 static const uint64_t MOST_NODES = 8u << 20; /* no store has more nodes with attributes: its pages have 64 MiB */
 
-/* Part of an answer: a page in an order, the first nodes from a number on, or any nodes. */
+/* Part of an answer: a page in an order, the first nodes from a given number on, or any nodes. */
 typedef struct Part {
     enum { IN_ORDER, FROM_NUMBER, ANY } how;
     size_t limit;
@@ -23,14 +23,14 @@ typedef struct Part {
     uint32_t descending, more;
 } Part;
 
-/* A query in the form in which it is run: text, items, or prepared. A prepared query may be run for part of its answer. */
+/* A query in the form in which it is run: as text, as items, or prepared. A prepared query may be run for part of its answer. */
 typedef struct Asked {
     Handle *prepared;
     const bes_item *items;
     const uint8_t *bytes;
     size_t count, length;
     Part *part;
-    PyObject *source; /* what an error refers to */
+    PyObject *source; /* the query that an error refers to */
 } Asked;
 
 /* What was found. */
@@ -70,7 +70,7 @@ static int64_t nanoseconds(void)
     return (int64_t)now.tv_sec * 1000000000 + now.tv_nsec;
 }
 
-/* Returns whether a query may take long: with a wildcard, an inequality or a negation it may read a whole index. */
+/* Returns whether a query may take long: one with a wildcard, an inequality or a negation may read a whole index. */
 static bool may_take_long(const uint8_t *text, size_t length)
 {
     for (size_t at = 0; at < length; at++)
@@ -79,7 +79,7 @@ static bool may_take_long(const uint8_t *text, size_t length)
     return false;
 }
 
-/* Records whether a prepared query may take long, judging by its text. This holds until it has been run. */
+/* Records whether a prepared query may take long, judging by its text. This applies until the query has run. */
 PyObject *handle_expect(PyObject *self, PyObject *text)
 {
     const uint8_t *bytes;
@@ -90,7 +90,7 @@ PyObject *handle_expect(PyObject *self, PyObject *text)
     Py_RETURN_NONE;
 }
 
-/* Runs the query with the GIL, and now and then measures how long it takes. */
+/* Runs the query with the GIL held, and occasionally measures how long it takes. */
 static uint32_t ask_short(bes_pass *pass, const Asked *asked, Result *it)
 {
     Handle *prepared = asked->prepared;
@@ -118,7 +118,7 @@ static uint32_t ask_long(bes_pass *pass, const Asked *asked, Result *it)
     return answer;
 }
 
-/* Runs the query without the GIL if it may take long, or took long last time. */
+/* Runs the query, and releases the GIL if the query may take long or took long last time. */
 static uint32_t ask_once(bes_pass *pass, const Asked *asked, Result *it)
 {
     bool is_long = asked->prepared != NULL ? asked->prepared->is_long
@@ -126,9 +126,9 @@ static uint32_t ask_once(bes_pass *pass, const Asked *asked, Result *it)
     return is_long ? ask_long(pass, asked, it) : ask_short(pass, asked, it);
 }
 
-/* Takes the pass's buffer for found nodes, or makes one. It has room for as many nodes as there can be, so that no query runs
- * twice. Memory that is never written costs nothing. If so much memory isn't available, a query that finds more than fits runs
- * again; a prepared query keeps its result. */
+/* Takes the pass's buffer for found nodes, or allocates one. It has room for the maximum number of nodes, so that no query runs
+ * twice; memory that is never written costs nothing. If that much memory isn't available, a query that finds more nodes than
+ * fit runs again, but a prepared query keeps its result. */
 static bool take_room(Handle *user, uint64_t most, Result *it)
 {
     size_t wanted = (size_t)(most < MOST_NODES ? most : MOST_NODES);
@@ -151,7 +151,7 @@ static bool take_room(Handle *user, uint64_t most, Result *it)
     return true;
 }
 
-/* Makes more room for a query that found more nodes than fit. */
+/* Makes room for a query that found more nodes than fit. */
 static bool grow_room(Result *it)
 {
     uint64_t *nodes = realloc(it->nodes, it->count * sizeof *nodes);
@@ -170,12 +170,12 @@ static void give_back(Handle *user, Result *it)
         user->nodes = it->nodes;
         user->room = it->room;
     } else {
-        free(it->nodes); /* a query that ran meanwhile has made its own buffer */
+        free(it->nodes); /* a query that ran meanwhile has allocated its own buffer */
     }
     it->nodes = NULL;
 }
 
-/* Runs the query, and writes the nodes if they are wanted. */
+/* Runs the query, and writes the nodes if the caller wants them. */
 static bool ask(Handle *user, uint64_t most, const Asked *asked, bool wants_nodes, Result *it, uint32_t *answer)
 {
     *it = (Result){ .nodes = NULL };
@@ -192,7 +192,7 @@ static bool ask(Handle *user, uint64_t most, const Asked *asked, bool wants_node
     return true;
 }
 
-/* Raises the error for a query. The reader makes it. */
+/* Raises the error for a query, which the reader creates. */
 static PyObject *query_refused(Reader *reader, uint32_t answer, uint64_t carried, const Asked *asked)
 {
     PyObject *error = PyObject_CallMethod(
@@ -254,7 +254,7 @@ static bool read_prepared(PyObject *prepared, Asked *asked)
     return asked->prepared != NULL;
 }
 
-/* Reads encoded items: their source, the items, and their bytes. */
+/* Reads encoded items, given as their source, the items, and their bytes. */
 static bool read_items(PyObject *arguments, Asked *asked)
 {
     PyObject *source;
@@ -283,7 +283,7 @@ static PyObject *named(PyObject *const *given, PyObject *names)
     return dict;
 }
 
-/* Forwards a call to the package's method, which does the same and takes more parameters. */
+/* Forwards a call to the package's method, which does the same but has more parameters. */
 static PyObject *forward(
     PyObject *self, const char *method, PyObject *const *given, Py_ssize_t count, PyObject *names)
 {
@@ -299,13 +299,13 @@ static PyObject *forward(
     return result;
 }
 
-/* Returns whether a call has more arguments than a query, and so asks for part of the answer. */
+/* Returns whether a call has arguments besides the query, and so requests part of the answer. */
 static bool asks_part(Py_ssize_t count, PyObject *names)
 {
     return count + (names == NULL ? 0 : PyTuple_Size(names)) > 1;
 }
 
-/* Returns the nodes that a query finds. If there are other arguments too, the package's method `part` reads them. */
+/* Returns the nodes that a query finds. If there are other arguments, the package's method `part` handles the call. */
 static PyObject *query_by(
     PyObject *self, PyObject *const *given, Py_ssize_t count, PyObject *names, const Signature *signature,
     bool (*read)(PyObject *, Asked *), const char *part)
@@ -379,7 +379,7 @@ PyObject *reader_any(PyObject *self, PyObject *arguments)
     return answered_part(self, prepared, &(Part){ .how = ANY, .limit = (size_t)limit });
 }
 
-/* Reads the arguments for a page: the query, the index's name, the direction, where it begins, and the maximum number of
+/* Reads the arguments for a page: the query, the index's name, the direction, where the page begins, and the maximum number of
  * nodes. */
 static bool read_page(PyObject *arguments, PyObject **prepared, Part *part)
 {
@@ -414,10 +414,10 @@ PyObject *reader_page(PyObject *self, PyObject *arguments)
                          (Py_ssize_t)part.cursor.length);
 }
 
-/* What a refresh found: how many nodes joined and left, and room for them. */
+/* What a refresh found: how many nodes joined and left, and the nodes themselves. */
 typedef struct Changes {
     bes_updates updates;
-    uint64_t *nodes; /* the nodes that joined, and then the nodes that left */
+    uint64_t *nodes; /* the nodes that joined, followed by those that left */
 } Changes;
 
 /* A library call that refreshes a query. */

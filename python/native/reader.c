@@ -1,4 +1,4 @@
-/* Readers: how they pin a pass and read nodes. */
+/* Readers, which pin a pass and read nodes. */
 #include "reader.h"
 
 #include <pythread.h>
@@ -22,7 +22,7 @@ Handle *enter_pinned(Reader *reader)
 static const Signature of_get = { "get", { "node", "name" }, 2, 2 };
 static const Signature of_attributes = { "attributes", { "node", "kinds" }, 2, 1 };
 
-/* Reads an attribute as the operations of the reader's draft leave it, or from the snapshot if they don't touch it. */
+/* Reads an attribute as the operations in the reader's draft leave it, or from the snapshot if they don't touch it. */
 static uint32_t read_attribute(Reader *reader, Handle *user, uint64_t node, const uint8_t *name, size_t length, Found *found)
 {
     bes_pass *pass = &user->held.pass;
@@ -32,7 +32,7 @@ static uint32_t read_attribute(Reader *reader, Handle *user, uint64_t node, cons
     return library.get(pass, node, name, length, &found->attribute, found->bytes, BYTES_OF_A_VALUE);
 }
 
-/* Reads a node's attribute. If the arguments are wrong, raises and returns false. */
+/* Reads a node's attribute. If the arguments are invalid, raises an exception and returns false. */
 static bool find(PyObject *self, PyObject *const *given, Py_ssize_t count, PyObject *names, Found *found)
 {
     PyObject *read[2];
@@ -97,7 +97,7 @@ OR_NONE(reader_kind, found_kind)
 OR_ERROR(reader_read, found_typed)
 OR_ERROR(reader_value, found_value)
 
-/* Makes what a dict has for an operation that sets an attribute or makes an index. */
+/* Makes the dict's value for an operation that sets an attribute or creates an index. */
 typedef PyObject *Made(const bes_operation *operation, const uint8_t *bytes);
 
 static PyObject *made_value(const bes_operation *it, const uint8_t *bytes)
@@ -221,8 +221,8 @@ static PyObject *reader_unpin(PyObject *self, PyObject *nothing)
     Py_RETURN_NONE;
 }
 
-/* Unpins for a reader that is being destroyed. Python may collect it anywhere, even while this thread is using another pass. So
- * this doesn't wait for a thread that is using this pass: that thread unpins after its call. */
+/* Unpins for a reader that is being destroyed. Python may collect the reader at any point, even while this thread is using
+ * another pass. So this doesn't wait for a thread that is using this pass; instead, that thread unpins after its call. */
 static void give_pin_up(Reader *reader)
 {
     Handle *user = reader->user;

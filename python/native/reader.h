@@ -11,13 +11,13 @@ typedef struct Reader {
     uint64_t most;   /* how many nodes a query can find: all numbers below the next node's number */
     bool is_pinned;
     bool takes_any_kind; /* whether the draft takes values of any kind */
-    bes_draft draft;     /* if there is a change on this snapshot, the draft with its operations */
+    bes_draft draft;     /* the operations of the change on this snapshot, if there is one */
     size_t count;        /* how many operations the draft has */
-    size_t length;       /* how many bytes their names and values have */
+    size_t length;       /* the number of bytes in their names and values */
 } Reader;
 
-/* Waits until no other thread is using the pass, and checks that it still has this pin and not a later one. Otherwise raises and
- * returns NULL. */
+/* Waits until no other thread is using the pass, and checks that it still has this pin and not a later one. If it doesn't,
+ * raises an exception and returns NULL. */
 Handle *enter_pinned(Reader *reader);
 
 PyObject *reader_query(PyObject *self, PyObject *const *given, Py_ssize_t count, PyObject *names);

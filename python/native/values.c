@@ -1,7 +1,7 @@
-/* Converts values, numbers, texts and errors between Python and the library. */
+/* Converts values, numbers, strings and errors between Python and the library. */
 #include "native.h"
 
-/* Raises the error with this number, made from the arguments. Takes ownership of them. */
+/* Raises the error that these arguments describe. Takes ownership of them. */
 static PyObject *raise_refusal(PyObject *arguments)
 {
     PyObject *error = arguments == NULL ? NULL : PyObject_CallObject(known.refusal, arguments);
@@ -20,7 +20,7 @@ PyObject *refused_at(uint32_t answer, uint64_t carried, const char *listed)
     return raise_refusal(Py_BuildValue("(IKOz)", answer, (unsigned long long)carried, Py_None, listed));
 }
 
-/* Raises the error for an attribute whose kind isn't its index's kind. */
+/* Raises the error for an attribute whose kind differs from its index's kind. */
 PyObject *refused_kind(PyObject *name, uint32_t kind, uint32_t index_kind)
 {
     PyObject *error = PyObject_CallFunction(known.wrong_kind, "OII", name, kind, index_kind);
@@ -146,7 +146,7 @@ PyObject *value_object(uint32_t code, uint64_t number, const uint8_t *bytes, siz
     }
 }
 
-/* Makes a pair of the class Typed with tuple's constructor, which Typed's own constructor also calls. */
+/* Makes a Typed pair with tuple's constructor, which Typed's own constructor calls too. */
 PyObject *typed_object(uint32_t code, uint64_t number, const uint8_t *bytes, size_t length)
 {
     newfunc new_tuple = (newfunc)PyType_GetSlot(&PyTuple_Type, Py_tp_new);

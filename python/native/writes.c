@@ -1,4 +1,4 @@
-/* Writes and the journal, for pinned and unpinned passes. */
+/* Writes and the journal, for both pinned and unpinned passes. */
 #include "native.h"
 
 #include <string.h>
@@ -24,7 +24,7 @@ static uint32_t write_now(Write *it)
     return library.apply(pass, it->operations, it->count, it->bytes, it->length, it->made, room, &it->number);
 }
 
-/* Writes without the GIL. Another thread may add to the batch meanwhile, so this writes a copy. */
+/* Writes without the GIL. Since another thread may add to the batch meanwhile, this writes a copy of it. */
 static bool write_copied(Write *it, uint32_t *answer)
 {
     size_t size = it->count * sizeof(bes_operation);
@@ -50,7 +50,7 @@ static bool write_batch(Write *it, const Batch *batch, uint32_t *answer)
     bool is_written = true;
     if (!enter(it->handle))
         return false;
-    it->operations = batch->operations; /* read only now, since another thread may have added to the batch while this one waited */
+    it->operations = batch->operations; /* read only now, because another thread may have added to the batch while this one waited */
     it->count = batch->count;
     it->bytes = batch->length == 0 ? (const uint8_t *)"" : batch->bytes;
     it->length = batch->length;
@@ -84,7 +84,7 @@ PyObject *handle_apply(PyObject *self, PyObject *const *given, Py_ssize_t count)
     return made == NULL ? NULL : Py_BuildValue("(IKN)", answer, (unsigned long long)it.number, made);
 }
 
-/* Sets an attribute with one write, and keeps the GIL. */
+/* Sets an attribute in one write, without releasing the GIL. */
 static bool set_now(Handle *handle, bes_operation *operation, const uint8_t *name, const Encoded *value, uint32_t *answer)
 {
     uint8_t bytes[SHORT_BYTES];

@@ -1,4 +1,4 @@
-"""What the query window's tests share."""
+"""Shared parts of the query window's tests."""
 
 from __future__ import annotations
 
@@ -25,7 +25,7 @@ except ImportError:
 
 PATIENCE = 30.0  # seconds that anything may take on a busy machine
 
-# Only the thread that runs Tk may free Tk's objects, but Python collects cycles in any thread. So the tests collect cycles only
+# Only the thread that runs Tk may free Tk's objects, but Python collects cycles in any thread. So the tests collect them only
 # in the main thread, after each test with a window.
 gc.disable()
 
@@ -37,7 +37,7 @@ def write(path: str, text: str) -> None:
 
 
 def wait_for(what: Callable[[], bool], seconds: float = PATIENCE) -> bool:
-    """Waits for this to become true. Returns whether it did in time."""
+    """Waits for this to become true, and returns whether it did so in time."""
     end = time.monotonic() + seconds
     while not what():
         if time.monotonic() > end:
@@ -47,7 +47,7 @@ def wait_for(what: Callable[[], bool], seconds: float = PATIENCE) -> bool:
 
 
 class MadeSource(Source):
-    """A store that the test has made."""
+    """A store created by the test."""
 
     title = "made"
 
@@ -64,7 +64,7 @@ class MadeSource(Source):
 
 
 def file_of(store: bestore.Pass, **attributes: bestore.Value) -> int:
-    """Makes a node with these attributes."""
+    """Creates a node with these attributes."""
     def make(change: bestore.Change) -> int:
         node = change.new()
         change[node].update(attributes)
@@ -73,7 +73,7 @@ def file_of(store: bestore.Pass, **attributes: bestore.Value) -> int:
 
 
 def files_store(pages: int = 2048) -> bestore.Pass:
-    """Makes a store with the indices for files."""
+    """Opens a store with the indices for files."""
     store = bestore.open(pages, 8)
     for name in ("name", "BEOS:TYPE"):
         store.make_index(name, bestore.STRING)
@@ -84,14 +84,14 @@ def files_store(pages: int = 2048) -> bestore.Pass:
 
 @functools.lru_cache(None)
 def open_display() -> None:
-    """Opens a display in memory for all of this process's tests. Tk stays connected to it until the end."""
+    """Opens an in-memory display for all of this process's tests. Tk stays connected to it until the end."""
     displays = ExitStack()
     os.environ["DISPLAY"] = displays.enter_context(display.display()).name
     atexit.register(displays.close)
 
 
 class OnDisplay(unittest.TestCase):
-    """Tests with a window on a display in memory."""
+    """Tests with a window on an in-memory display."""
 
     @classmethod
     def setUpClass(cls) -> None:
@@ -103,7 +103,7 @@ class OnDisplay(unittest.TestCase):
             raise unittest.SkipTest(str(error)) from None
 
     def show(self, source: Source, **options: object) -> "Window":
-        """Opens a window on a source. It is closed when the test ends."""
+        """Opens a window for a source. It is closed when the test ends."""
         self.addCleanup(gc.collect)
         root = tkinter.Tk()
         root.geometry(display.SIZE)
@@ -113,14 +113,14 @@ class OnDisplay(unittest.TestCase):
         return window
 
     def becomes(self, window: "Window", what: Callable[[], bool], seconds: float = PATIENCE) -> None:
-        """Fails if this doesn't become true in time."""
+        """Fails unless this becomes true in time."""
         def is_so() -> bool:
             window.root.update()
             return what()
         self.assertTrue(wait_for(is_so, seconds), f"{shown(window)} {window.state['text']} {window.message['text']}")
 
     def shows(self, window: "Window", *names: str) -> None:
-        """Fails if the first column doesn't become this."""
+        """Fails unless the first column shows these names in time."""
         self.becomes(window, lambda: [row[0] for row in window.list.shown()] == list(names))
 
 

@@ -1,4 +1,4 @@
-"""A display in memory, run by Xvfb, and pictures of it."""
+"""An in-memory display, run by Xvfb, and pictures of it."""
 
 from __future__ import annotations
 
@@ -15,7 +15,7 @@ SIZE = "940x560"
 
 
 class Screen(NamedTuple):
-    """A display in memory: its name, and the file that holds its pixels."""
+    """An in-memory display: its name, and the file that holds its pixels."""
 
     name: str
     path: str
@@ -23,7 +23,7 @@ class Screen(NamedTuple):
 
 @contextlib.contextmanager
 def display(size: str = SIZE) -> Iterator[Screen]:
-    """Runs a display in memory during the `with`."""
+    """Runs an in-memory display during the `with` block."""
     server = shutil.which("Xvfb")
     if server is None:
         raise FileNotFoundError("Xvfb isn't installed")
@@ -43,8 +43,7 @@ def pixels_of(path: str) -> bytes:
 
 
 def png(screen: bytes) -> bytes:
-    """Makes a PNG file of a screen that Xvfb keeps as an XWD file with 32 bits per pixel: blue,
-    green, red and none."""
+    """Makes a PNG file from a screen that Xvfb stores as an XWD file, with 32 bits per pixel: blue, green, red and unused."""
     head = struct.unpack(">25I", screen[:100])
     size, width, height, line, colours = head[0], head[4], head[5], head[12], head[19]
     begin, rows = size + 12 * colours, []

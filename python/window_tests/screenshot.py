@@ -1,11 +1,11 @@
-"""Makes a picture of the query window on a display in memory. Needs Xvfb.
+"""Takes a picture of the query window on an in-memory display. Needs Xvfb.
 
     PYTHONPATH=python python3 python/window_tests/screenshot.py [OPTION..] FILE.png QUERY
 
 --socket PATH, --folder FOLDER   the store to query
 --size WxH                       the size in pixels
 --sort ATTRIBUTE                 sorts by this attribute, largest first
---edit PLACE                     the position of a hit, from 0, whose type is being edited
+--edit PLACE                     the position, from 0, of a hit whose type is being edited
 --columns NAME,NAME..            the attributes to show
 
 The picture is taken once the window hasn't changed for two seconds.
@@ -40,7 +40,7 @@ def options_of(words: List[str]) -> argparse.Namespace:
 
 
 def settle(window: Window) -> None:
-    """Runs the window until it hasn't changed for two seconds."""
+    """Runs the window until it has been unchanged for two seconds."""
     last, since = "", time.monotonic()
 
     def look() -> None:
@@ -57,7 +57,7 @@ def settle(window: Window) -> None:
 
 
 def show(source: Source, screen: display.Screen, options: argparse.Namespace) -> bytes:
-    """Returns a picture of a window that shows what was asked for."""
+    """Returns a picture of a window that shows what the options specify."""
     root = tkinter.Tk()
     root.geometry(options.size)
     window = Window(root, source)

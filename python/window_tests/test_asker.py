@@ -35,7 +35,7 @@ class Asking(unittest.TestCase):
         return file_of(self.store, name=name, size=size)
 
     def take(self) -> Dict[int, str]:
-        """Returns what a window would show by now."""
+        """Returns what a window would be showing by now."""
         while not self.asker.reports.empty():
             report = self.asker.reports.get()
             if isinstance(report, Came):
@@ -78,19 +78,19 @@ class Asking(unittest.TestCase):
         return [[hit.node for hit in it.hits] for it in self.others if isinstance(it, First)]
 
     def test_first_hits_of_an_order(self) -> None:
-        """The first hits of an order come before all others. For another order, they come as soon as it is requested."""
+        """An order's first hits come before all others. Another order's come as soon as it is requested."""
         nodes = [self.file(name, size) for name, size in [("a", 1), ("b", 3), ("c", 2), ("d", 3)]]
         self.start("size>0", begin=Begin(Order("size", True), 2))
         self.becomes("a", "b", "c", "d")
         self.assertEqual([type(it) for it in self.others[:3]], [Opened, First, Accepted])
         self.assertEqual(self.firsts(), [[nodes[3], nodes[1]]])
-        self.asker.send(Sort(2, Begin(Order("size"), 9)))  # belongs to a query that isn't the followed one
+        self.asker.send(Sort(2, Begin(Order("size"), 9)))  # belongs to a query that isn't being followed
         self.asker.send(Sort(1, Begin(Order("size"), 3)))
         self.assertTrue(wait_for(lambda: len(self.firsts()) == 2))
         self.assertEqual(self.firsts()[1], [nodes[0], nodes[2], nodes[1]])
 
     def test_first_hit_that_goes_at_once(self) -> None:
-        """A first hit that is gone by the time of the answer, or that joined and left since, is reported as gone."""
+        """A first hit that is gone by the time of the answer, or that joined and left in between, is reported as gone."""
         node, begin = self.file("a"), _FolderSession.begin
         self.file("b")
 
@@ -117,7 +117,7 @@ class Asking(unittest.TestCase):
         self.assertEqual(self.firsts()[-1], ghosts)
 
     def test_first_hits_of_no_index(self) -> None:
-        """The hits come even if no index has their order."""
+        """The hits arrive even if no index has their order."""
         self.file("a")
         self.start("size==1", begin=Begin(Order("none"), 2))
         self.becomes("a")
@@ -135,7 +135,7 @@ class Asking(unittest.TestCase):
             self.becomes("b")
 
     def test_snapshot_that_is_taken_back(self) -> None:
-        """Whatever fails in one step is done in a later one, and nothing is lost."""
+        """Whatever fails in one step is done in a later one, so nothing is lost."""
         nodes = [self.file(name) for name in "ab"]
         self.start("size==1")
         self.becomes("a", "b")
@@ -185,7 +185,7 @@ class Asking(unittest.TestCase):
         self.assertTrue(wait_for(lambda: self.has(Opened)))
 
     def breaks(self, *errors: Optional[bestore.Error]) -> "mock._patch[object]":
-        """Makes the next writes end like this instead of being made. None means that one is made."""
+        """Makes the next writes end with these errors instead of being made. For None, the write is made."""
         change, left = bestore.Pass.change, list(errors)
 
         def broken(user: bestore.Pass, *given: object) -> object:
@@ -196,7 +196,7 @@ class Asking(unittest.TestCase):
         return mock.patch.object(bestore.Pass, "change", broken)
 
     def written(self, *errors: Optional[bestore.Error], count: int) -> List[Written]:
-        """Returns the reports, this many, about three writes that are requested together. Some of the writes end like this."""
+        """Requests three writes together, some of which end with these errors, and returns `count` reports about them."""
         self.nodes = [self.file(name) for name in "abc"]
         for node in self.nodes:
             self.asker.send(Write(node, "BEOS:TYPE", "x", None))
@@ -214,14 +214,14 @@ class Asking(unittest.TestCase):
             return version.column(self.nodes, "BEOS:TYPE")
 
     def test_writes_of_a_store_that_goes(self) -> None:
-        """If a write certainly wasn't made, it and those after it are made once the store is back."""
+        """If a write certainly wasn't made, it and the writes after it are made once the store is back."""
         reports = self.written(None, bestore.Disconnected("p", "gone"), bestore.TimedOut("p", "late"), count=3)
         self.assertEqual([(it.write.node, it.fault) for it in reports], [(node, None) for node in self.nodes])
         self.assertEqual((self.types(), self.has(Lost)), (["x"] * 3, True))
 
     def test_write_that_may_be_made(self) -> None:
-        """A write that may have been made is reported, and not made again. Neither is one that broke the protocol, since it might
-        do so again."""
+        """A write that may have been made is reported and not repeated. The same goes for one that caused a protocol error,
+        which it might cause again."""
         for error in (bestore.Disconnected("p", "gone", True), bestore.ProtocolError("p", "junk")):
             with self.subTest(error=error):
                 self.setUp()
@@ -231,7 +231,7 @@ class Asking(unittest.TestCase):
                 self.assertEqual(([it.fault for it in reports[1:]], self.types()), ([None, None], [None, "x", "x"]))
 
     def test_writes_of_another_store(self) -> None:
-        """A write for one store isn't made in another that is there later, since its nodes are different."""
+        """A write for one store isn't made in another that replaces it, because that store's nodes are different."""
         opened, stores = MadeSource.open, iter("12")
 
         def open_another(source: MadeSource) -> Session:
@@ -244,7 +244,7 @@ class Asking(unittest.TestCase):
         self.assertEqual(self.types(), [None] * 3)
 
     def test_stores_of_servers(self) -> None:
-        """If a server keeps its nodes, they are the same in its next run."""
+        """If a server saves its nodes, they are the same in its next run."""
         for kept, store in [("each", ""), ("every", "r"), ("no", "r")]:
             user = mock.Mock(server=mock.Mock(kept=kept, run="r"))
             self.assertEqual(_ServerSession(user).store, store)
@@ -253,7 +253,7 @@ class Asking(unittest.TestCase):
 @unittest.skipUnless(servers.BESTORED, "BESTORED names no bestored")
 class OverServer(unittest.TestCase):
     def reports(self, *options: object) -> List[Written]:
-        """Returns the reports about two writes that are sent after the server is killed and before it is restarted."""
+        """Returns the reports about two writes that are sent between killing the server and restarting it."""
         with servers.Server(*options) as server:
             with server.connect() as store:
                 nodes = store.new_nodes(2)

@@ -1,4 +1,4 @@
-"""Tests of importing a folder, of mails, of where files are, and of opening them."""
+"""Tests of importing a folder, of mail, of locating files, and of opening them."""
 
 from __future__ import annotations
 
@@ -21,7 +21,7 @@ MAIL = "From: Ann =?utf-8?q?M=C3=BCller?= <ann@example.org>\nTo: bob@example.org
 
 
 class InFolder(unittest.TestCase):
-    """A folder, and a store with a reader for it."""
+    """A folder, and a store with a reader for that folder."""
 
     pages = 1024
 
@@ -74,7 +74,7 @@ class Files(InFolder):
             return version.attributes(node)
 
     def test_beside_another_writer(self) -> None:
-        """Another pass keeps making nodes. Each file still gets only its own attributes."""
+        """Another pass keeps creating nodes. Each file still gets only its own attributes."""
         for number in range(100):
             write(self.path(f"{number}.txt"), "x" * number)
         other, others = self.store.another(), 0
@@ -91,7 +91,7 @@ class Files(InFolder):
         self.assertEqual((len(names), len(files)), (100, 100 + others))
 
     def test_folder_that_went(self) -> None:
-        """The window says so, the nodes stay, and the folder is followed again once it is back."""
+        """The window reports it, the nodes stay, and the folder is followed again once it is back."""
         write(self.path("a"), "")
         self.reader.start()
         self.becomes("a")
@@ -104,7 +104,7 @@ class Files(InFolder):
         self.assertFalse(self.reader.is_gone)
 
     def test_names(self) -> None:
-        """Names that aren't valid UTF-8 are changed. Names with more bytes than a value can have are cut."""
+        """Names that aren't valid UTF-8 are changed. Names with more bytes than a value can have are truncated."""
         name = "ü" * 127 + ".x"  # 256 bytes can't be a file's name; 255 can
         for it in (b"bad\xff", name[1:].encode(), b"a\nb"):
             with open(os.path.join(os.fsencode(self.folder), it), "wb"):
@@ -123,7 +123,7 @@ class Full(InFolder):
     pages = 128
 
     def test_store(self) -> None:
-        """The reader counts what doesn't fit. What is in the store stays, and new room is used."""
+        """The reader counts the files that don't fit, keeps those in the store, and uses room that becomes available."""
         for number in range(500):
             write(self.path(f"{number:03}"), "")
         self.reader.start()
@@ -156,7 +156,7 @@ class Mails(InFolder):
                 self.assertEqual(version.query(query), sorted(nodes[name] for name in names))
 
     def test_headers(self) -> None:
-        """A header may be encoded, or have bytes in UTF-8 or in another encoding."""
+        """A header may use encoded words, or contain bytes in UTF-8 or in another encoding."""
         path = self.path("1")
         for raw, text in [
             (b"=?utf-8?q?M=C3=BCller?=", "Müller"), ("Müller".encode(), "Müller"), (b"M\xfcller", "Müller"),

@@ -1,4 +1,4 @@
-"""Tests of the list by itself, on a display in memory: which rows and columns fit."""
+"""Tests of the list on its own, on an in-memory display: which rows and columns fit."""
 
 from __future__ import annotations
 
@@ -34,7 +34,7 @@ class OfHits(OnDisplay):
         self.written = mock.Mock()
 
     def list_of(self, names: Sequence[str], size: str = "600x300") -> "HitList":
-        """Makes a list with these columns, in a window of this size."""
+        """Creates a list with these columns, in a window of this size."""
         hits = SortedHits()
         for node in range(1, FIFTY + 1):
             hits.put(Hit(node, {"name": f"{node:02}", "rating": node}))
@@ -46,7 +46,7 @@ class OfHits(OnDisplay):
         return made
 
     def resize(self, size: str) -> None:
-        """Gives the window this size, and returns once it has the size and is drawn."""
+        """Gives the window this size, and returns once the window has it and is drawn."""
         self.root.geometry(size)
 
         def has_size() -> bool:
@@ -58,7 +58,7 @@ class OfHits(OnDisplay):
 
 class Rows(OfHits):
     def test_as_many_before_a_resize(self) -> None:
-        """The list has as many rows at first as after a resize, however tall its headings are: exactly as many as fit."""
+        """The list starts with exactly as many rows as fit, the same as after a resize, however tall its headings are."""
         for font_size in (6, 10, 30):
             ttk.Style(self.root).configure("Treeview.Heading", font=("TkHeadingFont", font_size))
             for height in range(200, 222):
@@ -89,7 +89,7 @@ class Columns(OfHits):
         return x >= 0 and x + width <= shown.tree.winfo_width()
 
     def test_eight(self) -> None:
-        """Names keep their width, and the bar below reaches each of eight columns."""
+        """Names keep their width, and the scroll bar below reaches each of eight columns."""
         shown = self.list_of(EIGHT)
         self.assertGreaterEqual(shown.tree.column("#0", "width"), 160)
         self.assertTrue(shown.bar_below.winfo_viewable())
@@ -99,7 +99,7 @@ class Columns(OfHits):
         self.assertEqual([self.is_seen(shown, place) for place in (0, 7)], [False, True])
 
     def test_no_bar_for_few(self) -> None:
-        """The bar is there while there are columns past the edge. Names get what the other columns leave."""
+        """The scroll bar is shown while columns extend past the edge. Names get the width that the other columns leave."""
         shown = self.list_of(FEW)
         self.assertFalse(shown.bar_below.winfo_viewable())
         rows, name = len(shown.shown()), shown.tree.column("#0", "width")
@@ -125,7 +125,7 @@ class Columns(OfHits):
         self.assertEqual(shown.shown()[0][0], "01")
 
     def test_edit_beyond_the_edge(self) -> None:
-        """An edit scrolls to its column, and stays over its cell when the list is scrolled."""
+        """An edit scrolls to its column, and stays over its cell when the list scrolls."""
         shown = self.list_of(EIGHT)
         rating = shown.columns[-1]
         shown.edit_cell(Cell(1, rating, 1), "1")

@@ -1,4 +1,4 @@
-"""Tests of what the list is based on: sorted hits, the selection, and the file of saved queries."""
+"""Tests of what the list builds on: sorted hits, the selection, and the file of saved queries."""
 
 from __future__ import annotations
 
@@ -19,7 +19,7 @@ VALUES: List[Optional[bestore.Value]] = [None, -3, 0, 7, 2**63, "", "b", "B", "a
 
 
 def hit_of(node: int, chance: random.Random) -> Hit:
-    """Makes a hit that may lack an attribute, or have it with any kind."""
+    """Returns a hit that may lack an attribute, or have it with any kind."""
     values = {name: chance.choice(VALUES) for name in ("name", "size")}
     return Hit(node, {name: value for name, value in values.items() if value is not None})
 
@@ -42,7 +42,7 @@ class Sorted(unittest.TestCase):
         self.assertEqual([hits.place_of(node) for node in nodes], list(range(len(nodes))))
 
     def test_at_random(self) -> None:
-        """Whatever joins, changes or leaves, even during re-sorting, the order is that of a plain sort."""
+        """Whatever joins, changes or leaves, even during re-sorting, the order matches that of a plain sort."""
         for seed in range(30):
             chance, hits, model = random.Random(seed), SortedHits(), {}  # type: random.Random, SortedHits, Dict[int, Hit]
             for _ in range(400):
@@ -91,7 +91,7 @@ class Sorted(unittest.TestCase):
         self.assertEqual(listed(hits), in_order(model, "size", True))
 
     def test_first_of_a_new_order(self) -> None:
-        """The hits that the store found come first until all are sorted. The others keep their order meanwhile."""
+        """The hits that the store found come first until all are sorted. Meanwhile, the others keep their order."""
         hits = SortedHits()
         for node in range(6):
             hits.put(Hit(node, {"name": str(node), "size": -node}))
@@ -111,7 +111,7 @@ class Sorted(unittest.TestCase):
         self.assertEqual(listed(hits), [7, 0, 1, 2, 3, 4])
 
     def test_hit_that_is_there_already(self) -> None:
-        """If a hit is already there, nothing changes, and what is being sorted has nothing to catch up with."""
+        """Adding a hit that is already there changes nothing, and gives a sort in progress nothing to catch up with."""
         hits = SortedHits()
         for node in range(3):
             hits.put(Hit(node, {"name": str(node), "size": -node}))
@@ -125,7 +125,7 @@ class Sorted(unittest.TestCase):
         self.assertEqual(listed(hits), [2, 0, 1])
 
     def test_turning_back(self) -> None:
-        """Sorting by another attribute and right away by the old one again gives the old order."""
+        """Sorting by another attribute and then immediately by the old one again restores the old order."""
         hits = SortedHits()
         for node in range(5):
             hits.put(Hit(node, {"name": str(node), "size": -node}))
@@ -162,7 +162,7 @@ class Selected(unittest.TestCase):
         self.assertEqual((self.selection.nodes, self.selection.cursor), ([], None))
 
     def test_list_that_changes(self) -> None:
-        """The selection is by hits and not by places."""
+        """The selection consists of hits rather than positions."""
         self.selection.choose(3)
         self.hits.put(Hit(20, {"name": ""}))
         self.assertEqual((self.selection.nodes, self.selection.cursor), ([3], 4))
@@ -196,7 +196,7 @@ class SavedFile(unittest.TestCase):
                          if os.listdir(os.path.dirname(self.path))[0].endswith("lock") else ["queries.json", "queries.json.lock"])
 
     def test_bad_files(self) -> None:
-        """If a file can't be read, the error names it and the place, and the file isn't overwritten."""
+        """If a file can't be read, the error names the file and the position, and the file isn't overwritten."""
         os.makedirs(os.path.dirname(self.path))
         for text, reason in [
             (b"{", "line 1, column 2"), (b"[]", "no list of queries"), (b'{"queries":[{"name":1,"query":"x"}]}', "isn't a string"),
@@ -211,7 +211,7 @@ class SavedFile(unittest.TestCase):
                 self.assertEqual(file.read(), text)
 
     def test_no_room(self) -> None:
-        """If the file can't be written, the old one stays."""
+        """If the file can't be written, the old one is left in place."""
         self.saved.save(Saved("a", "b"))
         blocked = SavedQueries(os.path.join(self.path, "below", "a", "file.json"))
         with self.assertRaises(BadFile):

@@ -2,8 +2,8 @@
 
     PYTHONPATH=python:python/window_tests python3 python/window_tests/test_sixty_thousand.py --print
 
-prints each phase's longest time, and with `--nodes 83000` for this many nodes. It expects at most a tenth of a second, so it
-needs a machine with nothing else to do. Among other tests, the limit is a second, since the loop then waits for a processor.
+prints each phase's longest time, and with `--nodes 83000` for this many nodes. The limit is a tenth of a second, so this needs
+an otherwise idle machine. Among other tests, the limit is one second, because the loop then has to wait for a processor.
 """
 
 from __future__ import annotations
@@ -31,12 +31,12 @@ VOLUMES = 5
 STEP = 10      # nodes per batch
 LONGEST = 0.1  # the limit in seconds for a run that prints the times
 LOADED = 1.0   # the limit in seconds among other tests
-TRIES = 3      # for a machine with other work
+TRIES = 3      # because the machine may be busy
 PATIENCE = 120.0
 
 
 def make_nodes(store: bestore.Pass) -> None:
-    """Makes files with five attributes, three of them indexed, in all volumes."""
+    """Creates files in all volumes, with five attributes, three of which are indexed."""
     for name, kind in (("name", bestore.STRING), ("size", bestore.INT64), ("last_modified", bestore.INT64)):
         store.make_index(name, kind)
     for first in range(0, NODES, STEP):
@@ -48,14 +48,14 @@ def make_nodes(store: bestore.Pass) -> None:
 
 
 def set_attributes(batch: bestore.Batch, node: int, number: int) -> None:
-    """Sets a file's attributes. Other files have most of these values too."""
+    """Sets a file's attributes. Most of these values occur in other files too."""
     batch.set(node, "name", f"file {number * 7919 % 60_013}.txt").set(node, "size", number * 31 % 9973)
     batch.set(node, "last_modified", 1_700_000_000 + number * 101 % 50_000).set(node, "BEOS:TYPE", f"type/{number % 101}")
     batch.set(node, "folder", f"/home/somebody/folder {number % 307}")
 
 
 class Gaps:
-    """The longest time between two moments when the event loop handled waiting events."""
+    """The longest time between two moments at which the event loop handled pending events."""
 
     def __init__(self, window: "Window") -> None:
         self._root = window.root
@@ -72,7 +72,7 @@ class Gaps:
 
 
 def loop(window: "Window", is_done: Callable[[], bool]) -> float:
-    """Runs the event loop until a condition holds. Returns the longest time that it was busy."""
+    """Runs the event loop until a condition holds, and returns the longest time that the loop was busy."""
     gaps, end = Gaps(window), time.monotonic() + PATIENCE
 
     def look() -> None:
@@ -109,7 +109,7 @@ def seconds_until(window: "Window", nodes: List[int]) -> float:
 
 
 def measure_first(window: "Window", store: bestore.Pass) -> Dict[str, float]:
-    """Measures how soon an order's first hits are shown if an index has the order."""
+    """Measures how soon an order's first hits are shown if an index provides that order."""
     def first(text: str, by: str, descending: bool = False) -> List[int]:
         with store.pin() as version:
             return version.query(text, by=by, descending=descending, limit=window.list.room)
@@ -129,7 +129,7 @@ def measure_first(window: "Window", store: bestore.Pass) -> Dict[str, float]:
 
 
 class Writer(threading.Thread):
-    """Renames files, as another program might."""
+    """Renames files as another program might."""
 
     def __init__(self, store: bestore.Pass, nodes: List[int], name: str) -> None:
         super().__init__()

@@ -1,4 +1,4 @@
-"""Tests of starting the window: its command line, and its own server if that can't be started."""
+"""Tests of starting the window: its command line, and failure to start its own server."""
 
 from __future__ import annotations
 
@@ -18,7 +18,7 @@ from common import HAS_TK, OnDisplay, write
 
 
 def run(*words: str, display: bool = True) -> Tuple[int, str]:
-    """Runs the command. Returns its status, and what it wrote to standard error."""
+    """Runs the command, and returns its status and what it wrote to standard error."""
     environment = {name: value for name, value in os.environ.items() if display or name != "DISPLAY"}
     done = subprocess.run([sys.executable, "-m", "bestore_queries", *words], stdout=subprocess.DEVNULL, stderr=subprocess.PIPE,
                           env=environment, timeout=60)

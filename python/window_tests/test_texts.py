@@ -17,7 +17,7 @@ INDICES = {"name": bestore.STRING, "size": bestore.INT64, "last_modified": besto
 
 
 class LocalTime(unittest.TestCase):
-    """Dates in a place with summer time."""
+    """Dates in a time zone with daylight saving time."""
 
     def setUp(self) -> None:
         before = os.environ.get("TZ")
@@ -33,7 +33,7 @@ class LocalTime(unittest.TestCase):
 
 class Dates(LocalTime):
     def lines(self) -> Iterator[List[str]]:
-        """Yields the lines of tests/dates.txt, split into their parts."""
+        """Yields the lines of tests/dates.txt, each split into its parts."""
         path = os.path.join(os.path.dirname(os.path.abspath(__file__)), "..", "..", "tests", "dates.txt")
         with open(path, encoding="utf-8") as file:
             for line in file:
@@ -130,7 +130,7 @@ class Typed(LocalTime):
 
 class Find(unittest.TestCase):
     def test_finds(self) -> None:
-        """The row's query runs, and finds what it says."""
+        """The row's query runs and finds what the row says."""
         names = ["Report.txt", "old REPORT", "a*b", 'say "hi"', "straße", "[draft]"]
         with bestore.open(64, 2) as store:
             for name, kind in INDICES.items():
@@ -194,7 +194,7 @@ class Values(LocalTime):
             self.assertEqual(columns.typed_value(name, columns.edited_text(name, value), kind), value)
 
     def test_edited_times(self) -> None:
-        """A time that no date can express is edited as a number."""
+        """A time that can't be written as a date is edited as a number."""
         for seconds, text in [
             (1700000000, "2023-11-14 23:13:20"), (-40000000000, "0702-06-15 01:46:48"), (253402297200, "253402297200"),
             (10**18, str(10**18)), (-2**63, str(-2**63)), (2**63 - 1, str(2**63 - 1)),

@@ -1,4 +1,4 @@
-"""Tests of the window on a display in memory."""
+"""Tests of the window on an in-memory display."""
 
 from __future__ import annotations
 
@@ -43,7 +43,7 @@ class OverStore(OnDisplay):
         return file_of(self.store, **{"name": name, "size": size, "last_modified": 1700000000, "BEOS:TYPE": kind, **others})
 
     def window(self, *names: str) -> "Window":
-        """Opens a window with files that have these names, and their positions as sizes."""
+        """Opens a window with files that have these names, and sizes equal to their positions."""
         for place, name in enumerate(names):
             self.file(name, place, folder=self.folder)
         window = self.show(self.source, saved=self.saved)
@@ -52,7 +52,7 @@ class OverStore(OnDisplay):
 
 
 class FirstHits(OverStore):
-    """The first hits of an order that the store has an index for."""
+    """The first hits in an order for which the store has an index."""
 
     def test_sorting_waits_for_them(self) -> None:
         """The first hits are shown before any others are sorted."""
@@ -76,7 +76,7 @@ class FirstHits(OverStore):
 
 
 class Faults(OverStore):
-    """What was wrong with the first version of the window."""
+    """Faults that the first version of the window had."""
 
     def test_fault_beyond_the_right_edge(self) -> None:
         """The part of the query with the error is shown within the window, and the character is marked."""
@@ -90,7 +90,7 @@ class Faults(OverStore):
         self.assertEqual(str(window.message["foreground"]), theme.FAULT)
 
     def test_fault_ends_the_old_answer(self) -> None:
-        """Whatever is wrong, the old hits and their number disappear, and come back with the next query."""
+        """Whatever is wrong, the old hits and their count disappear, and hits come back with the next query."""
         window = self.window("a", "b", "c")
         for query in ("size<", 'name=="[a"', "none==1", "last_modified>soon", "name==\udcff"):
             window.ask("size>0")
@@ -103,7 +103,7 @@ class Faults(OverStore):
             self.assertNotRegex(str(window.message["text"]), "score|version|grammar")
 
     def test_sorted_insertion(self) -> None:
-        """New and changed hits are put in their places."""
+        """New and changed hits are placed in order."""
         window = self.window("b", "d", "f")
         added = [self.file("c", 9), self.file("a", 8), self.file("g", 7)]
         self.shows(window, "a", "b", "c", "d", "f", "g")
@@ -116,7 +116,7 @@ class Faults(OverStore):
         self.shows(window, "a", "b", "d", "f", "B2")
 
     def test_sort_that_stays(self) -> None:
-        """The order and its arrow stay for the next queries."""
+        """The order and its arrow are kept for the next queries."""
         window = self.window("a", "b", "c")
         for turned in ("▲", "▼"):
             window.sort(window.list.columns[1])
@@ -130,7 +130,7 @@ class Faults(OverStore):
         self.assertEqual(window.list.tree.heading("#1", "text"), "Size ▼")
 
     def test_store_without_room(self) -> None:
-        """The window says in full how many files are missing, and what helps."""
+        """The window says in full how many files are missing and what to do about it."""
         for number in range(500):
             write(os.path.join(self.folder, f"{number}"), "")
         window = self.show(FolderSource(self.folder, 128, pause=0.02), saved=self.saved)
@@ -166,7 +166,7 @@ class Faults(OverStore):
         self.becomes(window, lambda: [row[:2] for row in window.list.shown()] == [["Grüße ✉", "Müller <m@x>"]])
 
     def test_missing_index(self) -> None:
-        """The error names the name without an index, and those that have one."""
+        """The error gives the name that has no index, and the names that have one."""
         window = self.window("a")
         window.ask("size>0 || color==red")
         self.becomes(window, lambda: str(window.message["text"]).startswith(
@@ -212,7 +212,7 @@ class Asking(OverStore):
         self.shows(window, "two")
 
     def test_typing(self) -> None:
-        """A query runs once nothing has been typed for a moment, and only the last one's answer is shown."""
+        """A query runs once nothing has been typed for a moment, and only the last query's answer is shown."""
         window = self.window("a", "b", "c")
         for size in (0, 1, 2, 0, 1):
             window.ask(f"size=={size}")
@@ -275,7 +275,7 @@ class SavedOnes(OverStore):
 
 class Editing(OverStore):
     def edited(self, window: "Window", text: str) -> None:
-        """Types a text into the editor, and finishes with Return."""
+        """Types a text into the editor and finishes with Return."""
         window.root.update()
         entry = window.list.editor.entry
         assert entry is not None
@@ -286,7 +286,7 @@ class Editing(OverStore):
         entry.event_generate("<Return>")
 
     def begin(self, window: "Window", place: int, column: str) -> None:
-        """Edits an attribute of a row with F2."""
+        """Begins to edit an attribute of a row with F2."""
         press(window, place, [it.attribute for it in window.list.columns].index(column))
         window.list.tree.focus_force()
         window.root.update()
@@ -324,7 +324,7 @@ class Editing(OverStore):
         self.assertEqual(str(window.notice["text"]), "")
 
     def test_beside_another_program(self) -> None:
-        """What another program has set meanwhile isn't overwritten."""
+        """A value that another program has set in the meantime isn't overwritten."""
         window = self.window("a")
         self.begin(window, 0, "BEOS:TYPE")
         self.store.set(1, "BEOS:TYPE", "by another")
@@ -449,7 +449,7 @@ class Opening(OverStore):
 
 class Listing(OverStore):
     def test_scrolls_and_selects(self) -> None:
-        """The widget has only the visible rows."""
+        """The widget contains only the visible rows."""
         names = [f"{number:03}" for number in range(300)]
         for name in names:
             self.file(name)
@@ -487,7 +487,7 @@ class Listing(OverStore):
         self.shows(window, "a␣b", "node 2")
 
     def test_eight_columns(self) -> None:
-        """Whatever is chosen in the menu Attributes can be seen, and names keep their width."""
+        """Whatever is chosen in the Attributes menu can be seen, and names keep their width."""
         window = self.window("a", "b")
         window.choose(["name", "size", "last_modified", "BEOS:TYPE", "folder", "created", "Audio:Artist", "rating"])
         self.shows(window, "a", "b")
@@ -565,7 +565,7 @@ class OverServer(OnDisplay):
         self.becomes(window, lambda: window.list.shown()[0][3] == "text/x")
 
     def test_server_that_goes(self) -> None:
-        """The window says so, the list is emptied, and everything comes back with the server."""
+        """The window reports it, the list is emptied, and everything comes back with the server."""
         self.make_files()
         window = self.show(ServerSource(self.server.path), saved=self.saved)
         window.ask("size>=0")
@@ -580,7 +580,7 @@ class OverServer(OnDisplay):
         self.becomes(window, lambda: str(window.notice["text"]) == "")
 
     def test_own_server(self) -> None:
-        """If no server is listening, the window starts one that keeps its store, and ends it later."""
+        """If no server is listening, the window starts one that saves its store, and stops it later."""
         folder = tempfile.mkdtemp(prefix="own-", dir=servers.MEMORY)
         self.addCleanup(lambda: __import__("shutil").rmtree(folder))
         program = os.path.join(folder, "bestored")
@@ -607,7 +607,7 @@ class OverVolumes(OverServer):
     options = ["--volumes", 3]
 
     def test_spread(self) -> None:
-        """The files are in several volumes, and each is followed."""
+        """The files are in several volumes, each of which is followed."""
         self.make_files()
         window = self.show(ServerSource(self.server.path), saved=self.saved)
         names = [f"{number:02}" for number in range(12)]
