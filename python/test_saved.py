@@ -487,7 +487,7 @@ class Refused(Files):
     def test_differs(self):
         made = "UPDATE entry SET batch = CAST(substr(batch, 1, 6) || x'09' || substr(batch, 8) AS BLOB) WHERE number = 3"
         for change, entry, batch, reason in [
-            (made, 3, None, "other nodes"), ("DELETE FROM entry WHERE number = 2", 2, None, "missing"),
+            (made, 3, None, "different nodes"), ("DELETE FROM entry WHERE number = 2", 2, None, "missing"),
             ("UPDATE entry SET batch = substr(batch, 1, 9) WHERE number = 4", 4, None, "cut off"),
             ("UPDATE entry SET batch = 'text' WHERE number = 4", 4, None, "don't begin with BEB"),
             ("UPDATE entry SET batch = 5 WHERE number = 1", 1, None, "don't begin with BEB"),

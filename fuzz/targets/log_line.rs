@@ -29,6 +29,6 @@ bestore_fuzz::target!(|input| {
         let written = follower.apply(&batch).expect("a follower accepts what the leader did");
         let mut repeated = batch.clone();
         repeated.set_nodes(&written.nodes);
-        assert_eq!(repeated, batch, "entry {number} makes other nodes");
+        assert_eq!(repeated, batch, "entry {number} makes different nodes");
     }
 });

@@ -54,7 +54,7 @@ fn rate(mut call: impl FnMut(u64) -> Result<()>) -> Result<f64> {
 /// Rates per second: of queries for one node and for 100 as text, of prepared queries for 100, and of counts of all nodes.
 fn rates(pass: &mut ShelfPass, nodes: u64) -> Result<[f64; 4]> {
     let hundreds = nodes / 100;
-    let check = |found: Vec<u64>, expected: usize| assert_eq!(found.len(), expected, "the query finds other nodes");
+    let check = |found: Vec<u64>, expected: usize| assert_eq!(found.len(), expected, "the query finds different nodes");
     let prepared: Prepared = format!("when=={}", 1_000 + hundreds / 2).parse()?;
     Ok([
         rate(|turn| {
