@@ -2,32 +2,32 @@
  *
  * Link with libbestore.a or -lbestore (pkg-config bestore); add -lpthread if your program creates threads.
  *
- * HANDLES. A bes_pass is a session: one thread's handle to a store. A thread writes to the store, pins a snapshot and reads it through its
- * pass. A bes_prepared is a parsed query. It isn't tied to a store, and any pass may run it. A bes_place is a position in the list of
- * operations that rebuild a snapshot. A bes_witness carries a record of what a pass has seen to a pass of the same store in another thread.
- * A bes_draft is a change: the operations that a pass will write, based on what it has read. You own the memory that a handle occupies.
- * Initialise it with BES_PASS_INIT, BES_PREPARED_INIT, BES_PLACE_INIT, BES_WITNESS_INIT or BES_DRAFT_INIT, all of which are zero bytes.
- * Never copy a handle or change its fields; move it with bes_move, bes_move_prepared, bes_move_place, bes_move_witness or bes_move_draft.
- * Close a handle with bes_close, bes_release, bes_leave or bes_dismiss; close a draft with bes_end_change or bes_abandon_change. Closing a
- * store's last open pass frees the store.
+ * HANDLES. A bes_pass is a session: one thread's handle to a store. Through its pass, a thread writes to the store, pins a snapshot and
+ * reads that snapshot. A bes_prepared is a parsed query. It isn't tied to a store, and any pass may run it. A bes_place is a position in
+ * the list of operations that rebuild a snapshot. A bes_witness carries a record of what a pass has seen to a pass of the same store in
+ * another thread. A bes_draft is a change: the operations that a pass will write, based on what it has read. You own the memory that a
+ * handle occupies. Initialise each handle with BES_PASS_INIT, BES_PREPARED_INIT, BES_PLACE_INIT, BES_WITNESS_INIT or BES_DRAFT_INIT, each
+ * of which sets every byte to zero. Never copy a handle or change its fields; move it with bes_move, bes_move_prepared, bes_move_place,
+ * bes_move_witness or bes_move_draft. Close a handle with bes_close, bes_release, bes_leave or bes_dismiss; close a draft with
+ * bes_end_change or bes_abandon_change. Closing a store's last open pass frees the store.
  *
  * THREADS. Give each thread its own pass. Calls on different passes run concurrently, and no call waits for another. A pass, a prepared
  * query, a place, a witness or a draft may be used by only one call at a time. You may hand any of these handles to another thread if a
  * join, a lock or a thread start ensures that the other thread's calls come after yours. Never call these functions from a signal handler.
- * None of them is a cancellation point: with deferred cancellation, the default, a thread ends only between calls. Close its pass in a
- * cleanup handler. If a thread ends inside a call, through asynchronous cancellation or a longjmp, its handle must not be used again, and
- * its pin is never released. If the thread was writing, every later write to the store returns BES_BUSY.
+ * None of them is a cancellation point. With deferred cancellation, which is the default, a thread ends only between calls, so close its
+ * pass in a cleanup handler. If a thread ends inside a call, through asynchronous cancellation or a longjmp, its handle must not be used
+ * again, and its pin is never released. If the thread was writing, every later write to the store returns BES_BUSY.
  *
  * FORK. A forked child has its own copy of the store, and no other process sees what the child writes there. If another thread was inside a
- * call at the time of the fork, the copy may be locked or half written. So a child must not pass any of these functions a handle that its
- * parent opened. It clears each such handle with bes_forget, bes_forget_prepared, bes_forget_place, bes_forget_witness or bes_forget_draft,
- * which free nothing. Then it may open a store of its own.
+ * call at the time of the fork, the copy may be locked or half written. So a child must not pass a handle that its parent opened to any of
+ * these functions. Instead, it clears each such handle with bes_forget, bes_forget_prepared, bes_forget_place, bes_forget_witness or
+ * bes_forget_draft, which free nothing. Then it may open a store of its own.
  *
  * ERRORS. Each call returns BES_OK or an error number. A function's comment lists its errors in the order in which it checks for them; if
- * two apply, it returns the first. After an error the store, the handles and your memory are unchanged, unless the comment says otherwise.
- * The exceptions are the parameters number, count, seen and place, which are set to the value that the comment gives for the error, or to
- * 0. The pass may also have seen more of the journal. Pointers must be valid, and the memory that they point to must not overlap. A pointer
- * must not be null even if its length is 0; it may then point to any variable.
+ * two apply, it returns the first. After an error, the store, the handles and your memory are unchanged, unless the comment says otherwise.
+ * The exceptions are the parameters number, count, seen and place: they are set to the value that the comment gives for the error, or to 0.
+ * The pass may also have seen more of the journal. Pointers must be valid, and the memory areas that they point to must not overlap. A
+ * pointer must not be null, even if its length is 0; in that case it may point to any variable.
  *
  * SNAPSHOTS. The journal is the commit log: all committed transactions, numbered from 1. Pin a pass before you read through it. A pinned
  * pass reads the snapshot that was current when it was pinned, whatever is written in the meantime. The snapshot's number is the commit
@@ -230,8 +230,7 @@ enum {
     /* surface.toml: end */
 };
 
-/* An item of a predicate. Its bytes lie within an array that all items share. The rule for unused fields is the same as for an
- * operation. */
+/* An item of a predicate. Its bytes lie within an array that all items share. Unused fields follow the same rule as in an operation. */
 typedef struct bes_item {
     uint32_t kind;
     uint32_t at;
@@ -242,12 +241,12 @@ typedef struct bes_item {
 /* A value, as written by bes_get. */
 typedef struct bes_attribute {
     uint32_t code;    /* the type code */
-    uint64_t length;  /* for a text or raw value: its length in bytes */
+    uint64_t length;  /* for a text or raw value: the length of the value in bytes */
     uint64_t number;  /* for a number: the value; (int64_t)number if it is signed */
 } bes_attribute;
 
 /* A name that has been checked once, for repeated use. bes_check_name fills it in. You may copy a bes_name, and any thread may use it with
- * any store. A struct with any other contents does no harm: its bytes name no attribute, so a read finds none. */
+ * any store. A struct with any other contents is harmless: its bytes name no attribute, so a read finds no value. */
 typedef struct bes_name {
     uint64_t length;   /* the length of the name in bytes */
     uint8_t bytes[64];
@@ -305,12 +304,12 @@ typedef struct bes_counts {
 uint32_t bes_open(uint64_t pages, uint64_t passes, uint64_t commits, bes_pass *pass);
 
 /* Opens another handle, for another pass of the same store. The handle from bes_open holds the unused passes, and hands them out in
- * descending order, down to 0. If it has none left, the new handle gets a pass that bes_close returned to the store. That pass keeps its
- * number and the record of what it has seen. The new pass meets the existing one: afterwards both have seen what either had seen, so
- * everything that the existing pass has written is visible to the new one.
+ * descending order of their numbers, down to 0. If it has none left, the new handle gets a pass that bes_close returned to the store. That
+ * pass keeps its number and the record of what it has seen. The new pass meets the existing one: afterwards both have seen what either had
+ * seen, so everything that the existing pass has written is visible to the new one.
  * [in,out] pass  any open handle of the store; only the handle from bes_open holds passes that were never used
  * [out] other    a closed handle, which is opened
- * Returns BES_CLOSED if pass is closed, BES_OPEN if other is open, BES_NO_PASS or BES_NO_MEMORY. An error doesn't use up a pass.
+ * Returns BES_CLOSED if pass is closed, BES_OPEN if other is open, BES_NO_PASS or BES_NO_MEMORY. A call that fails doesn't use up a pass.
  * Cost: some memory and three steps, and a check of each pass if no unused pass is left. */
 uint32_t bes_another(bes_pass *pass, bes_pass *other);
 
@@ -329,7 +328,7 @@ uint32_t bes_move(bes_pass *pass, bes_pass *other);
 uint32_t bes_close(bes_pass *pass);
 
 /* Closes the store through its last handle, and writes the whole journal as text, as bes_journal does. For each pass, the text lists
- * exactly the transactions that calls on that pass have committed, with their commit numbers. If bytes_room is less than count, nothing is
+ * exactly the transactions that were committed through that pass, with their commit numbers. If bytes_room is less than count, nothing is
  * written and the handle stays open; call again with a larger array. The handle may be pinned.
  * [in,out] pass  the store's last open handle, which this call closes
  * [out] bytes    the text. No zero byte follows it.
@@ -345,7 +344,7 @@ uint32_t bes_finish(bes_pass *pass, uint8_t *bytes, size_t bytes_room, uint64_t 
 uint32_t bes_number(bes_pass *pass, uint64_t *number);
 
 /* Meets a pass that bes_close returned to the store: afterwards both have seen what either had seen. So two threads can share what they
- * have seen by meeting that pass in turn.
+ * have seen if each meets that pass in turn.
  * [out] seen     how many transactions both have now seen
  * BES_CLOSED, BES_NO_PASS (no pass has been returned to the store, or another thread is meeting it).
  * Cost: three steps, and a check of each pass. */
@@ -359,8 +358,9 @@ uint32_t bes_meet(bes_pass *pass, uint64_t *seen);
 uint32_t bes_witness_of(bes_pass *pass, bes_witness *witness);
 
 /* Joins a witness, whether the pass is pinned or not: afterwards the pass and the witness have both seen what either had seen. So each
- * later snapshot of the pass includes everything that the witness had seen, and each transaction that the pass commits later has a higher
- * number than all of those. A pinned pass keeps its snapshot. The witness stays open, so you may pass it on and join it again.
+ * later snapshot of the pass includes everything that the witness had seen. Each transaction that the pass commits later has a higher
+ * number than any that the witness had seen. A pinned pass keeps its snapshot. The witness stays open, so you may pass it on and join it
+ * again.
  * [in,out] witness  a witness from a pass of the same store. The library can't check that: with a witness from another store the
  *                behaviour is undefined.
  * [out] seen     how many transactions both have now seen
@@ -394,13 +394,13 @@ uint32_t bes_unpin(bes_pass *pass);
  * [out] number   the commit number
  * BES_CLOSED, BES_BAD_COUNT, BES_NO_MEMORY.
  * BES_BAD_PART, BES_NO_OPERATION; then for the name BES_NOT_UTF8, BES_NAME_LENGTH, BES_HAS_NUL; then BES_NO_KIND; then for the value
- * BES_NOT_UTF8, BES_DATA_LENGTH, BES_HAS_NUL or BES_NO_VALUE: an operation is invalid, and number is the index of the first one that is.
- * BES_BUSY: another pass is writing, and number is that pass. Call again, as bes_apply_or_retry does.
+ * BES_NOT_UTF8, BES_DATA_LENGTH, BES_HAS_NUL or BES_NO_VALUE: an operation is invalid, and number is the index of the first invalid
+ * operation. BES_BUSY: another pass is writing, and number is that pass. Call again, as bes_apply_or_retry does.
  * BES_NO_NODE, BES_NO_ATTRIBUTE, BES_TOO_MANY_ATTRS, BES_INDEX_EXISTS, BES_NO_INDEX, BES_TOO_MANY_INDICES, BES_NOT_INDEXABLE: the store
- * refused an operation, and the error is that of the first one refused.
+ * refused an operation, and the error is that of the first operation refused.
  * BES_COMMITS_SPENT, BES_NO_MEMORY.
  * BES_FULL: no page is free, and number is the oldest version that a pass can still read; bes_status names the pass that holds it. If that
- * version is an older snapshot, the write succeeds once the snapshot is unpinned; bes_apply_or_retry keeps trying for a while. Otherwise
+ * version is an older snapshot, the write succeeds once the snapshot is unpinned; bes_apply_or_retry keeps trying for a while. Otherwise,
  * the store is too small for the batch: write a smaller batch, remove nodes a few at a time, or copy the state into a larger store.
  * Cost: memory for the operations and for their journal entry, and new pages along the path to each change in a tree. The call scans for
  * pages to reuse if no page is free, or if a page has been retired since the last scan (or 32 pages, if that scan had to leave some to
@@ -413,13 +413,14 @@ uint32_t bes_apply(bes_pass *pass, const bes_operation *operations, size_t opera
  * = n, no other transaction can come between its snapshot and its write. bes_change does this, and starts over after BES_CONFLICT.
  * [in] expected  how many transactions the journal must have
  * BES_CONFLICT: the journal's length differs, and number is that length. This is checked after BES_BUSY and before the store's own errors.
- * The other errors and parameters are as for bes_apply. So is the cost; with BES_CONFLICT it is the same as with BES_BUSY. */
+ * The other errors and parameters are as for bes_apply. The cost, too, is as for bes_apply; a call that returns BES_CONFLICT costs the same
+ * as one that returns BES_BUSY. */
 uint32_t bes_apply_if(bes_pass *pass, uint64_t expected, const bes_operation *operations, size_t operations_count,
                       const uint8_t *bytes, size_t bytes_count, uint64_t *made, size_t made_room, uint64_t *number);
 
-/* Writes the number that the next new node will get, as of the pinned snapshot. A batch may refer to the nodes that it creates by this
- * number and the following ones if you write it with bes_apply_if and the snapshot's number. With bes_apply, another pass might take the
- * number first.
+/* Writes the number that the next new node will get, as of the pinned snapshot. If you write a batch with bes_apply_if and the snapshot's
+ * number, the batch may refer to the nodes that it creates by this number and the following numbers. With bes_apply, another pass might
+ * take the number first.
  * [out] node     the number
  * BES_CLOSED, BES_NOT_PINNED.
  * Cost: constant. */
@@ -428,19 +429,20 @@ uint32_t bes_next(bes_pass *pass, uint64_t *node);
 /* Writes a batch as a change to the pinned snapshot. It does what bes_apply_if does with the snapshot's number, but first checks each
  * BES_SET operation: if its name has an index, taking the batch's earlier operations into account, the value must be of the index's kind.
  * The store would accept a value of another kind, but no query on that name would find the node. Without an index, a value of any kind is
- * accepted. New nodes are numbered from the number that bes_next returns. bes_change ends with this call.
+ * accepted. New nodes are numbered from the number that bes_next returns. bes_change writes its batch with this call.
  * [in] operations, bytes  as for bes_apply
  * [out] number   the commit number
  * BES_CLOSED, BES_BAD_COUNT, BES_NO_MEMORY, and the errors for an invalid operation, as for bes_apply.
  * BES_NOT_PINNED. BES_WRONG_KIND: number is the index of the first operation with a value of the wrong kind. From BES_BUSY on, the errors
  * are as for bes_apply_if.
- * Cost: as for bes_apply_if; in addition, each BES_SET costs a scan of the earlier operations and a search among the indices. */
+ * Cost: as for bes_apply_if; in addition, each BES_SET costs a scan of the earlier operations and a search of the list of indices. */
 uint32_t bes_apply_change(bes_pass *pass, const bes_operation *operations, size_t operations_count, const uint8_t *bytes,
                           size_t bytes_count, uint64_t *number);
 
 /* Begins a change. The draft reads the pinned snapshot and collects up to 64 operations; bes_end_change writes them if no other transaction
- * has been committed since. If the pass isn't pinned, this call pins it, and bes_end_change or bes_abandon_change unpins it. Use the pass
- * for other reads and queries; they see the snapshot, without the draft's operations. bes_change does the same with a batch, in a loop.
+ * has been committed since that snapshot. If the pass isn't pinned, this call pins it, and bes_end_change or bes_abandon_change unpins it.
+ * You may use the pass for other reads and queries, which see the snapshot without the draft's operations. bes_change does the same with a
+ * batch, in a loop.
  *
  * A draft works with the pass that began it for as long as that pass is pinned to the draft's snapshot. If you unpin the pass and pin it to
  * another snapshot, bes_change_get and bes_end_change return BES_NOT_PINNED. A pass may have several drafts. Don't use a draft with a pass
@@ -453,8 +455,8 @@ uint32_t bes_apply_change(bes_pass *pass, const bes_operation *operations, size_
  * Cost: that of bes_pin if the pass isn't pinned, two page reads, and memory for the draft and the list of indices. */
 uint32_t bes_begin_change(bes_pass *pass, bes_draft *draft, uint64_t *number, uint64_t *next);
 
-/* Makes the draft accept values of any kind from now on. Before this call, it refuses a value whose kind differs from that of the index of
- * the same name: the store would accept the attribute, but no query on that name would find the node. BES_CLOSED. */
+/* Makes the draft accept values of any kind from now on. Before this call, the draft refuses a value whose kind differs from that of the
+ * index of the same name: the store would accept the attribute, but no query on that name would find the node. BES_CLOSED. */
 uint32_t bes_change_any_kind(bes_draft *draft);
 
 /* Adds an operation to the draft. Nothing is written to the store yet. After an error, the draft is unchanged.
@@ -470,9 +472,9 @@ uint32_t bes_change_any_kind(bes_draft *draft);
 uint32_t bes_change_add(bes_draft *draft, const bes_operation *operation, const uint8_t *bytes, size_t bytes_count,
                         uint64_t *node);
 
-/* Reads a node's attribute as it will be after the draft's operations. The last operation that sets or removes the attribute, or that
- * creates or removes its node, determines the result; without any such operation, the snapshot does. If the store would refuse the
- * operations, the result is meaningless.
+/* Reads a node's attribute as it will be after the draft's operations. The result is determined by the last operation that sets or removes
+ * the attribute, or that creates or removes its node. If there is no such operation, the result is read from the snapshot. If the store
+ * would refuse the operations, the result is meaningless.
  * [in] name      the name, name_length bytes
  * [out] attribute, bytes  as for bes_get
  * Returns BES_CLOSED if pass or draft is closed (pass is checked first), BES_NOT_UTF8, BES_NAME_LENGTH, BES_HAS_NUL,
@@ -493,12 +495,12 @@ uint32_t bes_change_batch(bes_draft *draft, bes_counts *counts, bes_operation *o
  * [out] number   the commit number; for a draft without operations, the snapshot's number. The new nodes have the numbers that
  *                bes_change_add returned.
  * Returns BES_CLOSED if pass or draft is closed (pass is checked first). BES_NOT_PINNED: the pass isn't pinned to the draft's snapshot. If
- * it is pinned to another, it stays pinned.
+ * the pass is pinned to another snapshot, it stays pinned.
  * BES_BUSY: another pass is writing, and number is that pass. BES_CONFLICT: another transaction has been committed, and number is the
  * journal's current length. After either error, begin the change again; bes_again and bes_stand_back help you decide when.
- * The store's own errors, from BES_NO_NODE on, are as for bes_apply. After BES_FULL, too, you can begin the change again, once other passes
- * have unpinned. After an error nothing is written.
- * Cost: as for bes_apply; with BES_CONFLICT, the same as with BES_BUSY. */
+ * The store's own errors, from BES_NO_NODE on, are as for bes_apply. After BES_FULL, too, you can begin the change again once other passes
+ * have unpinned their snapshots. After an error, nothing is written.
+ * Cost: as for bes_apply. A call that returns BES_CONFLICT costs the same as one that returns BES_BUSY. */
 uint32_t bes_end_change(bes_pass *pass, bes_draft *draft, uint64_t *number);
 
 /* Ends a change without writing it: closes the draft, and unpins the pass if bes_begin_change pinned it and it is still pinned to that
@@ -532,8 +534,8 @@ uint32_t bes_query(bes_pass *pass, const uint8_t *text, size_t text_length, uint
  * [in] bytes     the bytes that contain their names and text values
  * BES_CLOSED.
  * BES_BAD_PART, BES_NOT_UTF8, BES_NAME_LENGTH, BES_HAS_NUL, BES_NO_ITEM: count is the index of the first invalid item.
- * BES_BAD_RPN, BES_BAD_PATTERN: count is the index of the item at which the list can no longer be a query, or items_count if that shows
- * only at its end. BES_TOO_MANY, BES_TOO_DEEP.
+ * BES_BAD_RPN, BES_BAD_PATTERN: count is the index of the first item that makes the list invalid, or items_count if that shows only at the
+ * end of the list. BES_TOO_MANY, BES_TOO_DEEP.
  * BES_NOT_PINNED, BES_NOT_COVERED. BES_NO_MEMORY, which can also occur while the query is being built. */
 uint32_t bes_query_items(bes_pass *pass, const bes_item *items, size_t items_count, const uint8_t *bytes, size_t bytes_count,
                          uint64_t *nodes, size_t nodes_room, uint64_t *count);
@@ -542,7 +544,7 @@ uint32_t bes_query_items(bes_pass *pass, const bes_item *items, size_t items_cou
  * [in] text      the query
  * [out] prepared a closed handle, which is opened
  * [out] place    after BES_SYNTAX or BES_BAD_PATTERN, the byte offset of the error; otherwise 0
- * BES_OPEN, then the errors of bes_query that concern the text. After an error the handle is still closed.
+ * BES_OPEN, then the errors of bes_query that concern the text. After an error, the handle is still closed.
  * Cost: the time to parse the text, and memory until bes_release. */
 uint32_t bes_prepare(const uint8_t *text, size_t text_length, bes_prepared *prepared, uint64_t *place);
 
@@ -568,16 +570,17 @@ uint32_t bes_move_prepared(bes_prepared *prepared, bes_prepared *other);
  * Cost: memory for the text. */
 uint32_t bes_prepared_text(bes_prepared *prepared, uint8_t *bytes, size_t bytes_room, uint64_t *count);
 
-/* Like bes_query, but for a prepared query, so nothing is parsed. The handle keeps the result for bes_found until the query is run again.
+/* Like bes_query, but runs a prepared query, so nothing is parsed. The handle keeps the result for bes_found until the query is run again.
  * The result of the last refresh isn't affected.
  * Returns BES_CLOSED if pass or prepared is closed (pass is checked first), BES_NOT_PINNED, BES_NOT_COVERED, BES_NO_MEMORY. After any error
- * except BES_CLOSED the handle has no result.
- * Cost: as for bes_query without parsing. If all comparisons are on one attribute and none is under ||, the range of keys that can match is
- * computed only once, and most queries cost one tree descent and a walk over that range. The handle reuses the memory for the result. */
+ * except BES_CLOSED, the handle has no result.
+ * Cost: that of bes_query without the parsing. If all comparisons are on one attribute and none is under ||, the range of keys that can
+ * match is computed only once, and most queries cost one tree descent and a walk over that range. The handle reuses the memory of its
+ * previous result. */
 uint32_t bes_query_prepared(bes_pass *pass, bes_prepared *prepared, uint64_t *nodes, size_t nodes_room, uint64_t *count);
 
-/* Writes the nodes that the handle's last bes_query_prepared found, starting at an index. Use it to read a result that didn't fit without
- * running the query again, or to read a long result in parts. No pin is needed.
+/* Writes the nodes that the handle's last bes_query_prepared found, starting from a given index. If a result didn't fit, this call reads it
+ * without running the query again. You can also use it to read a long result in parts. No pin is needed.
  * [in] from      the index of the first node to write, counting from 0
  * [out] nodes    the nodes, in ascending order; at most nodes_room
  * [out] count    how many nodes the whole result has; 0 before the query is first run, and after an error
@@ -586,12 +589,13 @@ uint32_t bes_query_prepared(bes_pass *pass, bes_prepared *prepared, uint64_t *no
 uint32_t bes_found(bes_prepared *prepared, uint64_t from, uint64_t *nodes, size_t nodes_room, uint64_t *count);
 
 /* Runs a prepared query in the pinned snapshot, and returns a page of its result in the order of an index: by the value of one attribute,
- * then by node number among equal values; either ascending or exactly the reverse. A page has the first nodes_room nodes after the cursor.
- * A node that has no value in this index isn't on any page, although bes_query_prepared finds it. The handle keeps the page for bes_found.
+ * then by node number among equal values. The order is either ascending or exactly the reverse. A page has the first nodes_room nodes after
+ * the cursor. A node that has no value in this index isn't on any page, although bes_query_prepared finds it. The handle keeps the page for
+ * bes_found.
  *
- * A cursor is a position, not a count. If you unpin the pass and pin it again between two pages, the second page continues in the new
- * snapshot where the first ended, whatever was written in between. A node is missed if its value has moved to before the cursor, and is
- * returned again if its value has moved to after the cursor. Within one snapshot each node is returned once.
+ * A cursor is a position, not a count. If you unpin the pass and pin it again between two pages, the second page, read from the new
+ * snapshot, continues where the first ended, whatever was written in between. A node is missed if its value has moved to before the cursor,
+ * and is returned again if its value has moved to after the cursor. Within one snapshot, each node is returned once.
  * [in] by        the name of the index, from bes_check_name
  * [in] descending  0 for ascending order; any other number for the reverse
  * [in,out] cursor  where the page begins; on return, the position of the page's last node. If the page is empty, the cursor is unchanged.
@@ -601,21 +605,22 @@ uint32_t bes_found(bes_prepared *prepared, uint64_t from, uint64_t *nodes, size_
  * [out] more     1 if more nodes follow the page, otherwise 0
  * Returns BES_CLOSED if pass or prepared is closed (pass is checked first), BES_NOT_PINNED, BES_NO_ROOM (nodes_room is 0), BES_NO_INDEX
  * (the snapshot has no index with this name), BES_BAD_CURSOR (the cursor's kind isn't the index's, or its key doesn't have 8 to 264
- * bytes), BES_NOT_COVERED, BES_NO_MEMORY. After an error count is 0, and nodes, more and cursor are unchanged. After any error except
- * BES_CLOSED the handle has no result.
- * Cost: if comparisons on this attribute decide the whole query, a tree descent and a walk over the page's keys. Otherwise the call walks
- * the index from the cursor and tests each node against the query, at one descent per node. Once fewer than about one node in 32 has
- * matched, it runs the whole query instead, which costs two descents for each node in the result, a sort, and memory for the keys. */
+ * bytes), BES_NOT_COVERED, BES_NO_MEMORY. After an error, count is 0, and nodes, more and cursor are unchanged. After any error except
+ * BES_CLOSED, the handle has no result.
+ * Cost: if comparisons on this attribute decide the whole query, a tree descent and a walk over the page's keys. Otherwise, the call walks
+ * the index from the cursor and tests each node against the query, which costs one descent per node. Once fewer than about one node in 32
+ * has matched, the call runs the whole query instead. This costs two descents for each node in the result, a sort, and memory for
+ * the keys. */
 uint32_t bes_ordered(bes_pass *pass, bes_prepared *prepared, const bes_name *by, uint32_t descending, bes_cursor *cursor,
                      uint64_t *nodes, size_t nodes_room, uint64_t *count, uint32_t *more);
 
-/* Runs a prepared query in the pinned snapshot, and returns the first nodes of its result that have a given number or a higher one, in
+/* Runs a prepared query in the pinned snapshot, and returns the first nodes of its result whose numbers are at least a given number, in
  * ascending order. To continue, call again with the number after the last node. The handle keeps these nodes for bes_found.
  * [in] from      the number
  * [out] nodes    the nodes; at most nodes_room of them
- * [out] count    how many nodes were written. If that is less than nodes_room, there are no more.
+ * [out] count    how many nodes were written. If this number is less than nodes_room, there are no more nodes.
  * Returns BES_CLOSED if pass or prepared is closed (pass is checked first), BES_NOT_PINNED, BES_NO_ROOM (nodes_room is 0), BES_NOT_COVERED,
- * BES_NO_MEMORY. After any error except BES_CLOSED the handle has no result.
+ * BES_NO_MEMORY. After any error except BES_CLOSED, the handle has no result.
  * Cost: as for bes_query_prepared. */
 uint32_t bes_first(bes_pass *pass, bes_prepared *prepared, uint64_t from, uint64_t *nodes, size_t nodes_room, uint64_t *count);
 
@@ -627,26 +632,26 @@ uint32_t bes_first(bes_pass *pass, bes_prepared *prepared, uint64_t from, uint64
 uint32_t bes_any(bes_pass *pass, bes_prepared *prepared, uint64_t *nodes, size_t nodes_room, uint64_t *count);
 
 /* Refreshes a prepared query: runs it in the pinned snapshot, and compares the result with that of the previous refresh, or with an empty
- * result the first time. Until the next refresh the handle keeps the nodes that were added and removed, for bes_changes. Nodes are compared
- * by number, so a node that changed but is in both results isn't reported. Always use passes of the same store, or of another store into
- * which its state was copied.
+ * result the first time. Until the next refresh, the handle keeps the nodes that were added and removed, and bes_changes writes them. Nodes
+ * are compared by number, so a node that changed but is in both results isn't reported. For one query, always use passes of the same store,
+ * or of another store into which the first store's state was copied.
  * [out] updates  how many nodes were added and how many were removed
- * Returns BES_CLOSED if pass or prepared is closed (pass is checked first), BES_NOT_PINNED, BES_NOT_COVERED, BES_NO_MEMORY. After an error
+ * Returns BES_CLOSED if pass or prepared is closed (pass is checked first), BES_NOT_PINNED, BES_NOT_COVERED, BES_NO_MEMORY. After an error,
  * the query keeps the result of its last refresh.
  * Cost: as for bes_query_prepared; in addition, a walk over both results, and memory for the added and removed nodes. */
 uint32_t bes_refresh(bes_pass *pass, bes_prepared *prepared, bes_updates *updates);
 
-/* Like bes_refresh, but reads the journal entries since the last refresh, and checks only the nodes that they name. Use it for a large
- * result that changes little. It runs the whole query, as bes_refresh does, if the last result has fewer than 96 nodes, if another pass is
- * writing, if the snapshot is older than that of the last refresh, if an index has been created or removed since then, or if many nodes
- * have been written: more than 4 plus one for every 32 nodes in the last result, or more than 64.
- * [in,out] prepared  a query whose last refresh, if any, was in this store. The library can't check that: if it was in another store, the
- *                behaviour is undefined.
+/* Like bes_refresh, but reads the journal entries written since the last refresh, and checks only the nodes named in those entries. Use it
+ * for a large result that changes little. It runs the whole query, as bes_refresh does, if the last result has fewer than 96 nodes, if
+ * another pass is writing, if the snapshot is older than that of the last refresh, if an index has been created or removed since the last
+ * refresh, or if too many nodes have been written. The limit is 4 plus one for every 32 nodes in the last result, but at most 64.
+ * [in,out] prepared  a query whose last refresh, if any, was in this store. The library can't check this, and the behaviour is undefined if
+ *                the last refresh was in another store.
  * [out] updates  how many nodes were added and how many were removed
- * Returns BES_CLOSED if pass or prepared is closed (pass is checked first), BES_NOT_PINNED, BES_NOT_COVERED, BES_NO_MEMORY. After an error
+ * Returns BES_CLOSED if pass or prepared is closed (pass is checked first), BES_NOT_PINNED, BES_NOT_COVERED, BES_NO_MEMORY. After an error,
  * the query keeps its last result.
- * Cost: one step for each entry since the last refresh, and one look-up for each comparison at each node that the entries name. The call
- * holds the write lock, so writes by other passes return BES_BUSY while it runs. If it runs the whole query, the cost is as for
+ * Cost: one step for each entry written since the last refresh, and one look-up for each comparison at each node that the entries name. The
+ * call holds the write lock, so writes by other passes return BES_BUSY while it runs. If it runs the whole query, the cost is as for
  * bes_refresh. */
 uint32_t bes_refresh_changed(bes_pass *pass, bes_prepared *prepared, bes_updates *updates);
 
@@ -657,18 +662,19 @@ uint32_t bes_refresh_changed(bes_pass *pass, bes_prepared *prepared, bes_updates
  * Cost: the time to copy the nodes. */
 uint32_t bes_changes(bes_prepared *prepared, uint64_t *created, size_t created_room, uint64_t *removed, size_t removed_room);
 
-/* Explains a query: writes the comparisons for which it reads an index, joined by " || ", and its cost, such as "size"<"0" score 3.
+/* Explains a query: writes the comparisons for which the query reads an index, joined by " || ", and the query's cost, such as "size"<"0"
+ * score 3.
  * [out] bytes    the first bytes of the explanation; at most bytes_room. No zero byte follows them.
  * [out] count    how many bytes the explanation has
  * Returns the errors that bes_query returns.
  * Cost: the time to parse the query and find the indices of its names; memory for the plan and the text. No node is read. */
 uint32_t bes_explain(bes_pass *pass, const uint8_t *text, size_t text_length, uint8_t *bytes, size_t bytes_room, uint64_t *count);
 
-/* Lists the pinned snapshot's nodes, in ascending order from a given number on, whether or not they have attributes.
+/* Lists the pinned snapshot's nodes in ascending order, starting from a given number. Nodes without attributes are included.
  * [in] from      the number
  * [out] nodes    the nodes; at most nodes_room of them
- * [out] count    how many nodes were written. If that is less than nodes_room, there are no more; otherwise continue from the number after
- * the last node.
+ * [out] count    how many nodes were written. If this number is less than nodes_room, there are no more nodes; otherwise continue from the
+ *                number after the last node.
  * BES_CLOSED, BES_NOT_PINNED, BES_NO_MEMORY.
  * Cost: one tree descent, one step for each node and for each of its attributes, and memory for the list. */
 uint32_t bes_nodes(bes_pass *pass, uint64_t from, uint64_t *nodes, size_t nodes_room, uint64_t *count);
@@ -684,7 +690,7 @@ uint32_t bes_get(bes_pass *pass, uint64_t node, const uint8_t *name, size_t name
 
 /* Checks a name once, for use in bes_get_named, bes_columns and bes_ordered. No pass is needed.
  * [in] name      the name, name_length bytes
- * [out] checked  the name. After an error it is unchanged.
+ * [out] checked  the checked name; unchanged after an error
  * BES_NOT_UTF8, BES_NAME_LENGTH, BES_HAS_NUL.
  * Cost: the time to read the name. */
 uint32_t bes_check_name(const uint8_t *name, size_t name_length, bes_name *checked);
@@ -701,9 +707,9 @@ uint32_t bes_get_named(bes_pass *pass, uint64_t node, const bes_name *name, bes_
 /* Reads attributes of many nodes in the pinned snapshot: for each node, the value of each named attribute. The bytes of all text and raw
  * values are written one after another, in the order of their cells.
  * [in] nodes     an array of nodes_count nodes, in any order
- * [in] names     an array of names_count names. Ascending byte order is the fastest.
+ * [in] names     an array of names_count names. Reading is fastest if the names are in ascending byte order.
  * [out] cells    the cells of the first node, one for each name, then those of the second node, and so on; at most cells_room. If a node or
- *                attribute is missing, the call still succeeds, and the cell has the error number.
+ *                attribute is missing, the call still succeeds, and the cell contains the error number.
  * [out] bytes    the first bytes; at most bytes_room
  * [out] bytes_count  how many bytes there are; if there are more than bytes_room, call again with a larger array
  * BES_CLOSED, BES_NOT_PINNED, BES_BAD_COUNT (more than 2^32 cells). After an error, cells and bytes are unchanged, and bytes_count is 0.
@@ -721,26 +727,28 @@ uint32_t bes_columns(bes_pass *pass, const uint64_t *nodes, size_t nodes_count, 
 uint32_t bes_attributes(bes_pass *pass, uint64_t node, bes_counts *counts, bes_operation *operations, size_t operations_room,
                         uint8_t *bytes, size_t bytes_room);
 
-/* Lists the pinned snapshot's indices, in ascending order of their names, as the operations that would create them. The parameters are as
- * for bes_attributes; 32 operations and 32 * 63 bytes suffice.
+/* Lists the pinned snapshot's indices, in ascending order of their names, as the operations that would create them. The parameters are
+ * those of bes_attributes; 32 operations and 32 * 63 bytes suffice.
  * BES_CLOSED, BES_NOT_PINNED, BES_NO_MEMORY.
  * Cost: one page read, and memory for the list. */
 uint32_t bes_indices(bes_pass *pass, bes_counts *counts, bes_operation *operations, size_t operations_room, uint8_t *bytes,
                      size_t bytes_room);
 
-/* Lists the next of the operations that rebuild the pinned snapshot in an empty store: its next node number, its nodes with their
- * attributes, and its indices with their entries. Each list is a batch for bes_apply. An empty list means that the snapshot is complete.
- * [in,out] place where the list begins. A closed place is opened, at the first operation. A place belongs to one pin; use a new place for
- *                another pin. If a list didn't fit, the next call returns it again; otherwise the next call returns the next list.
+/* Lists the next operations in the sequence that rebuilds the pinned snapshot in an empty store: the snapshot's next node number, its nodes
+ * with their attributes, and its indices with their entries. Each list is a batch for bes_apply. An empty list means that the snapshot is
+ * complete.
+ * [in,out] place where the list begins. If the place is closed, the call opens it at the first operation. A place belongs to one pin; use a
+ *                new place for another pin. If a list didn't fit, the next call returns it again; otherwise the next call returns the next
+ *                list.
  * [out] counts, operations, bytes  as for bes_attributes; 64 operations and 64 * (63 + 255) bytes suffice
- * Returns BES_CLOSED if pass is closed, BES_NO_MEMORY, BES_NOT_PINNED. After an error nothing is skipped, but the place may have been
+ * Returns BES_CLOSED if pass is closed, BES_NO_MEMORY, BES_NOT_PINNED. After an error, no operation is skipped, but the place may have been
  * opened.
  * Cost: for each node in the list, a walk over its attributes and two tree descents for each of them. Memory for the list, for the
  * operations of one node, and, until bes_leave, for the place. */
 uint32_t bes_state(bes_pass *pass, bes_place *place, bes_counts *counts, bes_operation *operations, size_t operations_room,
                    uint8_t *bytes, size_t bytes_room);
 
-/* Closes a place and frees its memory. If you use the place again, it starts at the first operation. BES_CLOSED. */
+/* Closes a place and frees its memory. A call of bes_state with a closed place starts at the first operation. BES_CLOSED. */
 uint32_t bes_leave(bes_place *place);
 
 /* Moves a place into other, and closes the original handle.
@@ -758,7 +766,7 @@ uint32_t bes_move_place(bes_place *place, bes_place *other);
 uint32_t bes_journal(bes_pass *pass, uint8_t *bytes, size_t bytes_room, uint64_t *count);
 
 /* Reads one entry of the journal, whether the pass is pinned or not. The entry is a batch in the form that bes_apply takes; in a
- * BES_NEW_NODE operation, node is the node that it created. bes_batch_entry calls this function.
+ * BES_NEW_NODE operation, node is the node that the operation created. bes_batch_entry calls this function.
  * [in] from      the entry's index, counting from 0: the entry has the commit number from + 1
  * [out] by       the number of the pass that wrote the entry
  * [out] counts   how many operations and bytes the entry has; 0 operations if from isn't less than the journal's length
@@ -769,16 +777,16 @@ uint32_t bes_journal(bes_pass *pass, uint8_t *bytes, size_t bytes_room, uint64_t
 uint32_t bes_journal_from(bes_pass *pass, uint64_t from, uint64_t *by, bes_counts *counts, bes_operation *operations,
                           size_t operations_room, uint8_t *bytes, size_t bytes_room, uint64_t *number);
 
-/* Writes how full the store is and which pass holds its oldest version, whether the calling pass is pinned or not. It first frees the pages
- * that no pass can read. Use it to see BES_FULL and BES_COMMITS_SPENT coming, and to find the pass whose pin holds pages.
+/* Writes how full the store is and which pass holds its oldest version, whether the calling pass is pinned or not. The call first frees the
+ * pages that no pass can read. Use it to predict BES_FULL and BES_COMMITS_SPENT, and to find the pass whose pin holds pages.
  * [out] usage    the figures
  * [out] number   0
  * BES_CLOSED. BES_BUSY: another pass is writing, and number is that pass.
  * Cost: a check of each pass and each page. Writes by other passes return BES_BUSY while the call runs. */
 uint32_t bes_status(bes_pass *pass, bes_usage *usage, uint64_t *number);
 
-/* Calls on text: they list the comparisons in a query, and escape strings for use in a query. They take no pass, and any thread may make
- * them.
+/* Calls on text, which list the comparisons in a query and escape strings for use in a query. These calls take no pass, and any thread may
+ * make them.
  *
  * A comparison in a query's text. Offsets count bytes, either in the text or in the bytes that bes_query_comparisons writes. */
 typedef struct bes_compared {
@@ -792,7 +800,7 @@ typedef struct bes_compared {
     uint64_t plain_value_at; /* the value in the bytes, without backslashes; for a pattern, its canonical text */
     uint64_t plain_end;
     uint32_t kind;           /* BES_ITEM_EQ .. BES_ITEM_GE, after applying every ! around the comparison */
-    uint32_t kind_in_text;   /* the operator as written in the text; it differs from kind inside an odd number of ! */
+    uint32_t kind_in_text;   /* the operator as written in the text; inside an odd number of ! it differs from kind */
     uint32_t form;           /* a bes_form */
     bool is_never_int32;     /* whether the comparison is false for every value in an index of this kind */
     bool is_never_int64;
@@ -815,20 +823,20 @@ enum bes_form {
  * [out] bytes    the first of the bytes with plain names and values; at most bytes_room. 64 bytes for each comparison and 4 for each byte
  *                of the text are enough
  * [out] place    after an error in the text, its byte offset, as in bes_prepare; otherwise 0
- * BES_NOT_UTF8, and as for bes_query, the errors for text that isn't a query: BES_TOO_LONG, BES_SYNTAX, BES_BAD_PATTERN, BES_TOO_MANY,
+ * BES_NOT_UTF8. The errors that bes_query returns for text that isn't a query: BES_TOO_LONG, BES_SYNTAX, BES_BAD_PATTERN, BES_TOO_MANY,
  * BES_TOO_DEEP. BES_NO_MEMORY. After an error, counts, compared and bytes are unchanged.
  * Cost: the time to parse the text twice, and memory for the query and the list. */
 uint32_t bes_query_comparisons(const uint8_t *text, size_t text_length, bes_counts *counts, bes_compared *compared,
                                size_t compared_room, uint8_t *bytes, size_t bytes_room, uint64_t *place);
 
-/* Escapes a string so that a query reads it literally: as a name, as a value or as part of a pattern, and inside either kind of quotes or,
- * unless the string is empty, without quotes. bes_escape calls this function.
+/* Escapes a string so that a query reads it literally, as a name, as a value or as part of a pattern. The result can be put inside either
+ * kind of quotes. Unless the string is empty, it can also be used without quotes. bes_escape calls this function.
  * [out] bytes    the first bytes; at most bytes_room. No zero byte follows them. Twice the string's length is enough
  * [out] count    how many bytes there are; 0 after an error
  * BES_NOT_UTF8, BES_NO_MEMORY. A string with a zero byte can't be used in any query. */
 uint32_t bes_escape_bytes(const uint8_t *text, size_t text_length, uint8_t *bytes, size_t bytes_room, uint64_t *count);
 
-/* Writes a pattern, for == and !=, that matches exactly the strings that are equal to this one, character by character, under Unicode
+/* Writes a pattern, for use with == and !=, that matches exactly the strings equal to this one, character by character, under Unicode
  * simple case folding: draft becomes [dD][rR][aA][fF][tT]. You can use the pattern wherever you can use a string from bes_escape_bytes.
  * bes_any_case calls this function.
  * [out] bytes, count  as for bes_escape_bytes. 12 times the string's length is enough

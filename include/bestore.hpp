@@ -10,10 +10,10 @@
 //         std::cout << found << '\n';
 //
 // What bestore.h says about a call's errors, cost and threading rules applies here too. If a C function returns an error, the C++ call
-// throws a Refusal, which carries the number that comes with the error, and has changed nothing. Store, Pass, Pin, State, Prepared, Live
-// and Witness are movable but not copyable. Destroy a Pin before its pass, and a State before its Pin; in the meantime the pass may be
-// moved. Give each thread its own Pass, and make only one call at a time on an object. In a forked child the parent's objects are dead:
-// their calls throw BES_CLOSED, and their destructors do nothing.
+// throws a Refusal, which carries the number reported with the error. A call that throws has changed nothing. Store, Pass, Pin, State,
+// Prepared, Live and Witness are movable but not copyable. Destroy a Pin before its pass, and a State before its Pin. The pass may be moved
+// while the Pin exists. Give each thread its own Pass, and make only one call at a time on an object. In a forked child the parent's
+// objects are dead: their calls throw BES_CLOSED, and their destructors do nothing.
 #ifndef BESTORE_HPP
 #define BESTORE_HPP
 
@@ -23,8 +23,8 @@
 
 namespace bestore {
 
-// The argument of the function that Pass::change runs: a pinned snapshot, and up to 64 operations for the next transaction. get() sees what
-// the change has set and removed so far; all other calls read only the snapshot. A call that throws adds no operation.
+// The argument that Pass::change passes to its function: a pinned snapshot, and up to 64 operations for the next transaction. get() sees
+// what the change has set and removed so far; all other calls read only the snapshot. A call that throws adds no operation.
 class Change : public Snapshot, public detail::Writes<Change> {
 public:
     Change(const Change &) = delete;
@@ -90,7 +90,7 @@ private:
     }
 
     // Writes the operations if no other transaction has been committed since the snapshot, and unpins. Returns the error, together with the
-    // commit number or the number that comes with the error.
+    // commit number or the number reported with the error.
     std::uint32_t commit(std::uint64_t *number)
     {
         const auto error = bes_end_change(handle(), &draft_, number);
@@ -119,8 +119,8 @@ struct Entry {
     Batch batch;
 };
 
-// The entries of the journal, from a given index to wherever the journal ends when the loop gets there. Iterate over them only while the
-// pass is open. Each entry is returned once: a later loop continues with the entries written since.
+// The entries of the journal, from a given index to the journal's end at the time when the loop reaches it. Iterate over them only while
+// the pass is open. Each entry is returned once: a later loop continues with the entries written since the previous loop.
 class Entries {
 public:
     using Iterator = detail::Iterator<Entries, Entry>;
@@ -187,7 +187,7 @@ public:
         return other;
     }
 
-    // Meets a pass that was closed: afterwards both have seen what either had seen. Returns how many transactions that is.
+    // Meets a pass that was closed: afterwards both have seen what either had seen. Returns how many transactions both have now seen.
     std::uint64_t meet() { return detail::number_from(bes_meet, handle()); }
 
     // Returns a witness that records all transactions that the pass has seen so far, including its own. Move the witness to another
@@ -200,8 +200,8 @@ public:
     }
 
     // Joins a witness: afterwards the pass and the witness have both seen what either had seen. So each later snapshot of the pass includes
-    // everything that the witness had seen, and each transaction that the pass commits later has a higher number than all of those. Returns
-    // how many transactions both have now seen. Throws std::invalid_argument if the witness is from another store.
+    // everything that the witness had seen. Each transaction that the pass commits later has a higher number than any that the witness had
+    // seen. Returns how many transactions both have now seen. Throws std::invalid_argument if the witness is from another store.
     std::uint64_t join(Witness &witness)
     {
         if (witness.store_ != store_)
@@ -210,9 +210,9 @@ public:
     }
 
     // Reads and writes atomically. Pins the current snapshot, runs f on a Change, and writes the Change's operations as one transaction if
-    // no other transaction has been committed in the meantime. If one has, or if the store is busy, or is full and bes_again still waits
-    // for room, it unpins and runs f again on a new snapshot. So f may run up to `attempts` times, and its only effects must be on its
-    // Change and its result.
+    // no other transaction has been committed in the meantime. If another transaction has been committed, if the store is busy, or if it is
+    // full and bes_again still waits for room, the call unpins and runs f again on a new snapshot. So f may run up to `attempts` times, and
+    // its only effects must be on its Change and its result.
     //
     //     const auto [number, letter] = store.change([](bestore::Change &change) {
     //         const auto letter = change.create();
@@ -289,8 +289,8 @@ public:
         });
     }
 
-    // Closes this pass, which must be the store's last, together with the store, and returns the whole journal as text. If another pass is
-    // open, throws BES_IN_USE and leaves this pass unchanged.
+    // Closes this pass and the store, and returns the whole journal as text. This pass must be the store's last: if another pass is open,
+    // the call throws BES_IN_USE and leaves this pass unchanged.
     std::string finish()
     {
         return detail::whole<std::string>(1 << 16, detail::Place::none, [&](char *text, std::size_t room, std::uint64_t *count) {
@@ -298,7 +298,7 @@ public:
         });
     }
 
-    // Returns the entries of the journal from an index on. The entry with commit number 1 is at index 0.
+    // Returns the entries of the journal, starting from a given index. The entry with commit number 1 is at index 0.
     //
     //     for (const bestore::Entry &entry : pass.journal_from(seen))
     //         for (const bestore::Operation &operation : entry.batch.operations())
@@ -350,8 +350,8 @@ private:
         return written;
     }
 
-    // Returns the commit number if the change was written, or nothing if the change has to be run again; in that case bes_stand_back has
-    // already been called.
+    // Returns the commit number if the change was written. Returns nothing if the change must be run again; in that case, bes_stand_back
+    // has already been called.
     std::optional<std::uint64_t> committed(Change &change, bes_retry &retry)
     {
         std::uint64_t number = 0;
@@ -398,7 +398,7 @@ inline Updates Live::refresh(Snapshot &snapshot) { return refreshed(snapshot, be
 
 inline Updates Live::refresh_changed(Snapshot &snapshot)
 {
-    // The last refresh must have been in this store; the library can't check that.
+    // The last refresh must have been in this store; the library can't check this.
     return refreshed(snapshot, store_ == snapshot.store_ ? bes_refresh_changed : bes_refresh);
 }
 

@@ -1,7 +1,8 @@
 /* Helpers built on the calls in bestore.h. Include bestore.h, which includes this file.
  *
- * Helpers whose bodies are here are inline functions. The others are plain C functions in libbestore, next to the proved calls. A helper
- * whose comment lists no errors returns the errors of the call that it makes. Names that end with _ are internal to these headers. */
+ * Helpers whose bodies are here are inline functions. The others are plain C functions in libbestore, alongside the formally verified
+ * calls. A helper whose comment lists no errors returns the errors of the call that it makes. Names that end with _ are internal to these
+ * headers. */
 #include "bestore.h" /* bestore.h includes this file again, and the second inclusion is skipped */
 
 #ifndef BESTORE_HELPERS_H
@@ -67,7 +68,7 @@ static inline void bes_forget_draft(bes_draft *draft)
 /* A batch with room for any 64 operations. Initialise it with BES_BATCH_INIT, which sets all 23 KB of it to zero, or with bes_batch_clear,
  * which sets only two words. Fill it with the helpers below, apply it, and clear it before you reuse it.
  * BES_BAD_COUNT: the batch already has 64 operations. BES_NAME_LENGTH: the name has more than 63 bytes. BES_DATA_LENGTH: the value has more
- * than 255 bytes. After an error the batch is unchanged. All other errors are reported when the batch is applied. */
+ * than 255 bytes. After an error, the batch is unchanged. All other errors are reported when the batch is applied. */
 typedef struct bes_batch {
     size_t count;
     size_t used;
@@ -189,9 +190,9 @@ static inline uint32_t bes_batch_remove_index(bes_batch *batch, const char *name
     return bes_batch_add(batch, BES_REMOVE_INDEX, 0, name, 0, 0, NULL, 0);
 }
 
-/* Yields the processor to other threads `turns` times. Returns how many times to yield before the next try: twice that, up to 1,024. When
- * two passes alternate, each write has to wait for the memory that the other pass has just written. So a pass whose try fails lets the
- * other pass keep writing for a while. */
+/* Yields the processor to other threads `turns` times. Returns how many times to yield before the next try, which is twice `turns` but at
+ * most 1,024. When two passes alternate, each write has to wait for the memory that the other pass has just written. So after a failed try,
+ * a pass lets the other pass keep writing for a while. */
 static inline unsigned bes_stand_back(unsigned turns)
 {
     for (unsigned i = 0; i < turns; i++)
@@ -199,25 +200,26 @@ static inline unsigned bes_stand_back(unsigned turns)
     return turns < 1024 ? 2 * turns : turns;
 }
 
-/* How many tries the helpers below make if they don't take that number as a parameter. On an idle machine, that many tries take a few
+/* How many tries a helper below makes if it has no parameter for the number of tries. On an idle machine, that many tries take a few
  * seconds. */
 #ifndef BES_TRIES
 #define BES_TRIES 10000u
 #endif
 
-/* For how many seconds a write is retried after BES_FULL while another pass has an older snapshot pinned. bes_reindex always uses 2. */
+/* The number of seconds for which a write is retried after BES_FULL while another pass has an older snapshot pinned. bes_reindex always
+ * uses 2. */
 #ifndef BES_FULL_SECONDS
 #define BES_FULL_SECONDS 2
 #endif
 
 /* The state of bes_again between tries. */
 typedef struct bes_retry {
-    uint32_t left;     /* how many more tries are allowed */
+    uint32_t left;     /* the number of tries that are left */
     unsigned turns;    /* for bes_stand_back */
     time_t full_since; /* when BES_FULL was first returned, or 0 */
 } bes_retry;
 
-/* Returns whether a write that returned BES_FULL with this number may succeed later, because another pass has an older snapshot pinned or
+/* Returns whether a write that returned BES_FULL with this number may succeed later because another pass has an older snapshot pinned, or
  * had one pinned a moment ago. If the caller's own pin is the oldest, the result is false. */
 static inline bool bes_waits_for_other(bes_pass *pass, uint64_t oldest)
 {
@@ -249,7 +251,7 @@ static inline bool bes_again(bes_pass *pass, uint32_t error, uint64_t number, be
     return true;
 }
 
-/* Like bes_apply, but after the first try it tries again up to `retries` times, for as long as bes_again returns true. With 0 retries it is
+/* Like bes_apply, but if the first try fails, it retries up to `retries` times, for as long as bes_again returns true. With 0 retries it is
  * the same as bes_apply. */
 static inline uint32_t bes_apply_or_retry(bes_pass *pass, const bes_operation *operations, size_t operations_count,
                                           const uint8_t *bytes, size_t bytes_count, uint32_t retries, uint64_t *made,
@@ -263,7 +265,8 @@ static inline uint32_t bes_apply_or_retry(bes_pass *pass, const bes_operation *o
     return error;
 }
 
-/* Like bes_apply_or_retry, for bes_apply_if. It doesn't try again after BES_CONFLICT, because what the caller read is no longer current. */
+/* Like bes_apply_or_retry, but calls bes_apply_if. It doesn't retry after BES_CONFLICT, because what the caller read is no longer
+ * current. */
 static inline uint32_t bes_apply_if_or_retry(bes_pass *pass, uint64_t expected, const bes_operation *operations,
                                              size_t operations_count, const uint8_t *bytes, size_t bytes_count, uint32_t retries,
                                              uint64_t *made, size_t made_room, uint64_t *number)
@@ -294,10 +297,10 @@ static inline uint32_t bes_batch_apply_if(bes_pass *pass, uint64_t expected, con
 
 /* A function for bes_change to run. It reads the pass's pinned snapshot, and adds operations to the batch, which is empty at first. The
  * nodes that it creates get the numbers next, next + 1 and so on. bes_change may run the function several times, so each run should
- * overwrite what the previous one left in *with. The function returns BES_OK or an error; bes_change passes the error on. */
+ * overwrite what the previous run stored in *with. The function returns BES_OK or an error; bes_change passes the error on. */
 typedef uint32_t bes_changer(bes_pass *pass, bes_batch *batch, uint64_t next, void *with);
 
-/* One attempt of bes_change. If the changer exits through a longjmp or an exception, nothing is left over except the pin. */
+/* One attempt of bes_change. If the changer exits through a longjmp or an exception, only the pin remains. */
 static inline uint32_t bes_change_once_(bes_pass *pass, bes_changer *changer, void *with, uint64_t *number)
 {
     bes_batch batch;
@@ -339,8 +342,8 @@ static inline uint32_t bes_change(bes_pass *pass, uint32_t attempts, bes_changer
     }
 }
 
-/* Replaces the batch with the next of the operations that rebuild the pinned snapshot. Apply it to another store with bes_batch_apply. When
- * no operations are left, and after an error, the batch is empty. The errors are those of bes_state. */
+/* Replaces the batch with the next operations in the sequence that rebuilds the pinned snapshot. Apply the batch to another store with
+ * bes_batch_apply. When no operations are left, and after an error, the batch is empty. The errors are those of bes_state. */
 static inline uint32_t bes_batch_state(bes_pass *pass, bes_place *place, bes_batch *batch)
 {
     bes_counts counts = {0, 0};
@@ -350,11 +353,11 @@ static inline uint32_t bes_batch_state(bes_pass *pass, bes_place *place, bes_bat
     return error;
 }
 
-/* Replaces the batch with an entry of the journal, as read by bes_journal_from. After BES_BUSY it tries again, making up to BES_TRIES tries
- * in all. If the entry doesn't exist yet, and after an error, the batch is empty.
+/* Replaces the batch with an entry of the journal, as read by bes_journal_from. After BES_BUSY it retries, making up to BES_TRIES tries in
+ * all. If the entry doesn't exist yet, and after an error, the batch is empty.
  * [in] from      the entry's index, counting from 0
  * [out] by       the pass that wrote the entry
- * [out] length     the journal's length; after an error, the number that the error comes with */
+ * [out] length   the journal's length; after an error, the number reported with the error */
 static inline uint32_t bes_batch_entry(bes_pass *pass, uint64_t from, bes_batch *batch, uint64_t *by, uint64_t *length)
 {
     bes_retry retry = {BES_TRIES > 0 ? BES_TRIES - 1 : 0, 1, 0};
@@ -369,14 +372,14 @@ static inline uint32_t bes_batch_entry(bes_pass *pass, uint64_t from, bes_batch 
     return error;
 }
 
-/* Like bes_batch_to_bytes, but takes operations in the form that bes_apply does. It also returns BES_BAD_COUNT if there are more than 64
+/* Like bes_batch_to_bytes, but takes its operations in the same form as bes_apply. It also returns BES_BAD_COUNT if there are more than 64
  * operations, BES_NAME_LENGTH if a name has more than 63 bytes, and BES_DATA_LENGTH if a text or raw value has more than 255 bytes. */
 uint32_t bes_operations_to_bytes(const bes_operation *operations, size_t operations_count, const uint8_t *parts, size_t parts_count,
                                  uint8_t *bytes, size_t bytes_room, uint64_t *count);
 
 /* Like bes_batch_from_bytes, but reads into arrays.
- * [out] counts, operations, parts  as for bes_attributes; 64 operations and 64 * (63 + 255) bytes suffice. After an error the counts are 0,
- *                and the contents of the arrays are unspecified. */
+ * [out] counts, operations, parts  as for bes_attributes; 64 operations and 64 * (63 + 255) bytes suffice. After an error, the counts are
+ *                0, and the contents of the arrays are unspecified. */
 uint32_t bes_operations_from_bytes(const uint8_t *bytes, size_t length, bes_counts *counts, bes_operation *operations,
                                    size_t operations_room, uint8_t *parts, size_t parts_room, uint64_t *place);
 
@@ -392,7 +395,7 @@ static inline uint32_t bes_batch_to_bytes(const bes_batch *batch, uint8_t *bytes
     return bes_operations_to_bytes(batch->operations, batch->count, batch->bytes, batch->used, bytes, bytes_room, count);
 }
 
-/* Replaces the batch with the one that bes_batch_to_bytes encoded as these bytes. After an error the batch is empty.
+/* Decodes a batch that bes_batch_to_bytes encoded, and replaces the contents of *batch with it. After an error, the batch is empty.
  * [out] place    the byte offset of the error; otherwise 0
  * BES_BAD_PART: the bytes don't begin as an encoded batch does or are of another format version; a part is cut off (place is its first
  * byte); or more bytes follow the end of the batch.
@@ -419,8 +422,8 @@ static inline uint32_t bes_new_nodes(bes_pass *pass, size_t count, uint64_t *nod
     return bes_apply_or_retry(pass, operations, count, &none, 0, BES_TRIES > 0 ? BES_TRIES - 1 : 0, nodes, count, &number);
 }
 
-/* Each of the helpers below writes one operation as its own transaction, like bes_batch_apply with BES_TRIES tries. They don't return the
- * number that comes with an error. made may be NULL. */
+/* Each helper below writes one operation as a transaction, as bes_batch_apply does with BES_TRIES tries. They don't return the number
+ * reported with an error. made may be NULL. */
 static inline uint32_t bes_apply_one(bes_pass *pass, uint32_t kind, uint64_t node, const char *name, uint32_t code,
                                      uint64_t number, const void *value, size_t value_length, uint64_t *made)
 {

@@ -17,7 +17,7 @@ namespace bestore {
 
 namespace detail {
 
-// How many forks separate this process from the first one that used this library.
+// The number of forks between the first process that used this library and this process.
 inline std::atomic<unsigned> forks{0};
 
 // Returns the number of forks. Counting starts with the first call.
@@ -35,7 +35,7 @@ inline unsigned generation()
 // Returns whether an object created in this generation belongs to this process.
 inline bool is_ours(unsigned made_in) noexcept { return made_in == forks.load(std::memory_order_relaxed); }
 
-// A library handle. It keeps its address when the object that owns it is moved, and is closed with that object.
+// A library handle. The handle keeps its address when the object that owns it is moved, and is closed together with that object.
 template <class T, std::uint32_t (*close)(T *)> class Handle {
 public:
     Handle() : handle_(nullptr, Closes{generation()}) { handle_.reset(new T()); }
@@ -75,8 +75,8 @@ struct Unpins {
     }
 };
 
-// Returns the whole output of a call that counts the items and writes as many of them as fit. If they don't all fit, repeats the call with
-// a larger list.
+// Returns the whole output of a call that counts the items and writes as many of them as fit. If some don't fit, repeats the call with a
+// larger list.
 template <class List, class Call> List whole(std::size_t room, Place place, Call call)
 {
     for (;;) {
@@ -93,7 +93,7 @@ template <class List, class Call> List whole(std::size_t room, Place place, Call
 }
 
 // Repeats a call for as long as bes_again returns true, up to `tries` times in all, and at least once. Returns the call's error. The call
-// writes the number that comes with the error to `number`.
+// writes the number reported with the error to `number`.
 template <class Call> std::uint32_t tried(bes_pass *pass, std::uint32_t tries, const std::uint64_t &number, Call call)
 {
     bes_retry retry{tries > 0 ? tries - 1 : 0, 1, 0};
@@ -103,7 +103,7 @@ template <class Call> std::uint32_t tried(bes_pass *pass, std::uint32_t tries, c
     return error;
 }
 
-// Iterates over a source's items, once and one at a time.
+// Iterates once over a source's items, one at a time.
 template <class Source, class Item> class Iterator {
 public:
     using iterator_category = std::input_iterator_tag;
@@ -112,7 +112,7 @@ public:
     using pointer = const Item *;
     using reference = const Item &;
 
-    // Starts at the source's current item; without a source, past the last item.
+    // Starts at the source's current item. Without a source, starts past the last item.
     explicit Iterator(Source *source) : source_(source) {}
 
     reference operator*() const { return source_->item_; }
@@ -171,8 +171,8 @@ private:
     detail::Handle<bes_prepared, bes_release> handle_;
 };
 
-// A record of what a pass has seen of its store, for a pass of the same store in another thread. Pass::witness creates a witness, and
-// Pass::join joins it.
+// A record of what a pass has seen of its store, which a pass of the same store in another thread can join. Pass::witness creates a
+// witness, and Pass::join joins it.
 class Witness {
 private:
     friend class Pass;
@@ -284,18 +284,20 @@ private:
     Node item_ = 0;
 };
 
-// A query that returns how its result has changed since the last refresh. The first refresh returns all nodes in the result.
+// A query whose refresh returns how its result has changed since the last refresh. The first refresh returns all nodes in the result.
 class Live : public Prepared {
 public:
     using Prepared::Prepared;
 
     // Runs the query in the snapshot, and returns what has changed. Always use snapshots of the same store, or of another store into which
-    // its state was copied. This call runs the whole query and takes no lock, so it never makes another pass's write return BES_BUSY.
+    // the first store's state was copied. This call runs the whole query and takes no lock, so it never makes another pass's write return
+    // BES_BUSY.
     Updates refresh(Snapshot &snapshot);
 
     // Returns the same as refresh(), but calls bes_refresh_changed, which reads what has been written since the last refresh, and checks
-    // only the nodes that were written. This takes less time if the result has 96 nodes or more and few nodes have been written, but writes
-    // by other passes return BES_BUSY while it runs. Otherwise, or if the last refresh was in another store, it runs the whole query.
+    // only the nodes that were written. If the result has 96 nodes or more and few nodes have been written, this takes less time, but
+    // writes by other passes return BES_BUSY while it runs. Otherwise, or if the last refresh was in another store, the call runs the whole
+    // query.
     Updates refresh_changed(Snapshot &snapshot);
 
 private:
@@ -304,8 +306,8 @@ private:
     std::optional<std::uint64_t> store_; // the store of the last refresh
 };
 
-// The operations that rebuild a snapshot in an empty store, as batches of 1 to 64 operations, each for one write. The batches can be
-// iterated over only once.
+// The operations that rebuild a snapshot in an empty store, as batches of 1 to 64 operations. Each batch is written in one transaction. The
+// batches can be iterated over only once.
 //
 //     for (const bestore::Batch &batch : pin.state())
 //         other.apply(batch);
@@ -384,7 +386,8 @@ public:
     Ordered ordered(Prepared &query, const Order &order) { return ordered(query, Cursor(query, order)); }
     Ordered ordered(Prepared &query, const Cursor &after) { return Ordered(*this, query, after); }
 
-    // Returns the first `most` nodes that match the query, in ascending order from a given number on. Throws BES_NO_ROOM if `most` is 0.
+    // Returns the first `most` nodes that match the query, in ascending order, starting from a given number. Throws BES_NO_ROOM if `most`
+    // is 0.
     std::vector<Node> first(Prepared &query, Node from, std::size_t most)
     {
         return part(most, [&](auto... nodes) { return bes_first(handle(), query.handle(), from, nodes...); });
@@ -402,7 +405,7 @@ public:
     std::uint64_t count(const Predicate &predicate) { return counted(predicate, detail::Place::item); }
     std::uint64_t count(Prepared &prepared) { return counted(prepared, detail::Place::none); }
 
-    // Returns up to `most` nodes, in ascending order from a given number on, whether or not they have attributes.
+    // Returns up to `most` nodes in ascending order, starting from a given number. Nodes without attributes are included.
     std::vector<Node> nodes(Node from = 0, std::size_t most = SIZE_MAX)
     {
         std::vector<Node> all;
@@ -418,7 +421,7 @@ public:
         }
     }
 
-    // Explains a query: returns the comparisons for which it reads an index, and its cost.
+    // Explains a query: returns the comparisons for which the query reads an index, and the query's cost.
     std::string explain(std::string_view text)
     {
         return detail::whole<std::string>(256, detail::Place::byte, [&](char *said, std::size_t room, std::uint64_t *count) {
@@ -436,7 +439,7 @@ public:
         return at < text.size() ? std::optional<std::size_t>(at) : std::nullopt;
     }
 
-    // Returns the comparisons that no node can match, because in this snapshot their name has an index of an integer kind: either the value
+    // Returns the comparisons that no node can match because in this snapshot their name has an index of an integer kind. Either the value
     // isn't a whole number, as in size>1.5, or no integer of that kind is in the range. The offsets are those in the canonical text. Throws
     // BES_TOO_LONG if the canonical text has more than 4,096 bytes.
     std::vector<Comparison> never_true(const Prepared &prepared)
@@ -558,7 +561,7 @@ protected:
     // Returns whether the snapshot is pinned and was created in this process.
     bool is_ours() const noexcept { return pass_ && detail::is_ours(pass_.get_deleter().made_in); }
 
-    // Makes get() see this draft's operations from now on.
+    // From now on, get() sees this draft's operations.
     void reads(bes_draft *draft) noexcept { draft_ = draft; }
 
 private:
@@ -578,7 +581,7 @@ private:
         return bes_query_prepared(handle(), prepared.handle(), nodes, room, count);
     }
 
-    // Returns how many of the requested nodes can exist, but at least 1 if any are requested.
+    // Returns how many of the requested nodes can exist. If any are requested, the result is at least 1.
     std::size_t room(std::size_t most)
     {
         Node next = 0;

@@ -1,5 +1,5 @@
-// Text helpers for C++17: the comparisons in a query, escaping, UTF-8, and a caret under an error. Include bestore.hpp, which includes this
-// file.
+// Text helpers for C++17. They list the comparisons in a query, escape strings, convert bytes to UTF-8, and show a caret under an error.
+// Include bestore.hpp, which includes this file.
 #ifndef BESTORE_TEXT_HPP
 #define BESTORE_TEXT_HPP
 
@@ -38,7 +38,7 @@ inline std::unique_ptr<bes_comparison_list> listed_comparisons(std::string_view 
     return list;
 }
 
-// Returns the string that a library call derives from another string. It has at most `times` times the number of bytes.
+// Returns the string that a library call derives from another string. The result has at most `times` times as many bytes as that string.
 template <class Call> std::string made_text(std::string_view text, std::size_t times, Call call)
 {
     std::string made(times * text.size(), '\0');
@@ -74,7 +74,7 @@ inline std::vector<std::string> names_of(std::string_view text)
 // Escapes a string so that a query reads it literally, as bes_escape does. Throws BES_NOT_UTF8.
 inline std::string escape(std::string_view text) { return detail::made_text(text, 2, bes_escape_bytes); }
 
-// Like escape, but each letter matches in either case, under Unicode simple case folding. The result is a pattern, for == and !=.
+// Like escape, but each letter matches in either case, under Unicode simple case folding. The result is a pattern for use with == and !=.
 inline std::string any_case(std::string_view text) { return detail::made_text(text, 12, bes_any_case_bytes); }
 
 // Turns arbitrary bytes, such as a file name, into text of at most `most` bytes that the library accepts, as bes_to_utf8 does.

@@ -1,4 +1,4 @@
-// Errors, values, batches and predicates of bestore for C++17. Include bestore.hpp, which includes this file.
+// bestore for C++17: errors, values, batches and predicates. Include bestore.hpp, which includes this file.
 #ifndef BESTORE_VALUES_HPP
 #define BESTORE_VALUES_HPP
 
@@ -23,10 +23,10 @@ using Node = std::uint64_t;
 
 namespace detail {
 
-// What the number that comes with an error counts: bytes of a query's text, bytes of a batch, items or operations.
+// What the number reported with an error counts: bytes of a query's text, bytes of a batch, items or operations.
 enum class Place { none, byte, batch_byte, item, operation };
 
-// Returns whether a call that reports places of this kind reports one with this error.
+// Returns whether this error is reported with a place, if the call reports places of this kind.
 inline bool has_place(std::uint32_t error, Place place)
 {
     switch (error) {
@@ -64,7 +64,7 @@ enum class ErrorClass : std::uint32_t {
     gone = BES_CLASS_GONE
 };
 
-// The error of a failed call. Such a call has changed nothing.
+// The error of a failed call. A failed call has changed nothing.
 class Refusal : public std::runtime_error {
 public:
     explicit Refusal(std::uint32_t number, std::uint64_t carried = 0, detail::Place place = detail::Place::none)
@@ -90,14 +90,14 @@ public:
     // For BES_CONFLICT, returns the journal's length.
     std::optional<std::uint64_t> length() const noexcept { return carried_if(number_ == BES_CONFLICT); }
 
-    // Returns the byte, counting from 0, at which a query's text or a batch's bytes are invalid. For BES_NOT_COVERED, this is where the
-    // first comparison whose name has no index begins.
+    // Returns the offset of the first invalid byte in a query's text or a batch's bytes. For BES_NOT_COVERED, returns the offset of the
+    // first comparison whose name has no index.
     std::optional<std::uint64_t> offset() const noexcept
     {
         return carried_if(is_at(detail::Place::byte) || place_ == detail::Place::batch_byte);
     }
 
-    // Returns the index, counting from 0, of the Predicate's item that is invalid or at which the list can no longer be a query.
+    // Returns the index, counting from 0, of the Predicate's first item that is invalid or makes the list invalid.
     std::optional<std::uint64_t> item() const noexcept { return carried_if(is_at(detail::Place::item)); }
 
     // Returns the index, counting from 0, of the Batch's invalid operation.
@@ -213,7 +213,7 @@ template <class Call, class... Arguments> std::uint64_t number_from(Call call, A
     return number;
 }
 
-// Returns a pointer to the text's bytes. The library requires a non-null pointer even if there are no bytes.
+// Returns a pointer to the text's bytes. The library requires a non-null pointer, even if there are no bytes.
 inline const std::uint8_t *bytes_of(std::string_view text)
 {
     return reinterpret_cast<const std::uint8_t *>(text.empty() ? "" : text.data());
@@ -301,8 +301,8 @@ inline Value value_of(std::uint32_t code, std::uint64_t number, std::string_view
 } // namespace detail
 
 // A value passed as an argument: a string, a Mime, a Raw, a Value or an integer. It refers to the caller's data. An integer's type
-// determines whether the value has 32 or 64 bits, and whether it is signed. If a kind is given, the value has that kind; an integer that
-// doesn't fit the kind throws BES_NO_VALUE.
+// determines whether the value has 32 or 64 bits, and whether it is signed. If a kind is given, the value has that kind. BES_NO_VALUE is
+// thrown for an integer that doesn't fit the kind.
 class Input {
 public:
     Input(std::string_view text) : Input(Kind::string, 0, text) {}
@@ -347,7 +347,7 @@ public:
 
     const std::string &name() const noexcept { return name_; }
 
-    // Returns the value as a T. An integer that doesn't fit T throws BES_NO_VALUE.
+    // Returns the value as a T. Throws BES_NO_VALUE for an integer that doesn't fit T.
     template <class U> static Input input(const U &value)
     {
         if constexpr (detail::is_integer<T>) {
@@ -377,7 +377,8 @@ struct Edit {
     std::string_view value = {};
 };
 
-// The writes that Batch, Pass and Change have in common. Each passes an operation to Self's write(Edit) and returns its result.
+// The writes that Batch, Pass and Change have in common. Each write passes an operation to Self's write(Edit), and returns what write(Edit)
+// returns.
 template <class Self> class Writes {
 public:
     decltype(auto) remove_node(Node node) { return write({BES_REMOVE_NODE, node}); }
@@ -437,7 +438,7 @@ struct Operation {
     std::optional<Value> value; // the value that set gives the attribute
 };
 
-// A list of 1 to 64 operations. A pass applies either all of them or none.
+// A list of 1 to 64 operations. A pass applies either all of the operations or none of them.
 class Batch : public detail::Writes<Batch> {
 public:
     Batch &new_node() { return write({BES_NEW_NODE}); }
@@ -475,7 +476,7 @@ public:
         return bytes;
     }
 
-    // Returns the batch that to_bytes encoded as these bytes. If they are invalid, the exception's offset() is the first invalid byte.
+    // Returns the batch that to_bytes encoded as these bytes. If the bytes are invalid, the exception's offset() is the first invalid byte.
     static Batch from_bytes(const Raw &bytes)
     {
         bes_batch read;
@@ -511,7 +512,7 @@ private:
         return detail::value_of(it.code, it.number, part(it.value_at, it.value_length));
     }
 
-    // Makes room for any 64 operations, has the call fill it, and keeps the number of operations that the call reports. Returns the call's
+    // Makes room for any 64 operations, lets the call fill the batch, and keeps as many operations as the call reports. Returns the call's
     // error.
     template <class Call> std::uint32_t read(Call call)
     {

@@ -17,13 +17,13 @@ raised as subclasses of `Error`; each of the library's error numbers has its own
 
 For a store that programs share through the server bestored, use `connect` instead of `open`: see `help(bestore.connected)`. A
 function that takes a `Pass` or a `Version` works with either kind of store. The module `bestore.saved` keeps a store in a file.
-`open_shelf` opens several stores that a single query searches: see `help(bestore.shelf)`.
+`open_shelf` opens several stores, all of which a single query searches: see `help(bestore.shelf)`.
 
 A store belongs to the process that opened it. In a forked child its passes, versions and prepared queries are dead: their calls
 raise `Forked`, closing them does nothing, and the parent's handles are unaffected. The child can open its own stores.
 
-The package contains its shared object; in the repository, it uses the one in c/. Set BESTORE_LIBRARY to use a different one.
-"""
+The package contains its shared object; in the repository, it uses the shared object in c/. Set BESTORE_LIBRARY to use a
+different one. """
 
 from ._version import VERSION as __version__
 from ._connected_errors import (

@@ -1,4 +1,4 @@
-"""Queries whose text a server has parsed. They don't need the library."""
+"""Queries whose text a server has parsed. Such queries don't need the library."""
 
 from __future__ import annotations
 
@@ -11,7 +11,7 @@ from .queries import Prepared, prepare
 
 
 class AskedQuery(LockOwner, Prepared):
-    """A prepared query for stores on servers. It keeps the text, and each server parses it again."""
+    """A prepared query for stores on servers. The object keeps the text, which each server parses again."""
 
     source: str
 

@@ -34,8 +34,8 @@ class ConnectedChange(Change):
         return self._batch
 
     def _collecting(self, node: Optional[int] = None) -> Batch:
-        """Returns the batch, ready for one more operation, which is on `node` if given. Raises `OtherVolume` if the node isn't
-        in the same volume as the earlier operations' nodes."""
+        """Returns the batch, ready for one more operation. If `node` is given, the operation is on this node. Raises
+        `OtherVolume` if the node isn't in the same volume as the earlier operations' nodes."""
         if not self._snapshot._is_pinned:
             raise NotPinned()
         if len(self._batch) >= MOST_OPERATIONS:
@@ -86,7 +86,7 @@ class ConnectedChange(Change):
             raise kind_mismatch(name, kind, index)
 
     def _indexed(self) -> Dict[str, int]:
-        """Returns each index's kind, as the collected operations leave it."""
+        """Returns each index's kind, as it will be after the collected operations."""
         if self._kinds is None:
             self._kinds = dict(self.indices())
         return self._kinds

@@ -26,7 +26,7 @@ class NoServer(ServerError, ConnectionError):
 
 @dataclass(eq=False, repr=False)
 class OtherUser(ServerError, PermissionError):
-    """The server at a default path runs neither as the effective user nor as root. Nothing was sent to it."""
+    """The server at a default path runs neither as the effective user nor as root. Nothing was sent to this server."""
 
     _summary = (
         "the server runs as user {server_user}, and has to run as user {user} or as root; BESTORE_SOCKET or a parameter can name the "
@@ -67,7 +67,7 @@ class ProtocolError(BrokenConnection):
 
 @dataclass(eq=False, repr=False)
 class LineTooLong(ServerError):
-    """The request is larger than 1 MiB, so it wasn't sent."""
+    """The request was not sent, because it is larger than 1 MiB."""
 
     _summary = "a request can have up to 1 MiB, and this one has {length} bytes; write or ask less at a time"
 
@@ -105,7 +105,7 @@ class BadRequest(ServerRefusal):
 
 
 class Expired(ServerRefusal):
-    """The snapshot expired, because it was kept too long. Pin again."""
+    """The snapshot was kept too long, and the server revoked it. Pin again."""
 
 
 class NoWatch(ServerRefusal):
@@ -113,7 +113,7 @@ class NoWatch(ServerRefusal):
 
 
 class TooManyWatches(ServerRefusal):
-    """The connection has as many watches as are allowed."""
+    """The connection already has the maximum number of watches."""
 
 
 class TooManyCopies(ServerRefusal):
@@ -133,7 +133,7 @@ class NoLog(ServerRefusal):
 
 
 class NotLeader(ServerRefusal):
-    """The server follows another one. Write to that one."""
+    """The server follows another server, which must receive the write instead."""
 
 
 class NotAllowed(ServerRefusal):
@@ -141,7 +141,7 @@ class NotAllowed(ServerRefusal):
 
 
 class PushesLost(ServerRefusal):
-    """Pushes for a watch waited too long and were dropped."""
+    """Changes pushed for a watch waited too long and were lost."""
 
 
 class Unexpected(ServerRefusal):
@@ -156,7 +156,7 @@ _REFUSALS = {kind.__name__: kind for kind in (
 
 
 def _class_of(name: str) -> ErrorClass:
-    """Returns the class of one of the server's own errors. For an unknown error, assumes that the same request won't succeed
+    """Returns the class of one of the server's own errors. If the error is unknown, the same request is assumed to fail again
     later."""
     known = SERVER_MEANINGS.get(name)
     return ErrorClass.MINE if known is None else known.error_class
@@ -168,7 +168,7 @@ def _said_class(details: Dict[str, object]) -> Optional[ErrorClass]:
     return next((it for it in ErrorClass if it.value == said), None)
 
 
-# For each library error, by number: the detail that comes with it, and what the call's list contains.
+# For each library error, by number: the detail reported with the error, and what the call's list contains.
 _CARRIED: Dict[int, Tuple[str, Optional[str]]] = {
     ErrorNumber.BUSY: ("pass", None), ErrorNumber.FULL: ("oldest", None), ErrorNumber.CONFLICT: ("found", None),
     ErrorNumber.SYNTAX: ("offset", None), ErrorNumber.BAD_PATTERN: ("offset", None),

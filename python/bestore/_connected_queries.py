@@ -1,5 +1,5 @@
 """Queries on a version of a server's store: nodes in order of their numbers, pages in an index's order, and nodes in any order.
-An answer takes as many replies as it needs."""
+An answer may take several replies."""
 
 from __future__ import annotations
 
@@ -29,14 +29,14 @@ class QueriedVersion(Version):
     @property
     @abstractmethod
     def _features(self) -> Tuple[str, ...]:
-        """Returns the features of this server that older servers lack."""
+        """Returns which features this server has that older servers lack."""
 
     @abstractmethod
     def _ask(self, command: str, parameters: JSON, read: Callable[[JSON], _Result], query: Optional[str] = None) -> _Result:
         """Makes a call on the pass, if the pass still has this pin."""
 
     def _takes(self, parameter: str) -> bool:
-        """Returns whether the server accepts this query parameter, which older servers don't."""
+        """Returns whether the server accepts this query parameter. Older servers don't."""
         return parameter in self._features
 
     def _ask_query(self, command: str, asked: Query, text: str, others: JSON, read: Callable[[JSON], _Result]) -> _Result:
@@ -58,7 +58,7 @@ class QueriedVersion(Version):
         return error
 
     def hints(self, query: Asked) -> List[Hint]:
-        """Works as it does for a store in this process, but the server parses the query's text."""
+        """Works as for a store in this process, but the server parses the query's text."""
         if not self._takes("text"):
             return super().hints(query)
         compared = self._ask_query("text", query, _text_of(query), {}, read_comparisons)
@@ -78,7 +78,7 @@ class QueriedVersion(Version):
         return nodes
 
     def _part(self, first: int, limit: int, had: int) -> JSON:
-        """Returns the parameters for a page that begins at the number `first`, when `had` nodes have already been read. Without
+        """Returns the parameters for a page that begins at the number `first` after `had` nodes have already been read. Without
         a limit, the reply contains as many nodes as fit on a line."""
         parameters: JSON = {"from": first} if first else {}
         if limit < _ALL:

@@ -33,7 +33,7 @@ def _limited(timeout: Optional[float]) -> Optional[float]:
 
 
 def _socket_to(path: str, timeout: Optional[float]) -> socket.socket:
-    """Returns a connected socket. Connecting may take up to `timeout` seconds, and so may each later call on the socket."""
+    """Returns a connected socket. The timeout for connecting, and for each later call on the socket, is `timeout` seconds."""
     connected = socket.socket(socket.AF_UNIX, socket.SOCK_STREAM)
     try:
         connected.settimeout(timeout)
@@ -86,7 +86,8 @@ def _can_receive(connected: socket.socket, until: Optional[float]) -> bool:
 
 class Connection:
     """A connection, used for one call at a time. If a call is interrupted or a line can't be read, there is no way to know
-    which line comes next, so the connection is closed. An interrupt while nothing is arriving leaves the connection open."""
+    which line comes next, so the connection is closed. An interrupt that comes while nothing is arriving leaves the connection
+    open."""
 
     def __init__(self, path: SocketPath, timeout: Optional[float], take_push: Callable[[JSON], None]) -> None:
         self.path, self._timeout, self._take_push = path.path, _limited(timeout), take_push
@@ -126,7 +127,7 @@ class Connection:
             dropped.close()
 
     def _fail(self, error: Exception, may_be_done: bool = False) -> NoReturn:
-        """Closes the connection, and raises an error that says why."""
+        """Closes the connection, and raises an error that states the reason."""
         failed: Type[BrokenConnection] = Disconnected
         if isinstance(error, socket.timeout) and self._timeout is not None:
             failed, reason = TimedOut, f"no reply within {self._timeout:g} seconds"
@@ -168,7 +169,7 @@ class Connection:
         raise error_of(self.path, reply["error"], query)
 
     def _reply(self, connected: socket.socket, query: Optional[str]) -> JSON:
-        """Returns the reply to the last request. Handles lines that are pushed before the reply."""
+        """Returns the reply to the last request. Also handles lines that are pushed before the reply."""
         until, is_late = None if self._timeout is None else time.monotonic() + self._timeout, False
         while True:
             line = self._take_line()
@@ -182,7 +183,7 @@ class Connection:
             self._take_other(reply, query)
 
     def _receive(self, received: bytes) -> Optional[bytes]:
-        """Stores the received bytes, and returns a line if one is complete."""
+        """Buffers the received bytes, and returns a line if one is complete."""
         if not received:
             raise EOFError(f"{_CLOSED} within a line" if self._received else _CLOSED)
         if not self._received and received.find(b"\n") == len(received) - 1:
@@ -252,7 +253,7 @@ _open: "WeakSet[Connection]" = WeakSet()
 
 
 def _drop_in_child() -> None:
-    """In a forked child, closes the child's copies of the sockets, so that the server notices when the parent closes its own."""
+    """In a forked child, closes the child's copies of the sockets, so that the server notices when the parent closes the originals."""
     for connection in list(_open):
         connection.drop("the connection belongs to the process that this one was forked from")
 

@@ -29,7 +29,7 @@ class HandleOwner(_native.Handle, Owner):
         return bool(Handle.from_address(self._address).live)
 
     def _give_up(self, call: Callable[..., int]) -> None:
-        """Makes the call that gives up the handle. A forked child leaves that call to its parent."""
+        """Makes the call that releases the handle. A forked child leaves that call to its parent."""
         if not self._is_dead:
             self._call(call)
 

@@ -195,8 +195,8 @@ def _arguments() -> dict[str, List[Any]]:
 
 
 def _path() -> str:
-    """Returns the path of the shared object: the file named by BESTORE_LIBRARY, the one in the package, the one in the
-    repository's c/, or one that the system finds."""
+    """Returns the path of the shared object. This is the file named by BESTORE_LIBRARY, the file in the package, the file in
+    the repository's c/, or a file that the system finds."""
     here = os.path.dirname(os.path.abspath(__file__))
     named = os.environ.get("BESTORE_LIBRARY")
     if named:
@@ -253,7 +253,7 @@ os.register_at_fork(after_in_child=_native.after_fork)
 
 
 def check(answer: int, carried: Optional[int] = None, query: Optional[str] = None, listed: Optional[str] = None) -> None:
-    """Raises the error that a call returned, if any. `carried` is the number that comes with the error, `query` is the text of
+    """Raises the error that a call returned, if any. `carried` is the number reported with the error, `query` is the text of
     the query that was run, and `listed` is what the call's list contains."""
     if answer != 0:
         raise refusal(answer, carried, query, listed)

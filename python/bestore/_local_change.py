@@ -1,4 +1,5 @@
-"""Changes to a store in this process. The library collects their operations, and reads attributes as these operations leave them."""
+"""Changes to a store in this process. The library collects their operations, and reads attributes as they will be after these
+operations."""
 
 from __future__ import annotations
 
@@ -14,7 +15,7 @@ if TYPE_CHECKING:
 
 
 class LocalChange(Change):
-    """A change that reads a version. It sees attributes as the collected operations leave them."""
+    """A change that reads a version. It reads attributes as they will be after the collected operations."""
 
     _snapshot: LocalVersion
 
@@ -64,7 +65,7 @@ class LocalChange(Change):
         return self._snapshot._value(node, name)
 
     def _operations_on_nodes(self) -> List[Tuple[int, int, bytes]]:
-        """Returns the collected operations on nodes, each as its kind, the node, and the attribute's name."""
+        """Returns the collected operations on nodes. Each is given as its kind, the node, and the attribute's name."""
         if self._count == 0:
             return []
         return [(kind, node, name) for kind, _, node, _, name, _ in self._collected()._parts() if kind <= UNSET]

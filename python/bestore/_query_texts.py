@@ -26,7 +26,7 @@ def any_case(text: str) -> str:
 
 
 def _made(call: Callable[..., int], text: str, times: int) -> str:
-    """Returns the text that a call produces from `text`. The result has up to `times` times as many bytes."""
+    """Returns the text that a call produces from `text`. The result has up to `times` times as many bytes as `text`."""
     taken = encoded(text)
     room = times * len(taken)
     written, count = ctypes.create_string_buffer(room + 1), ctypes.c_uint64()

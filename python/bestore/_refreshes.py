@@ -1,4 +1,4 @@
-"""Refreshes that compare whole answers, because the library has a different last answer or none."""
+"""Refreshes that compare whole answers, because the library's last answer is a different one or is missing."""
 
 from __future__ import annotations
 
@@ -10,8 +10,8 @@ if TYPE_CHECKING:
 
 
 def refreshed(prepared: Prepared, nodes: Iterable[int], is_in_library: bool) -> Tuple[List[int], List[int]]:
-    """Returns the nodes that joined the answer and those that left it since the query's last refresh. The answer is now
-    `nodes`, and `is_in_library` says whether the library has these nodes."""
+    """Returns the nodes that joined the answer and those that left it since the query's last refresh. `nodes` is the current
+    answer, and `is_in_library` says whether the library has these nodes."""
     found, seen = set(nodes), prepared._seen
     prepared._seen, prepared._is_in_library = found, is_in_library
     return sorted(found - seen), sorted(seen - found)

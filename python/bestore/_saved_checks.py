@@ -1,4 +1,5 @@
-"""Detects damage to a store's file. It checks the rows' checksums, and the last entry's number, which is kept next to the file.
+"""Detects damage to a store's file. This module checks the rows' checksums, and the last entry's number, which is kept next to
+the file.
 
 docs/KEPT.md describes both.
 """
@@ -49,7 +50,7 @@ class LastEntry:
         self._file: Optional[int] = None
 
     def read(self) -> int:
-        """Returns the number, or 0 if it isn't known."""
+        """Returns the number, or 0 if the number isn't known."""
         with suppress(OSError, ValueError, IndexError):
             with open(self._path, "rb") as file:
                 line = file.read()
@@ -58,7 +59,7 @@ class LastEntry:
         return 0
 
     def begin(self, number: int) -> None:
-        """Keeps the number from now on, if a file can be created in the folder."""
+        """From now on, keeps the number, if a file can be created in the folder."""
         with suppress(OSError):
             self._file = os.open(self._path, os.O_WRONLY | os.O_CREAT | os.O_CLOEXEC, 0o600)
             self.set(number)

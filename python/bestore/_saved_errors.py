@@ -26,14 +26,14 @@ class SavedError(_OfPath):
 
 
 class Foreign(SavedError):
-    """The file belongs to another program. It is left unchanged."""
+    """The file belongs to another program. The file is left unchanged."""
 
     _summary = "the file belongs to another program; name another one"
 
 
 @dataclass(eq=False, repr=False)
 class Newer(SavedError):
-    """The file has a newer format. It is left unchanged."""
+    """The file has a newer format. The file is left unchanged."""
 
     _summary = "the file has format {version}, and format {known} is the latest known here; use a newer version of bestore"
 
@@ -68,9 +68,9 @@ class Fewer(SavedError):
     """A shelf can't be opened with fewer volumes than its folder has, or without any volumes."""
 
     found: int
-    """How many volumes the folder has."""
+    """The number of volumes in the folder."""
     wanted: int
-    """How many volumes were requested, or `found` if no number was given."""
+    """The number of volumes that was requested, or `found` if no number was given."""
 
     @property
     def summary(self) -> str:
@@ -130,7 +130,7 @@ class Damaged(_AtPlace):
     error_class = ErrorClass.GONE
 
     until: Optional[int] = None
-    """The entry to pass to `be restore --until`, or None if that can't read the file."""
+    """The entry to pass to `be restore --until`, or None if `be restore` can't read the file."""
 
     @property
     def place(self) -> str:
@@ -146,7 +146,7 @@ class Damaged(_AtPlace):
 
 @dataclass(eq=False, repr=False)
 class CutOff(SavedError):
-    """The file ends earlier than it once did: a frame in its WAL is damaged, or the WAL is missing."""
+    """Later entries are missing from the file: a frame in its WAL is damaged, or the WAL is missing."""
 
     error_class = ErrorClass.GONE
     _summary = (
@@ -156,7 +156,7 @@ class CutOff(SavedError):
     last: int
     """The last entry in the file."""
     had: int
-    """The last entry that the file once had."""
+    """The last entry that the file had earlier."""
 
 
 @dataclass(eq=False, repr=False)

@@ -1,4 +1,5 @@
-"""A store's file: an SQLite database with the last state and the entries since then. docs/KEPT.md describes the format."""
+"""A store's file: an SQLite database with the last state and the entries made since that state. docs/KEPT.md describes the
+format."""
 
 from __future__ import annotations
 
@@ -21,8 +22,8 @@ _WITHOUT_CHECKSUMS = 1  # the previous version, whose rows have no checksums
 
 _LAST_NUMBER = 2**63 - 1  # the highest entry number: SQLite's integers end there
 
-# The WAL is reused from its start after 1,000 pages (4.1 MB), so the limit cuts off only what a large commit added. The last
-# two statements take the lock.
+# After 1,000 pages (4.1 MB), the WAL is overwritten from its start, so the limit truncates only what a large commit added. The
+# last two statements take the lock.
 _SETTINGS = (
     "PRAGMA journal_mode = WAL", "PRAGMA synchronous = FULL", "PRAGMA journal_size_limit = 8388608", "BEGIN IMMEDIATE", "COMMIT")
 _TABLES = (
@@ -51,7 +52,8 @@ class About(NamedTuple):
 
 
 def _make_private(path: str) -> None:
-    """Creates the file if it doesn't exist, so that only the user may read it. SQLite gives the `-wal` file the same mode."""
+    """Creates the file if it doesn't exist, with a mode that lets only the user read it. SQLite gives the `-wal` file the same
+    mode."""
     with suppress(OSError, ValueError):  # if the file can't be created, opening it says why
         os.close(os.open(path, os.O_WRONLY | os.O_CREAT | os.O_EXCL, 0o600))
 
@@ -69,7 +71,7 @@ class File:
         self.has_checksums = True
         """Whether the file's rows have checksums. Rows in the earlier format have none."""
         with self._translated():
-            # SQLite doesn't treat ":memory:" or an empty name as a file unless a folder precedes it.
+            # SQLite doesn't treat ":memory:" or an empty name as a file unless a folder precedes the name.
             within = os.path.join(os.curdir, path)
             _make_private(within)
             self._connection = sqlite3.connect(within, timeout=0, isolation_level=None, check_same_thread=False)
@@ -97,8 +99,8 @@ class File:
         return None if row is None else row[0]
 
     def _take(self) -> None:
-        """Locks the file, checks which program it belongs to, and creates the tables if it is empty. At that point it has no
-        WAL that could lose them."""
+        """Locks the file, checks which program it belongs to, and creates the tables if the file is empty. At that point the
+        file has no WAL that could lose the tables."""
         with self._translated():
             assert self._connection is not None
             self._connection.text_factory = lambda text: None  # no column that is read contains text
@@ -181,7 +183,8 @@ class File:
         return "checksum" if self.has_checksums else "NULL"
 
     def check(self, last: int) -> None:
-        """Refuses a file that ends with this entry but once had later ones, or that has pages that SQLite reports as damaged."""
+        """Refuses a file that ends with this entry but had later entries before. Also refuses a file with pages that SQLite reports as
+        damaged."""
         if self.has_checksums:
             had = LastEntry(self.path, self._about("file")).read()
             if had > last:
@@ -198,14 +201,15 @@ class File:
             raise Damaged(self.path, str(found).replace("\n", " "), until=last)
 
     def keep_last(self, last: int) -> None:
-        """From now on, also keeps the last entry's number next to the file. `last` is its current value."""
+        """From now on, also keeps the last entry's number next to the file. `last` is the number's current value."""
         if self.has_checksums:
             self._last = LastEntry(self.path, self._about("file"))
             self._last.begin(last)
 
     def commits_within(self, commits: int) -> int:
         """Returns how many of `commits` transactions a store opened from this file may accept without running out of entry
-        numbers. The transactions that rebuild the state count too. Returns 0 if no number is left and the state is empty."""
+        numbers. The transactions that rebuild the state are included in the count. Returns 0 if no number is left and the state
+        is empty."""
         left = _LAST_NUMBER - self.about().entries
         if left >= commits:
             return commits
@@ -252,8 +256,8 @@ class File:
             yield row
 
     def append(self, rows: Sequence[Row]) -> None:
-        """Adds all entries in one commit. If the file already has an entry with the same number, the two are identical, and the
-        old one is kept."""
+        """Adds all entries in one commit. If the file already has an entry with the same number, the two entries are identical,
+        and the old entry is kept."""
         if self.has_checksums and len(rows) < len(_INSERTS):
             self._append_by_one_statement(rows)
         else:
@@ -267,7 +271,7 @@ class File:
             self._last.set(rows[-1][0])
 
     def _append_by_one_statement(self, rows: Sequence[Row]) -> None:
-        """Adds a few entries. The statement is its own transaction, so Python lets other threads run only once."""
+        """Adds a few entries. The statement is a transaction of its own, so Python lets other threads run only once."""
         assert self._connection is not None
         if self._connection.in_transaction:  # left open by an exception
             self._roll_back()
@@ -293,7 +297,7 @@ class File:
         self.has_checksums = True
 
     def _add_checksums(self) -> None:
-        """Adds checksums to the rows of a file in an earlier format, except to those in `about`."""
+        """Adds checksums to the rows of a file in an earlier format, except to the rows in `about`."""
         assert self._connection is not None
         has_tokens = self._number("SELECT count(*) FROM sqlite_master WHERE name = 'token'") > 0
         for table in ("about", "state", "entry") + (("token",) if has_tokens else ()):

@@ -8,7 +8,7 @@ from typing import Iterator, List, Optional
 
 
 class Turn:
-    """A thread's turn in the queue. A turn is either for a write, whose commit number it has, or for the file itself, with no number."""
+    """A thread's turn in the queue. A turn for a write has the write's commit number. A turn for the file itself has no number."""
 
     __slots__ = ("number", "_lock")
 
@@ -36,7 +36,7 @@ class Line:
 
     def __init__(self, saved: int) -> None:
         self.saved = saved
-        """The file contains all entries up to this commit number, which is set by the thread that has the file."""
+        """The file contains all entries up to this commit number. The thread that has the file sets the number."""
         self._mutex = threading.Lock()
         self._owner: Optional[Turn] = None
         self._askers: List[Turn] = []
@@ -49,7 +49,7 @@ class Line:
 
     @contextmanager
     def turn(self) -> Iterator[None]:
-        """Waits for exclusive use of the file, ahead of all waiting writes."""
+        """Waits for exclusive use of the file, before all waiting writes."""
         turn = Turn()
         try:
             self.take(turn)
@@ -58,7 +58,7 @@ class Line:
             self.leave(turn)
 
     def take(self, turn: Turn) -> bool:
-        """Waits until the turn has the file, or its write is saved. Returns whether it has the file. Always call `leave`
+        """Waits until the turn has the file, or its write is saved. Returns whether the turn has the file. Always call `leave`
         afterwards, even after an interrupt."""
         with self._mutex:
             if turn.number is not None and turn.number <= self.saved:
@@ -72,7 +72,8 @@ class Line:
         return self._owner is turn
 
     def leave(self, turn: Turn) -> None:
-        """Ends a turn, or the wait for one: hands the file on, and wakes the threads whose writes are saved."""
+        """Ends a turn, or the wait for a turn: passes the file to the next turn, and wakes the threads whose writes are
+        saved."""
         try:
             self._leave(turn)
         except BaseException:  # an interrupt, which mustn't keep other threads waiting
@@ -80,7 +81,7 @@ class Line:
             raise
 
     def _leave(self, turn: Turn) -> None:
-        """Does the work of `leave`. It can be run again after an interrupt."""
+        """Does the work of `leave`. This call can be repeated after an interrupt."""
         with self._mutex:
             if self._owner is turn:
                 self._owner = self._next(turn)
@@ -98,7 +99,8 @@ class Line:
         return turn.number is not None and turn.number <= self.saved
 
     def _wake(self, gone: Optional[Turn] = None) -> None:
-        """Wakes the threads that can continue. Removes their turns from the queue, and also the turn that has ended."""
+        """Wakes the threads that can continue. Removes from the queue the turns of these threads, and also the turn that has
+        ended."""
         owner, left = self._owner, []
         if owner is not None:
             owner.wake()

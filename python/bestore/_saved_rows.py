@@ -19,7 +19,7 @@ _NUMBERS, _CODES = frozenset(map(int, RANGES)), frozenset(KIND_OF)
 
 
 class Repeater:
-    """Applies batches to a store that nobody else uses. The names and values are used in place, within the batch's bytes."""
+    """Applies batches to a store that nobody else uses. The names and values are used directly from the batch's bytes."""
 
     def __init__(self, user: LocalPass) -> None:
         self._user, self._made, self._number = user, (ctypes.c_uint64 * MOST_OPERATIONS)(), ctypes.c_uint64()
@@ -28,8 +28,8 @@ class Repeater:
 
     def repeat(self, data: bytes) -> Tuple[List[int], List[int]]:
         """Applies a batch given as bytes. Returns two lists of the nodes that the operations created, with 0 for operations
-        that created none: first as recorded in the bytes, then as created now. Raises what `Batch.from_bytes` and `Pass.apply`
-        raise."""
+        that created no node. The first list is the one recorded in the bytes, and the second has the nodes created now. Raises
+        what `Batch.from_bytes` and `Pass.apply` raise."""
         texts = data + _MORE
         kept = self._read(data, texts)
         if kept is None:
@@ -44,8 +44,8 @@ class Repeater:
         return kept, self._made[:count]
 
     def _read(self, data: bytes, texts: bytes) -> Optional[List[int]]:
-        """Reads a batch into the buffer. Returns the node that each operation created, or 0 for an operation that created none.
-        Returns None if the bytes aren't a valid batch."""
+        """Reads a batch into the buffer. Returns the node that each operation created, or 0 for an operation that created no
+        node. Returns None if the bytes aren't a valid batch."""
         if data[:len(BEGINNING)] != BEGINNING or not 1 <= texts[len(BEGINNING)] <= MOST_OPERATIONS:
             return None
         kept: List[int] = []

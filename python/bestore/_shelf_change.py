@@ -17,8 +17,8 @@ if TYPE_CHECKING:
 
 class ShelfChange(Change):
     """A change that reads a version of all volumes. The first operation decides which volume is written, unless the caller
-    named a volume. From then on, a change to that volume collects the operations and takes the place of the volume's version,
-    so reads see these operations too."""
+    named a volume. From then on, a change to that volume collects the operations. This change replaces the volume's version, so
+    reads see these operations too."""
 
     _snapshot: ShelfVersion
 
@@ -26,7 +26,7 @@ class ShelfChange(Change):
         super().__init__(snapshot)
         self._users, self._check_kinds = users, check_kinds
         self.volume = volume
-        """The volume that is written, once known."""
+        """The volume that is written, once it is known."""
         self._within: Optional[Change] = None
         self._early: List[Callable[[Change], None]] = []  # operations on indices before the volume is known
 

@@ -1,4 +1,4 @@
-"""Where a server's socket is. The server and all its clients follow the same rule, which is in docs/SERVER.md."""
+"""Finds a server's socket. The server and all its clients follow the same rule, which is in docs/SERVER.md."""
 
 from __future__ import annotations
 
@@ -13,13 +13,14 @@ class SocketPath:
 
     path: str
     is_named: bool
-    """Whether the path was named explicitly. If not, it is where servers listen by default, and anybody may have created the folder."""
+    """Whether the path was named explicitly. If not, the path is the one where servers listen by default, and anybody may have created the
+    folder."""
 
     @classmethod
     def find(cls, named: Union[str, bytes, "os.PathLike[Any]", None] = None) -> SocketPath:
-        """Returns the path named by a parameter or an option, or otherwise the first of these: the path in BESTORE_SOCKET,
-        unless that is empty; bestore/socket in the folder that XDG_RUNTIME_DIR names, unless that is empty or relative;
-        /tmp/bestore-UID/socket, where UID is the effective user's number."""
+        """Returns the path named by a parameter or an option. If no path is named, returns the first of these: the path in
+        BESTORE_SOCKET, unless that variable is empty; bestore/socket in the folder that XDG_RUNTIME_DIR names, unless that
+        variable is empty or relative; /tmp/bestore-UID/socket, where UID is the effective user's number."""
         if isinstance(named, SocketPath):
             return named
         if named is not None:

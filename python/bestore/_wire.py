@@ -112,7 +112,7 @@ class Compared(NamedTuple):
     offset: int
     is_number: bool
     never: Tuple[Kind, ...]
-    """The kinds of index for which it is never true."""
+    """The kinds of index for which the comparison is never true."""
 
 
 def read_compared(one: JSON) -> Compared:

@@ -1,4 +1,4 @@
-"""Changes: writes that depend on reads, with no other write in between."""
+"""Changes: writes that depend on reads, with no other write between the reads and the write."""
 
 from __future__ import annotations
 
@@ -14,12 +14,12 @@ from .versions import Asked, Attributes, Query, Version
 
 
 class Change(Version):
-    """What `Pass.change` passes to its function: a snapshot to read, which also collects up to 64 operations.
+    """The object that `Pass.change` passes to its function: a snapshot that also collects up to 64 operations.
 
-    Operations are only collected; they are written after the function has returned. A node that `new` creates has its number
-    immediately. `change[node]`, `get`, `kind`, `attributes` and `node in change` read the collected operations first, and then
-    the snapshot. Queries, lists of nodes, `count`, `pairs`, `indices` and `state` read only the snapshot. Refresh a live query
-    outside a change, because the function may run again. A 65th operation raises `BadCount`. A call that raises collects
+    Operations are only collected; they are written after the function has returned. The number of a node that `new` creates is
+    known immediately. `change[node]`, `get`, `kind`, `attributes` and `node in change` read the collected operations first, and
+    then the snapshot. Queries, lists of nodes, `count`, `pairs`, `indices` and `state` read only the snapshot. Refresh a live
+    query outside a change, because the function may run again. A 65th operation raises `BadCount`. A call that raises collects
     nothing, and the operations collected earlier are unaffected."""
 
     _shown: ClassVar[str] = "change"
@@ -30,7 +30,7 @@ class Change(Version):
     @property
     @abstractmethod
     def _count(self) -> int:
-        """How many operations have been collected."""
+        """The number of operations that have been collected."""
 
     @abstractmethod
     def _collected(self) -> Batch:
@@ -38,7 +38,7 @@ class Change(Version):
 
     @property
     def room(self) -> int:
-        """How many more operations can be collected."""
+        """The number of operations that can still be collected."""
         return MOST_OPERATIONS - self._count
 
     @abstractmethod
@@ -52,8 +52,8 @@ class Change(Version):
 
     @abstractmethod
     def set(self, node: int, name: str, value: Value, kind: Optional[int] = None) -> None:
-        """Sets an attribute; its kind is chosen as in `Batch.set`. Raises `WrongKind` if the index with that name takes values
-        of another kind, unless the change was begun with check_kinds=False."""
+        """Sets an attribute. The value's kind is chosen as in `Batch.set`. Raises `WrongKind` if the index with that name takes
+        values of another kind, unless the change was begun with check_kinds=False."""
 
     @abstractmethod
     def unset(self, node: int, name: str) -> None:

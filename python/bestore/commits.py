@@ -7,14 +7,14 @@ from contextlib import contextmanager, suppress
 from typing import Iterator, Optional, Sequence, Tuple
 
 PAUSE = 0.002
-"""How many seconds pass between checks of a store whose commits wake nobody."""
+"""The number of seconds between checks of a store whose commits wake no threads."""
 
 
 class Waiter:
     """A thread that waits for commits. It checks the store, and then waits until there has been a commit since `begin`.
 
-    It waits for a lock, which the waking thread releases. Releasing that lock takes no other lock, so a write may happen
-    anywhere, even in a signal handler or while Python collects an object."""
+    The thread waits by acquiring a lock that the waking thread releases. Releasing that lock acquires no other lock, so a write
+    may happen anywhere, even in a signal handler or while Python collects an object."""
 
     def __init__(self, most: Optional[float]) -> None:
         self._most, self._sleep = most, threading.Lock()
@@ -57,7 +57,7 @@ class Commits:
 
 @contextmanager
 def waiting(stores: Sequence[Commits], volumes: int) -> Iterator[Waiter]:
-    """Yields a waiter for commits in any of these stores. If some volumes have no such list, the waiter checks again from time to time."""
+    """Yields a waiter for commits in any of these stores. If some volumes have no such list, the waiter checks again at intervals."""
     waiter = Waiter(None if len(stores) == volumes else PAUSE)
     try:
         for store in stores:

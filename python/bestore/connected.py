@@ -7,12 +7,12 @@ The server is bestored, described in docs/SERVER.md. A pass is a connection. Use
 prepared queries just like those of `bestore.open`.
 
 **What differs.** A call takes a round trip. The server itself retries on `Busy` and `Full`, so `tries` has no effect. The
-server takes back a snapshot that is kept too long; reading that snapshot then raises `Expired`. `another` may be called in any
+server revokes a snapshot that is kept too long; reading that snapshot then raises `Expired`. `another` may be called in any
 thread. `meet` raises `Unavailable`. There are two more calls, `flush` and `compact`. `watch` waits for other clients' writes.
 
 **Errors** are the library's. Connection errors are subclasses of `ServerError`. Once a connection is broken, all later calls on
-its pass raise `Disconnected`, and you have to connect again. If the call that broke it was a write, `may_be_done` says whether
-the write may have been applied.
+its pass raise `Disconnected`, and you have to connect again. If the call that broke the connection was a write, `may_be_done`
+says whether the write may have been applied.
 
 **A forked child** has no connection: calls on its parent's passes raise `Forked`. The child can make its own connection.
 """
@@ -64,7 +64,7 @@ __all__ = [
 _Result = TypeVar("_Result")
 
 TIMEOUT = 60.0
-"""How many seconds connecting, and each reply, may take by default."""
+"""The default timeout for connecting, and for each reply, in seconds."""
 _AGAIN = 0.05  # seconds after which a write is repeated
 _WORDS = 512  # per page
 _MOST_WAITED = 30.0  # seconds that the server waits per request
@@ -81,7 +81,8 @@ class Server(NamedTuple):
     run: str
     """A string that is different each time the server starts. Commit numbers then start over."""
     kept: str
-    """When a write reaches the server's file: at `each` write, `every` so often, or `no` if there is no file."""
+    """When the server saves writes in its file: `each` for at each write, `every` for at intervals, or `no` if there is no
+    file."""
     pages: int
     passes: int
     """How many clients may be connected at the same time."""
@@ -91,8 +92,8 @@ class Server(NamedTuple):
     volumes: int = 1
     """How many volumes the store has. `pages` and `commits` are per volume."""
     features: Tuple[str, ...] = ()
-    """What the server accepts that older ones don't, such as a query's parameter `by`. If the server doesn't accept that, the
-    client cuts ordered pages out of the whole answer."""
+    """The features that older servers lack, such as a query's parameter `by`. If the server doesn't accept `by`, the client
+    cuts ordered pages out of the whole answer."""
 
 
 def _read_server(hello: JSON) -> Tuple[Server, int]:
@@ -160,9 +161,9 @@ class ConnectedVersion(QueriedVersion):
         return self._nexts[volume]
 
     def refresh(self, prepared: Prepared) -> Tuple[List[int], List[int]]:
-        """Works as it does in a version of a store in this process, up to this version. All nodes that match the query are sent
-        through the socket, and remain in the program's memory until the query is closed. With `ConnectedPass.watch`, only the
-        changes are sent."""
+        """Works as in a version of a store in this process, up to this version. All nodes that match the query are sent through
+        the socket, and remain in the program's memory until the query is closed. With `ConnectedPass.watch`, only the changes
+        are sent."""
         return refreshed_by_all(prepared, self)
 
     def indices(self) -> Dict[str, Kind]:
@@ -201,7 +202,7 @@ class ConnectedVersion(QueriedVersion):
             done += len(rows)
 
     def _first_rows(self, nodes: List[int], names: List[str]) -> List[List[Optional[Value]]]:
-        """Returns the values of the first nodes in this list, as many as fit in one reply."""
+        """Returns the values of the first nodes in this list, for as many nodes as fit in one reply."""
         def read(ok: JSON) -> List[List[Optional[Value]]]:
             rows = [read_row(row) for row in ok["rows"]]
             if not 1 <= len(rows) <= len(nodes) or any(len(row) != len(names) for row in rows):
@@ -234,7 +235,7 @@ class ConnectedVersion(QueriedVersion):
 
 
 def _node_number(node: int) -> int:
-    """Returns a node's number, which fits in 64 bits."""
+    """Returns a node's number, after checking that it fits in 64 bits."""
     number = node_number(node)
     if number not in RANGES[Kind.UINT64]:
         raise NoNode(number)
@@ -242,7 +243,8 @@ def _node_number(node: int) -> int:
 
 
 def _asked_node(node: int) -> int:
-    """Returns a node's number in the form that requests use, or 0, which no node has, if the number doesn't fit in 64 bits."""
+    """Returns a node's number in the form that requests use. If the number doesn't fit in 64 bits, returns 0, which no node
+    has."""
     number = node_number(node)
     return number if number in RANGES[Kind.UINT64] else 0
 
@@ -299,7 +301,7 @@ def _read_journal(ok: JSON) -> Tuple[List[Entry], Optional[int]]:
 
 
 def _take_push(watches: "WeakValueDictionary[int, ConnectedWatch]", push: JSON) -> None:
-    """Hands a push to its watch, if that watch still exists. The connection holds no reference to the pass, so an unreferenced
+    """Passes a push to its watch, if the watch still exists. The connection holds no reference to the pass, so an unreferenced
     pass is freed immediately."""
     watch = watches.get(push["watch"])
     if watch is not None:
@@ -338,8 +340,9 @@ class ConnectedPass(LockOwner, ThreadPass):
                 raise
 
     def _until_answered(self, call: Callable[[], _Result]) -> _Result:
-        """Makes a call that can safely be repeated. If the program asked for repeats, retries when the connection fails or the
-        server temporarily can't save writes, but not if the pass would lose a pin or a watch with the old connection."""
+        """Makes a call that can safely be repeated. If the program asked for repeats, retries the call when the connection
+        fails or the server temporarily can't save writes. Doesn't retry if the pass would lose a pin or a watch with the old
+        connection."""
         repeats = self._repeat is not None and not self._has_pin and not self._watches
         until = time.monotonic() + (self._repeat or 0)
         while True:
@@ -403,7 +406,7 @@ class ConnectedPass(LockOwner, ThreadPass):
             return pinned
 
     def _unpin(self) -> None:
-        """Unpins the pass, as ending the connection would too."""
+        """Unpins the pass. Ending the connection would have the same effect."""
         self._has_pin = False
         if self._is_open:
             with suppress(BrokenConnection):
@@ -532,7 +535,7 @@ class ConnectedPass(LockOwner, ThreadPass):
         return "".join(map(line_of, self.journal_from()))
 
     def journal_from(self, number: int = 0, tries: int = TRIES, volume: Optional[int] = None) -> Iterator[Entry]:
-        """Yields the journal entries after the first `number` ones, up to the last entry that exists when the last page is
+        """Yields the journal entries after the first `number` entries, up to the last entry that exists when the last page is
         read. So `store.journal_from(version.number)` yields what was written after a snapshot. Each round trip reads a page of
         a few thousand entries."""
         more: Optional[int] = max(operator.index(number), 0)
@@ -547,7 +550,7 @@ class ConnectedPass(LockOwner, ThreadPass):
         return self._ask("status", {}, _read_statuses)
 
     def reach(self, numbers: Union[int, Sequence[int]], within: float = 5) -> Tuple[int, ...]:
-        """Works as it does for a store in this process. The server waits, and is asked again before its reply would time out."""
+        """Works as for a store in this process. The server waits, and the request is repeated before its reply would time out."""
         wanted: Union[int, List[int]] = numbers if isinstance(numbers, int) else list(numbers)
         most = _MOST_WAITED if self._timeout is None else min(self._timeout / 2, _MOST_WAITED)
         until = time.monotonic() + within
@@ -584,13 +587,13 @@ class ConnectedPass(LockOwner, ThreadPass):
         return AskedQuery(text, (one.name for one in compared))
 
     def watch(self, query: Optional[str] = None) -> ConnectedWatch:
-        """Works as it does for a store in this process, but the server pushes the changes. Raises a `QueryError` or `TooManyWatches`."""
+        """Works as for a store in this process, but the server pushes the changes. Raises a `QueryError` or `TooManyWatches`."""
         return ConnectedWatch(self, query)
 
     def fileno(self) -> int:
-        """Returns the socket's descriptor, for `select` and event loops: it is readable when something was pushed for a watch.
-        Before you wait for that, call `Watch.wait(0)` until it returns None, because lines that were already received don't
-        make the descriptor readable."""
+        """Returns the socket's descriptor, for `select` and event loops. The descriptor is readable when something was pushed
+        for a watch. Before you wait for this, call `Watch.wait(0)` until it returns None, because lines that were already
+        received don't make the descriptor readable."""
         self._check_process()
         with self._lock:
             if self._connection is None:
@@ -614,7 +617,7 @@ class ConnectedPass(LockOwner, ThreadPass):
 
 
 class ConnectedWatch(Watch):
-    """A watch whose changes the server pushes. Any call on the pass receives pushed changes, and the watch keeps them until it
+    """A watch whose changes the server pushes. Any call on the pass receives pushed changes, which the watch keeps until it
     returns them. The server disconnects a program that makes no call for half a minute while more is pushed than the socket can
     hold.
 
@@ -647,7 +650,7 @@ class ConnectedWatch(Watch):
             self._user._ended.append(self._number)
 
     def _read_first(self, ok: JSON) -> None:
-        """Takes the first answer. From then on pushes arrive, even before the call ends."""
+        """Receives the first answer. From then on, pushes arrive, even before the call ends."""
         nodes = ok.get("nodes")
         if nodes is not None:
             self._created.update(read_nodes(nodes))
@@ -657,20 +660,21 @@ class ConnectedWatch(Watch):
         self._user._watches[self._number] = self
 
     def _take(self, push: JSON) -> bool:
-        """Takes changes. Returns whether the same commit has more."""
+        """Takes changes. Returns whether the same commit has more changes."""
         error = push.get("error")
         if error is not None:
             self._error, self._number = error_of(self._user.path, error, self.query), None
         came, went = set(read_nodes(push["created"])), set(read_nodes(push["removed"]))
         created, removed = self._created - went | came - self._removed, self._removed - came | went - self._created
         self._check_room(max(len(created), len(removed)))
-        # All in one statement, because an interrupt may come between two statements.
+        # This is a single statement, because an interrupt may come between two statements.
         self._created, self._removed, self._last, self._is_new, self._is_partial = (
             created, removed, int(push["commit"]), True, bool(push.get("more")))
         return self._is_partial
 
     def _check_room(self, nodes: int) -> None:
-        """Raises a ValueError if this many nodes can't fit in the server's store, where each node takes at least one word of a page."""
+        """Raises a ValueError if the server's store doesn't have room for this number of nodes. Each node takes at least one word of a
+        page."""
         pages = self._user.server.pages * self._user.server.volumes
         if nodes > pages * _WORDS:
             raise ValueError(f"the server pushed more nodes than its {pages:,} pages have room for")
@@ -696,9 +700,9 @@ class ConnectedWatch(Watch):
         return self._number
 
     def refresh(self) -> Changes:
-        """Returns what changed since a call on this watch last returned something, up to what the pass would read now: the
-        snapshot that it is pinned to, or otherwise the current snapshot, which includes everything that this pass has written
-        or seen. Takes a round trip."""
+        """Returns what changed since a call on this watch last returned something, up to the snapshot that the pass would read
+        now. If the pass is pinned, that is the pinned snapshot. Otherwise, it is the current snapshot, which includes
+        everything that this pass has written or seen. Takes a round trip."""
         user = self._user
         user._check_process()
         with user._lock:
@@ -716,8 +720,8 @@ class ConnectedWatch(Watch):
     def wait(self, timeout: Optional[float] = None) -> Optional[Changes]:
         """Returns the changes that were pushed and haven't been returned yet. If there are none, waits up to `timeout` seconds,
         or forever if `timeout` is None, and returns None if no change arrives. If `timeout` is 0, takes only what has already
-        arrived. If an error has ended the watch, then raises that error, such as `NotCovered` after the query's index was
-        removed. Other threads' calls on the pass wait meanwhile."""
+        arrived. If an error has ended the watch, raises that error next, such as `NotCovered` after the query's index was
+        removed. In the meantime, other threads' calls on the pass wait."""
         user = self._user
         user._check_process()
         until = None if timeout is None else time.monotonic() + timeout
@@ -742,16 +746,17 @@ class ConnectedWatch(Watch):
 
 def connect(path: Union[str, bytes, "os.PathLike[Any]", None] = None, timeout: Optional[float] = TIMEOUT,
             repeat: Optional[float] = None) -> ConnectedPass:
-    """Connects to the server at this socket, or at the one that `SocketPath.find` finds, and returns a pass. Use it like the
-    one that `open` returns; `help(bestore.connected)` explains the differences.
+    """Connects to the server at this socket, or at the socket that `SocketPath.find` finds, and returns a pass. Use it like the
+    pass that `open` returns; `help(bestore.connected)` explains the differences.
 
-    `timeout` is how many seconds connecting, and each reply, may take; None means no limit. After that time, the call raises
-    `TimedOut`, and the connection is closed.
+    `timeout` is the timeout for connecting, and for each reply, in seconds; None means no limit. When it expires, the call
+    raises `TimedOut`, and the connection is closed.
 
-    `repeat` lets writes survive a restart of the server. A write whose reply doesn't arrive, or that the server temporarily
-    can't save, is sent again for up to this many seconds, on a new connection if necessary, and is applied once. `change` runs
-    its function again. A write isn't repeated while the pass is pinned or has watches, because a new connection would lack
-    them. Numbers for `apply_if` are valid only in the server run that `server.run` names.
+    `repeat` lets writes survive a restart of the server. If a write's reply doesn't arrive, or if the server temporarily can't
+    save the write, the write is sent again for up to `repeat` seconds, on a new connection if necessary. The write is applied
+    only once. `change` runs its function again. A write isn't repeated while the pass is pinned or has watches, because a new
+    connection would have neither the pin nor the watches. Numbers for `apply_if` are valid only in the server run that
+    `server.run` names.
 
     Raises `NoServer`; `OtherUser` if the socket wasn't named explicitly and the server runs neither as the effective user nor as root;
     `NoPass` if the server has reached its maximum number of clients; `NotAllowed` if the server refuses this user;

@@ -18,7 +18,7 @@ class Error(Exception):
 
 @dataclass(eq=False, repr=False)
 class _Detailed(Error):
-    """An error whose parameters become its fields."""
+    """An error that stores its parameters as fields."""
 
     def __post_init__(self) -> None:
         self.args = tuple(getattr(self, field.name) for field in fields(self))
@@ -26,7 +26,7 @@ class _Detailed(Error):
 
 @dataclass(eq=False, repr=False)
 class _OfPath(_Detailed):
-    """An error from a file or a server. Its message begins with the path."""
+    """An error from a file or a server. The message begins with the path."""
 
     _summary: ClassVar[str] = "it can't be used"  # to be formatted with the fields
     path: str
@@ -42,7 +42,7 @@ class _OfPath(_Detailed):
 
 
 class Forked(Error):
-    """The handle was created before this process was forked. It belongs to the parent, and is dead here."""
+    """The handle was created before this process was forked. It belongs to the parent, and can't be used in this process."""
 
     error_class = ErrorClass.GONE
 
@@ -51,7 +51,7 @@ class Forked(Error):
 
 
 class Nested(Error):
-    """A change's function writes through the change's own pass, so the change could never be committed."""
+    """A change's function wrote through the change's own pass, so the change could never be committed."""
 
     def __str__(self) -> str:
         return "this pass is in a change: add the operation to the change, or write through another pass"
@@ -65,7 +65,7 @@ class TooManyAttempts(_Detailed):
     error_class = ErrorClass.RETRY
 
     attempts: int
-    """How many attempts were made."""
+    """The number of attempts that were made."""
 
     def __str__(self) -> str:
         return f"another write came first at each of {self.attempts} attempts; try again, or allow more attempts"
@@ -73,7 +73,7 @@ class TooManyAttempts(_Detailed):
 
 @dataclass(eq=False, repr=False)
 class NoVolume(_Detailed):
-    """The store has no such volume, or the call has to name a volume because the store has several."""
+    """The store has no such volume, or the call must name a volume because the store has several volumes."""
 
     volume: Optional[int]
     """The volume, or None if the call doesn't name one."""
@@ -102,8 +102,8 @@ class OtherVolume(_Detailed, ValueError):
 
 @dataclass(eq=False, repr=False)
 class PartialIndex(_Detailed, ValueError):
-    """An index has to be created in all volumes, by a batch with no other operations. To create an index in one volume only,
-    name that volume in the write."""
+    """An index must be created in all volumes, by a batch with no other operations. To create an index in only one volume, name
+    that volume in the write."""
 
     operation: Optional[int]
     """The first operation that creates or removes an index, counting from 0."""
@@ -128,7 +128,7 @@ class NotReached(Error):
     def __init__(self, expected: Sequence[int], found: Sequence[int]) -> None:
         super().__init__(expected, found)
         self.expected = tuple(expected)
-        """How many entries each volume's journal should have had."""
+        """The number of entries that each volume's journal should have had."""
         self.found = tuple(found)
         """How many entries it had."""
 
@@ -141,7 +141,7 @@ class BadBytes(_Detailed, ValueError):
     """The bytes aren't a valid batch."""
 
     offset: int
-    """The first byte of the part that can't be read, counting from 0."""
+    """The offset of the first byte of the part that can't be read."""
     reason: str
 
     def __str__(self) -> str:
@@ -174,13 +174,15 @@ class Refusal(Error):
         self.pass_number: Optional[int] = None
         """For `Busy`: the number of the pass that is writing."""
         self.least: Optional[int] = None
-        """For `Full`: the commit number of the oldest snapshot that a pass may still read, whose pages are kept."""
+        """For `Full`: the commit number of the oldest snapshot that a pass may still read. The pages of that snapshot are
+        kept."""
         self.offset: Optional[int] = None
         """For a `QueryError`: the position of the error in the query's text, in bytes of UTF-8, counting from 0."""
         self.item: Optional[int] = None
-        """For items that can't be read or don't form a query: the item at which that becomes apparent, counting from 0."""
+        """For items that can't be read or don't form a query: the index of the item at which the error is detected, counting
+        from 0."""
         self.operation: Optional[int] = None
-        """For a batch that can't be read: the first operation that is invalid, counting from 0."""
+        """For a batch that can't be read: the index of the first invalid operation, counting from 0."""
         self.volume: Optional[int] = None
         """The volume in which the error occurred, if the store has several."""
         self._carry(carried, listed)
@@ -233,7 +235,7 @@ class _OfList(Refusal):
 
 
 def columns_of(text: str) -> int:
-    """Returns how many columns a text takes on a terminal."""
+    """Returns the number of columns that a text takes on a terminal."""
     return sum(0 if unicodedata.combining(it) else 2 if unicodedata.east_asian_width(it) in "WF" else 1 for it in text)
 
 
@@ -326,7 +328,7 @@ class Busy(Refusal, number=ErrorNumber.BUSY):
 
 class NoNode(Refusal, KeyError, number=ErrorNumber.NO_NODE):
     nodes: Tuple[int, ...] = ()
-    """The missing node, or all nodes that the write names if it names several."""
+    """The missing node. If the write names several nodes, all of them."""
 
     def _carry(self, carried: Optional[int], listed: Optional[str]) -> None:
         if carried is not None and listed is None:
@@ -420,7 +422,7 @@ class QueryNotUTF8(_AtPlace, NotUTF8):
 
 class BadCursor(Refusal, ValueError, number=ErrorNumber.BAD_CURSOR):
     reason: Optional[str] = None
-    """Why no page can begin there, if known."""
+    """The reason why no page can begin there, if known."""
 
     @property
     def summary(self) -> str:
@@ -429,7 +431,7 @@ class BadCursor(Refusal, ValueError, number=ErrorNumber.BAD_CURSOR):
 
 class NoRoom(Refusal, ValueError, number=ErrorNumber.NO_ROOM):
     limit: Optional[int] = None
-    """How many nodes were requested."""
+    """The number of nodes that was requested."""
 
     @property
     def _what(self) -> str:
@@ -440,7 +442,7 @@ class WrongKind(Refusal, TypeError, number=ErrorNumber.WRONG_KIND):
     """A change sets a value whose kind differs from its index's kind, so no query would find it."""
 
     name: Optional[str] = None
-    """The attribute's name, if known. Both kinds are then known too."""
+    """The attribute's name, if known. If it is known, both kinds are known too."""
     kind: Optional[str] = None
     """The name of the value's kind, such as "INT64"."""
     index_kind: Optional[str] = None
@@ -456,7 +458,7 @@ class WrongKind(Refusal, TypeError, number=ErrorNumber.WRONG_KIND):
 
 class Conflict(Refusal, number=ErrorNumber.CONFLICT):
     expected: Optional[int] = None
-    """How many entries the journal should have had."""
+    """The number of entries that the journal should have had."""
     found: Optional[int] = None
     """How many entries it had."""
 
@@ -469,14 +471,14 @@ class Conflict(Refusal, number=ErrorNumber.CONFLICT):
 
 
 def no_index(name: str, indices: Iterable[str]) -> NoIndex:
-    """Returns the error for ordering by a name that has no index. `indices` lists the existing indices."""
+    """Returns the error for a page ordered by a name that has no index. `indices` lists the existing indices."""
     error = NoIndex()
     error.name, error.indices = name, tuple(indices)
     return error
 
 
 def bad_cursor(reason: str) -> BadCursor:
-    """Returns the error for a cursor from which no page can continue."""
+    """Returns the error for a cursor that no page can continue from."""
     error = BadCursor()
     error.reason = reason
     return error

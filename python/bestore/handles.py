@@ -1,4 +1,4 @@
-"""Handles: who owns them, and what happens to them in a forked child."""
+"""Handles: who owns a handle, and what happens to it in a forked child."""
 
 from __future__ import annotations
 
@@ -14,8 +14,8 @@ _Self = TypeVar("_Self", bound="Owner")
 class Owner:
     """Owns a handle and releases it on `close`, at the end of a `with`, or when the owner is destroyed.
 
-    A handle takes one call at a time, so calls from several threads wait for each other. In a forked child the handle is dead:
-    each call raises `Forked`, and releasing it does nothing. The child can create its own handles."""
+    A handle takes one call at a time, so calls from several threads wait for each other. In a forked child, the handle is dead:
+    each call raises `Forked`, and releasing the handle does nothing. The child can create its own handles."""
 
     def close(self) -> None:
         raise NotImplementedError
@@ -32,7 +32,7 @@ class Owner:
 
 
 class LockOwner(Owner):
-    """Owns something outside the library, such as a connection, and guards it with a lock."""
+    """Owns something outside the library, such as a connection, which it guards with a lock."""
 
     _forks: ClassVar[int] = 0
 

@@ -1,5 +1,5 @@
-"""Query texts: how to put a string into a query, and what a query compares. The library parses and writes query texts, and is
-loaded by the first call that needs it."""
+"""Query texts: how to put a string into a query, and what a query compares. The library parses and writes query texts. The
+first call that needs the library loads it."""
 
 from __future__ import annotations
 
@@ -12,7 +12,7 @@ _ENDS_QUOTED = re.compile(r'["\\]')  # the characters in a quoted name that need
 
 
 def escape(text: str) -> str:
-    r"""Returns the text with a backslash before each character that is special in a query, so that it matches only the text
+    r"""Returns the text with a backslash before each character that is special in a query. The result matches only the text
     itself, quoted or not: f'name=="{escape("[draft].txt")}"' is the query name=="\[draft].txt". An empty text needs quotes. In
     items, the operators CONTAINS, BEGINS_WITH and ENDS_WITH take a text literally. May raise `NotUTF8`."""
     from . import _query_texts  # needs the library
@@ -55,7 +55,7 @@ class Hint(NamedTuple):
 
     name: str
     value: str
-    """The value that is compared with."""
+    """The value to compare with."""
     kind: Kind
     """The index's kind."""
     offset: int

@@ -39,7 +39,7 @@ def check_one_volume(volume: Optional[int]) -> None:
 
 
 class _Cursor(HandleOwner):
-    """Keeps track of how many of the operations that rebuild a version have been returned."""
+    """The position in the sequence of operations that rebuilds a version."""
 
     def __init__(self) -> None:
         super().__init__(CURSOR)
@@ -124,7 +124,7 @@ class LocalVersion(_native.Reader, Version):
 
     def _refreshed(
             self, prepared: Prepared, refresh: Callable[[Prepared], Tuple[List[int], List[int]]]) -> Tuple[List[int], List[int]]:
-        """Returns what changed, according to `refresh`, one of the calls that refresh a query in the library."""
+        """Returns what changed. `refresh` is one of the calls that refresh a query in the library."""
         prepared._check_process()
         with prepared._refreshing:
             came, went = refresh(prepared)
@@ -184,7 +184,7 @@ class LocalPass(HandleOwner, Pass):
         check(user._call(calls.bes_another, self._pointer))
 
     def _tried(self, tries: int, call: Callable[..., int], *arguments: Any) -> int:
-        """Makes a call at least once, and up to this many times while another pass is writing."""
+        """Makes a call at least once, and repeats it while another pass is writing, up to this number of tries in all."""
         answer = self._call(call, *arguments)
         if answer == _BUSY:
             back = StandingBack()
@@ -194,8 +194,8 @@ class LocalPass(HandleOwner, Pass):
         return answer
 
     def _repeated(self, tries: int, call: Callable[..., _Answered], *arguments: Any) -> _Answered:
-        """Makes a call in the extension, with retries as in `_tried`. Such a call also returns the details that go with the
-        library's number."""
+        """Makes a call in the extension, with retries as in `_tried`. Such a call also returns the details of the library's
+        error number."""
         answered = call(*arguments)
         if answered[0] == _BUSY:
             back = StandingBack()
@@ -218,7 +218,7 @@ class LocalPass(HandleOwner, Pass):
         return number, made
 
     def _written_at_last(self, tries: int, answer: int, number: int, batch: NativeBatch, *before: int) -> Tuple[int, List[int]]:
-        """Continues `_write` after the first attempt failed with this error."""
+        """Continues `_write` after its first attempt has failed with this error."""
         pauses = 0
         made: List[int] = []
         if answer == _BUSY and tries > 1:
@@ -254,8 +254,8 @@ class LocalPass(HandleOwner, Pass):
         return error.least is not None and self._is_kept_by_another(error.least)
 
     def _is_kept_by_another(self, least: int) -> bool:
-        """Returns whether pages may become free for a write that found none because the pages of commit number `least` and
-        later were kept. That is so if another pass is, or was, the oldest active reader."""
+        """Returns whether pages may become free for a write that found no free page because the pages of commit number `least`
+        and later were kept. This is the case if another pass is, or was, the oldest active reader."""
         try:
             status = self.status()
         except Refusal:

@@ -9,9 +9,10 @@ from .operations import MAKE_INDEX, NEW, REMOVE, REMOVE_INDEX, SET, UNSET, Batch
 from .values import plain
 
 NUMBERS = 10**14
-"""How many numbers a volume has. It is a power of ten so that people can read the volume from a node's digits."""
+"""The number of node numbers in a volume. The number is a power of ten, so that people can read the volume from a node's
+digits."""
 MOST_VOLUMES = 64
-"""The maximum number of volumes. So a node is less than 2^53, and JSON represents it exactly."""
+"""The maximum number of volumes. With this maximum, a node is less than 2^53, so JSON represents it exactly."""
 
 
 def volume_of(node: int) -> int:
@@ -31,8 +32,8 @@ def node_in(volume: int, number: int) -> int:
 
 def within(batch: Batch, volume: Optional[int] = None) -> Tuple[Optional[int], Batch]:
     """Returns the volume that a batch is written to, and the batch with its nodes' numbers within that volume. The volume is
-    `volume` if given, otherwise the volume of the nodes that the operations name, or None if they name no node. Raises
-    `OtherVolume` if an operation names a node in another volume."""
+    `volume` if given, otherwise the volume of the nodes that the operations name. It is None if the operations name no node.
+    Raises `OtherVolume` if an operation names a node in another volume."""
     moved = Batch()
     for place, (kind, code, node, number, name, value) in enumerate(batch._parts()):
         if kind in (REMOVE, SET, UNSET) or kind == NEW and node != 0:
@@ -65,7 +66,7 @@ def node_number(node: SupportsIndex) -> int:
 
 def name_missing(error: Union[NoNode, NoAttribute], batch: Batch) -> None:
     """Adds details to a refused batch's error: the nodes that the batch names, one of which doesn't exist, or the attribute
-    that it removes, if it removes one."""
+    that the batch removes, if it removes only one."""
     parts = batch._parts()
     if isinstance(error, NoNode):
         error.nodes = tuple(dict.fromkeys(node for kind, _, node, *_ in parts if kind in (REMOVE, SET, UNSET)))

@@ -69,18 +69,18 @@ Operation = Union[NewNode, RemoveNode, SetAttribute, UnsetAttribute, MakeIndex, 
 
 
 Parts = Tuple[int, int, int, int, bytes, bytes]
-"""An operation's kind, type code, node, number, name, and value unless that is a number."""
+"""An operation's kind, type code, node, number, name, and value, unless the value is a number."""
 _Self = TypeVar("_Self", bound="Batch")
 
 
 class Batch:
-    """Up to 64 operations, of which `Pass.apply` applies all or none. A batch's methods return the batch, so calls can be chained.
+    """Up to 64 operations. `Pass.apply` applies either all of them or none. A batch's methods return the batch, so calls can be chained.
 
     `for operation in batch` iterates over the operations, `len(batch)` is the number of operations, and `Batch(operations)`
     makes a batch from operations."""
 
     _made: ClassVar[Optional[Type[Batch]]] = None
-    """The class of new batches once a store has been opened in this process: the extension's class, which is faster."""
+    """The class of new batches after a store has been opened in this process: the extension's class, which is faster."""
 
     def __new__(cls, operations: Iterable[Operation] = ()) -> Batch:
         return super().__new__(Batch._made or cls if cls is Batch else cls)
@@ -183,13 +183,12 @@ class Batch:
 
     def to_bytes(self) -> bytes:
         """Returns the batch as bytes, which `from_bytes` and the libraries for C, C++ and Rust can read. Raises `BadCount`
-        unless the batch has 1 to 64 operations, and `NameLength`, `DataLength` or `NoKind` for anything that no write
-        accepts."""
+        unless the batch has 1 to 64 operations, and `NameLength`, `DataLength` or `NoKind` for parts that no write accepts."""
         return self._packed()
 
     def _packed(self, nodes: Optional[Sequence[int]] = None) -> bytes:
-        """Returns the batch as bytes. If `nodes` contains the node that each operation created, the operations that create
-        nodes have these numbers, as in the journal."""
+        """Returns the batch as bytes. If `nodes` is given, it contains the node that each operation created. The operations
+        that create nodes then have these numbers, as in the journal."""
         if not 1 <= len(self) <= MOST_OPERATIONS:
             raise BadCount()
         texts, parts = self._bytes, [BEGINNING, _BYTES[len(self)]]
@@ -249,7 +248,7 @@ def _name(name: str) -> bytes:
 
 
 def _copied(kind: Type[Batch], operations: bytes, texts: bytes) -> Batch:
-    """Returns a batch of this class with these operations in the library's form."""
+    """Returns a batch of this class with these operations, which are in the library's form."""
     batch = kind()
     batch._put(operations, texts)
     return batch

@@ -1,4 +1,4 @@
-"""Pages of an answer in an index's order, and cursors, from which the next page continues.
+"""Pages of an answer in an index's order, and cursors, which mark where the next page continues.
 
     page = version.query("MAIL:to==ann", by="MAIL:when", descending=True, limit=50)
     older = version.query("MAIL:to==ann", by="MAIL:when", descending=True, limit=50, after=page.cursor)
@@ -41,15 +41,14 @@ class Order(NamedTuple):
 
 
 def check_of(text: str) -> int:
-    """Returns what a cursor remembers about a query, which is the CRC-32 of its canonical text."""
+    """Returns what a cursor remembers about a query: the CRC-32 of the query's canonical text."""
     return zlib.crc32(text.encode())
 
 
 @dataclass(frozen=True)
 class Cursor:
-    """A position in a query's ordered answer, namely that of a page's last node. The next page begins right after that node,
-    even in a later version and whatever was written in between. `str` converts a cursor to a short string, which `parse`
-    reads."""
+    """A position in a query's ordered answer: the position of a page's last node. The next page begins just after that node,
+    even in a later version, whatever was written in between. `str` converts a cursor to a short string, which `parse` reads."""
 
     order: Order
     """The page's order."""
@@ -58,7 +57,7 @@ class Cursor:
     kind: Optional[Kind] = None
     """The index's kind, or None at the beginning, before the first node."""
     value: Optional[Value] = None
-    """That node's value in the index."""
+    """The last node's value in the index."""
     node: Optional[int] = None
     """That node."""
 
@@ -102,14 +101,14 @@ class Cursor:
                              "or begin without a cursor")
 
     def of_other_kind(self, kind: Kind) -> BadCursor:
-        """Returns the error for a cursor whose kind isn't the index's kind, which is `kind`."""
+        """Returns the error for a cursor whose kind differs from the index's kind. `kind` is the index's kind."""
         had = "no kind" if self.kind is None else f"kind {self.kind.name}"
         return bad_cursor(f'the index "{self.order.by}" has kind {kind.name}, and had {had} when the '
                           "cursor was made: begin without a cursor")
 
 
 _Position = Tuple[Order, int, int, bytes]
-"""What a cursor is made from when it is requested: the arguments of `Cursor.of_key`."""
+"""The arguments of `Cursor.of_key`, from which a cursor is made when it is requested."""
 
 
 class Page(List[_Item]):
@@ -135,7 +134,7 @@ class Page(List[_Item]):
 
 
 After = Union[Cursor, str, None]
-"""Where a page begins: after a cursor, given as an object or as its text, or at the beginning if None."""
+"""Where a page begins: after a cursor, given as an object or as text, or at the beginning if this is None."""
 
 
 def cursor_of(after: After) -> Optional[Cursor]:

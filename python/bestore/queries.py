@@ -17,7 +17,7 @@ class Name(str):
 
 
 class Operator(enum.IntEnum):
-    """What an operator does with the items before it."""
+    """What an operator does with the items that precede it."""
 
     EQ, NE, LT, LE, GT, GE, CONTAINS, BEGINS_WITH, ENDS_WITH, AND, OR, NOT = range(4, 16)
 
@@ -48,7 +48,7 @@ class Prepared(Owner):
 
     @property
     def _check(self) -> int:
-        """Returns what this query's cursors remember about it."""
+        """Returns what this query's cursors remember about the query."""
         raise NotImplementedError
 
     def _asked_text(self) -> str:
@@ -74,7 +74,8 @@ class Prepared(Owner):
 
 def prepare(text: str) -> Prepared:
     """Parses this text once and returns the query. Raises `QuerySyntax`, `BadPattern`, `TooLong`, `TooDeep`, `TooMany` or
-    `QueryNotUTF8` if the text isn't a valid query. Takes time to parse the text, and uses memory until the query is closed."""
+    `QueryNotUTF8` if the text isn't a valid query. The call takes time to parse the text, and the query uses memory until it is
+    closed."""
     from . import _prepared  # needs the library
     return _prepared.prepare(text)
 
@@ -89,6 +90,6 @@ def with_prepared(asked: Union[str, Prepared], call: Callable[[Prepared], _Retur
 
 def prepare_items(*items: Item) -> Prepared:
     """Returns the query that these items form in reverse Polish order, as in `Version.query_items`. Raises `BadItems` or
-    `BadPattern` if the items don't form a valid query. Uses memory until the query is closed."""
+    `BadPattern` if the items don't form a valid query. The query uses memory until it is closed."""
     from . import _prepared
     return _prepared.prepare_items(*items)

@@ -7,15 +7,15 @@
         store.set(letter, "MAIL:from", "ann")
 
 The store is in memory, and each accepted write is saved in the file before its call returns. The write survives `kill -9`, and
-also a power failure if the disk keeps what it has confirmed. Opening the file rebuilds the store by replaying each write, and
-refuses the file if an outcome differs. Only one store at a time can have a file open. docs/KEPT.md describes the promises and
-the format, which is the same as the Rust crate's.
+also a power failure if the disk keeps what it has confirmed. Opening the file rebuilds the store by replaying each write. If an
+outcome differs, the file is refused. Only one store at a time can have a file open. docs/KEPT.md describes the promises and the
+format, which is the same as the Rust crate's.
 
-Concurrent writers share a commit: one of them saves what all of them have written, in the journal's order. While a write's call
-waits, a snapshot may already show the write, though it isn't in the file yet; call `flush` before you pass a snapshot's data to
-anyone else. If a `KeyboardInterrupt` ends the wait, the write is in memory, and the next commit saves it.
+Concurrent writers share a commit: one writer saves what all of them have written, in the journal's order. While a write's call
+waits, a snapshot may already show the write, although the write isn't in the file yet. Call `flush` before you pass a
+snapshot's data to anyone else. If a `KeyboardInterrupt` ends the wait, the write is in memory, and the next commit saves it.
 
-In a forked child all handles are dead, as everywhere in the package. Such a child can't open the file itself, because SQLite
+In a forked child, all handles are dead, as everywhere in the package. The child can't open the file itself, because SQLite
 would mistake the parent's handle for the child's own.
 """
 
@@ -69,12 +69,12 @@ class _Reader:
 
 
 class _Saver:
-    """Saves the journal's entries. A writer hands in its entry and waits for its turn, in which it saves all entries that have
-    been handed in. The writers of those entries then continue."""
+    """Saves the journal's entries. A writer queues its entry and waits for its turn. In its turn, the writer saves all queued
+    entries. The writers of those entries then continue."""
 
     def __init__(self, file: File, own: _local.LocalPass, last: int, every: Optional[float]) -> None:
         self.own = own
-        """A pass that nobody else uses. It reads entries that weren't handed in, and creates the other passes."""
+        """A pass that nobody else uses. It reads entries that weren't queued, and creates the other passes."""
         self.path, self._reader = file.path, _Reader(own)
         self._file: Optional[File] = file
         self._failed: Optional[Exception] = None
@@ -117,7 +117,7 @@ class _Saver:
                 self._handed_in.pop(number, None)
 
     def _hand_in_for_later(self, number: int, by: int, batch: Batch, made: Optional[List[int]]) -> None:
-        """Hands in an entry to the saving thread, which reads the journal if there are too many entries."""
+        """Queues an entry for the saving thread. If there are too many entries, that thread reads the journal instead."""
         if len(self._handed_in) < _MOST_ROWS:
             self._handed_in[number] = number + self._shift, by, batch._packed(made)
             if self._line.saved >= number:
@@ -126,7 +126,7 @@ class _Saver:
             self._work.set()
 
     def _save_up_to(self, number: int) -> None:
-        """During a turn, saves the entries up to this commit number and any later entries that have been handed in."""
+        """During a turn, saves the entries up to this commit number, and any later entries that have been queued."""
         line, handed_in = self._line, self._handed_in
         while line.saved < number:
             self.check()
@@ -144,8 +144,7 @@ class _Saver:
 
     def _next_rows(self, number: int, least: int) -> List[Row]:
         """Returns up to `_MOST_ROWS` entries to save next, starting with this commit number. Entries up to the commit number
-        `least` that haven't been handed in are read from the journal. Later entries are included if they have been handed
-        in."""
+        `least` that haven't been queued are read from the journal. Later entries are included if they have been queued."""
         rows: List[Row] = []
         while len(rows) < _MOST_ROWS:
             row = self._handed_in.get(number)
@@ -179,7 +178,7 @@ class _Saver:
                 self._file.write_state(number, version.next_node, (batch.to_bytes() for batch in version.state()))
 
     def _save_now_and_then(self, every: float) -> None:
-        """Repeatedly saves what was written, `every` seconds after the first unsaved write. Closes the file at the end."""
+        """In a loop, saves what was written, `every` seconds after the first unsaved write. Closes the file at the end."""
         while not self._ending.is_set():
             self._work.wait()
             self._ending.wait(min(every, threading.TIMEOUT_MAX))
@@ -230,8 +229,8 @@ class _Saver:
 
 
 class SavedPass(_local.LocalPass):
-    """A pass whose writes are saved. Every call that writes may also raise `Stopped` if saving has stopped, or `NotSaved` if
-    the write couldn't be saved."""
+    """A pass whose writes are saved. Each call that writes may also raise `Stopped` if saving has stopped, or `NotSaved` if the
+    write couldn't be saved."""
 
     def __init__(self, saver: _Saver, first: Optional[Saved] = None) -> None:
         super().__init__()
@@ -272,9 +271,9 @@ class SavedPass(_local.LocalPass):
         self._saver.flush()
 
     def compact(self) -> None:
-        """Writes the current snapshot into the file, replacing the state and the entries that the snapshot includes. Writes
-        wait for the file meanwhile. If this raises `DiskFull` or `SqliteError`, the file is unchanged. Raises `Stopped` like
-        `flush`. Takes time to read and write all attributes."""
+        """Writes the current snapshot into the file, replacing the state and the entries that the snapshot includes. In the
+        meantime, writes wait for the file. If this raises `DiskFull` or `SqliteError`, the file is unchanged. Raises `Stopped`
+        like `flush`. Takes time to read and write all attributes."""
         self._check_process()
         self._saver.compact()
 
@@ -298,7 +297,7 @@ class Saved(SavedPass):
 
     def close(self) -> None:
         """Saves what was written, and closes the file and this pass. Other passes can still read. Raises `Stopped` if something
-        couldn't be saved, but closes the file and the pass even then."""
+        couldn't be saved; even then, the file and the pass are closed."""
         try:
             self._saver.close()
         finally:
@@ -322,7 +321,7 @@ class Saved(SavedPass):
 def open(path: Union[str, bytes, "os.PathLike[Any]"], pages: int = 4096, passes: int = PASSES, commits: int = 2**32 - 1,
          every: Optional[float] = None) -> Saved:
     """Opens or creates the file, and rebuilds the store. The limits are those of `bestore.open`, except that `passes` is at
-    most 63. The journal begins with the file's contents, so `commits` has to allow for them.
+    most 63. The journal begins with the file's contents, so `commits` must allow for them.
 
     With `every`, a write returns immediately and is saved `every` seconds later, or earlier by `flush` or `close`.
 
@@ -358,7 +357,8 @@ def open(path: Union[str, bytes, "os.PathLike[Any]"], pages: int = 4096, passes:
 
 
 def _few_commits(file: File, pages: int, passes: int, commits: int) -> _local.LocalPass:
-    """Opens a store for a file that has few entry numbers left. Raises `TooLarge` if the store couldn't accept even one transaction."""
+    """Opens a store for a file that has only a few entry numbers left. Raises `TooLarge` if the store couldn't accept even one
+    transaction."""
     if commits == 0:
         spent = CommitsSpent()
         raise refused(file.path, spent, entry=file.about().entries) from spent
@@ -378,14 +378,14 @@ class SavedShelf(_shelf.Shelf):
 
     def flush(self) -> None:
         """Returns once everything written before the call is in the files. Raises `Stopped` for the first volume that can't be
-        saved; the other volumes are still saved."""
+        saved, after saving the other volumes."""
         with ExitStack() as calls_of_all:
             for user in self._saved:  # the last volume first, so that the first volume's error is the one raised
                 calls_of_all.callback(user.flush)
 
     def compact(self) -> None:
         """Writes the current snapshots into the files, as `SavedPass.compact` does for each volume. Raises the error from the
-        first volume that fails; the other volumes are still compacted."""
+        first volume that fails, after compacting the other volumes."""
         with ExitStack() as calls_of_all:
             for user in self._saved:  # as in `flush`
                 calls_of_all.callback(user.compact)
@@ -470,7 +470,7 @@ def _load(file: File, own: _local.LocalPass) -> int:
 def _repeat(path: str, repeater: Repeater, data: bytes, entry: Optional[int] = None,
             batch: Optional[int] = None) -> Tuple[List[int], List[int]]:
     """Applies a batch from the file. Returns two lists of the nodes that the operations created, with 0 for operations that
-    created none: first as recorded in the file, then as created now."""
+    created no node. The first list is the one recorded in the file, and the second has the nodes created now."""
     try:
         return repeater.repeat(data)
     except Error as error:

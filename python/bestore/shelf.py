@@ -7,17 +7,17 @@
         with store.pin() as version:
             version.query("size>=5")
 
-A shelf has 1 to 64 volumes, each a separate store, so it can hold more nodes than one store. Use it like any other `Pass`, and
-its versions like any other `Version`: queries, counts and live queries cover all volumes. A node is an integer, its volume *
-10^14 + its number within the volume: `volume_of` and `number_of` split a node, and `node_in` composes it. A node never leaves
+A shelf has 1 to 64 volumes, each a separate store, so it can hold more nodes than one store. Use a shelf like any other `Pass`,
+and its versions like any other `Version`. Queries, counts and live queries cover all volumes. A node is an integer, its volume
+* 10^14 + its number within the volume: `volume_of` and `number_of` split a node, and `node_in` composes it. A node never leaves
 its volume. A server may have volumes too, and then the pass that `connect` returns works like a shelf.
 
-**What is promised.** Each volume on its own keeps a store's promises: its writes are serializable in the order of its journal,
-and reads from it see one snapshot. Across volumes there is no order. A version has a snapshot of each volume, pinned one after
-another, so it may include a later write to one volume but not an earlier write to another. A batch or a change writes to one
-volume, and the data that a change read from other volumes may have changed meanwhile. Indices are created in one volume after
-another. If one volume can't answer a query, the error is `NotCovered`, with that `volume`, so no answer is partial.
-"""
+**What is promised.** Each volume by itself keeps a store's promises: its writes are serializable in the order of its journal,
+and reads from the volume see one snapshot. Across volumes there is no order. A version has a snapshot of each volume. The
+snapshots are pinned one after another, so a version may include a later write to one volume but not an earlier write to
+another. A batch or a change writes to one volume. The data that a change read from other volumes may have changed in the
+meantime. Indices are created in one volume after another. If one volume can't answer a query, the query raises `NotCovered`
+with that `volume`, so no answer is partial. """
 
 from __future__ import annotations
 
@@ -79,7 +79,8 @@ class ShelfVersion(Version):
 
     @property
     def next_node(self) -> int:
-        """The number that the next new node gets in the volume with the most free pages, if no other write to that volume comes first."""
+        """The number that the next new node gets in the volume with the most free pages, unless another write to that volume comes
+        first."""
         return self._next_in(self._user._roomiest())
 
     def _next_in(self, volume: int) -> int:
@@ -88,7 +89,7 @@ class ShelfVersion(Version):
         return node_in(volume, self.volumes[volume].next_node)
 
     def _each(self, read: Callable[[Version], _Result]) -> Iterator[Tuple[int, _Result]]:
-        """Yields what `read` returns for each volume. An error names its volume, unless it depends only on the call."""
+        """Yields what `read` returns for each volume. An error names its volume, unless the error depends only on the call."""
         for volume, version in enumerate(self.volumes):
             with _of_volume(volume):
                 found = read(version)
@@ -115,7 +116,7 @@ class ShelfVersion(Version):
         return self._some(read, range(len(self.volumes)), limit)
 
     def _some(self, read: Callable[[int, int], List[int]], volumes: Iterable[int], limit: int) -> List[int]:
-        """Reads one volume after another until there are `limit` nodes, and returns these."""
+        """Reads one volume after another until there are `limit` nodes, and returns these nodes."""
         found: List[int] = []
         for volume in volumes:
             if len(found) < limit:
@@ -220,7 +221,7 @@ class ShelfVersion(Version):
         return [explained for _, explained in self._each(lambda version: version.explain(text))][0]
 
     def _indices_in(self) -> Dict[str, Dict[int, Kind]]:
-        """Returns, for each index, the volumes that have it, with its kind in each of them."""
+        """Returns, for each index, the volumes that have the index, with its kind in each volume."""
         found: Dict[str, Dict[int, Kind]] = {}
         for volume, indices in self._each(lambda version: version.indices()):
             for name, kind in indices.items():
@@ -449,7 +450,8 @@ class Shelf(ThreadPass):
         return sum(status.entries for status in self.statuses(tries)), [0] * len(batch)
 
     def _check_kind(self, wanted: MakeIndex) -> None:
-        """Raises `IndexExists` if a volume has the index with a different kind, so that it isn't created in the other volumes either."""
+        """Raises `IndexExists` if a volume has the index with a different kind. In that case, the index isn't created in the other volumes
+        either."""
         for volume, user in enumerate(self._passes):
             with user.pin() as version:
                 kind = version.indices().get(wanted.name)

@@ -26,19 +26,20 @@ from .watches import LocalWatch, Watch
 _Result = TypeVar("_Result")
 
 PASSES = 63
-"""How many passes a store has by default. Each takes about 90 bytes and adds 13 instructions to a write, so 55 passes add 700
-to about 20,000. The cost of a pin doesn't depend on their number."""
+"""The default number of passes in a store. Each pass takes about 90 bytes and adds 13 instructions to a write, so 55 passes add
+700 instructions to about 20,000. The cost of a pin doesn't depend on the number of passes."""
 TRIES = 10_000
-"""How many times a call is tried by default while another pass is writing. That many tries take at least a few seconds."""
+"""The default number of tries for a call while another pass is writing. Making all of them takes at least a few seconds."""
 PAUSES = 50
-"""How many times a write that finds no free page waits for another pass to unpin its snapshot: about 2 seconds in total."""
+"""The number of times that a write waits for another pass to unpin its snapshot when no page is free: about 2 seconds in
+total."""
 ATTEMPTS = 10_000
-"""How many times a change's function may run by default."""
+"""The default limit on how many times a change's function may run."""
 
 
 class Held(NamedTuple):
-    """The oldest active reader: a commit number, and the first pass that is pinned to this commit or a later one, or is
-    about to be pinned."""
+    """The oldest active reader: a commit number, and the first pass that is pinned, or is about to be pinned, to this commit or
+    a later one."""
 
     version: int
     pass_number: int
@@ -49,13 +50,13 @@ class Status(NamedTuple):
 
     pages: int
     free: int
-    """How many pages are available to writes."""
+    """The number of pages that are available to writes."""
     retired: int
-    """How many pages of older versions are kept because a pass may read them."""
+    """The number of pages of older versions that are kept because a pass may read them."""
     entries: int
-    """How many writes the journal contains."""
+    """The number of writes in the journal."""
     commits: int
-    """How many writes it may contain."""
+    """The maximum number of writes in the journal."""
     oldest: Optional[Held]
     """None if no pass is pinned."""
 
@@ -73,7 +74,7 @@ class Entry(NamedTuple):
 
 class StandingBack:
     """Yields to other threads, twice as many times on each call as on the previous one, up to 1,024 times. Without this, two
-    passes that take turns with each write would each wait for what the other has just written."""
+    passes that alternate their writes would each wait for the memory that the other has just written."""
 
     def __init__(self) -> None:
         self._turns = 1
@@ -120,7 +121,7 @@ def pause_at_full(pauses: int) -> None:
 
 class Witness(Owner, ABC):
     """Records what a pass has seen of its store, so that another thread's pass of the same store can join it. `Pass.witness`
-    creates a witness, and `Pass.join` joins it. A witness doesn't hold on to any part of the store."""
+    creates a witness, and `Pass.join` joins it. A witness keeps no part of the store in use."""
 
     @abstractmethod
     def close(self) -> None:
@@ -154,21 +155,21 @@ class Pass(Owner, ABC):
 
     @abstractmethod
     def another(self) -> Pass:
-        """Returns a pass of the same store for another thread. Unused passes belong to the pass that `open` returned, so its
-        thread calls this on behalf of every other thread, before that thread starts. Any pass can hand out a pass that was
-        closed. Raises `NoPass` if no pass is left."""
+        """Returns a pass of the same store for another thread. Unused passes belong to the pass that `open` returned, so the
+        thread of that pass calls this for every other thread before the other thread starts. Any pass can return a pass that
+        was closed. Raises `NoPass` if no pass is left."""
 
     @abstractmethod
     def close(self) -> None:
-        """Closes the pass if it is open, and returns it to the store, so that `another` may hand it out again. The store is
-        freed with its last pass."""
+        """Closes the pass if it is open, and returns it to the store, so that `another` may return it again. The store is freed
+        with its last pass."""
 
     @abstractmethod
     def finish(self) -> str:
         """Closes the store through its last pass, which is then closed, and returns the whole journal, as `journal` does. For
         each pass, the journal contains exactly the writes that its calls committed, at their commit numbers. Raises `InUse` if
-        another pass is open; that is always so for a saved store, which has a pass of its own. May also raise `NoMemory`. After
-        either error, the pass is unchanged."""
+        another pass is open. This is always the case for a saved store, which has a pass of its own. May also raise `NoMemory`.
+        After either error, the pass is unchanged."""
 
     @abstractmethod
     def meet(self) -> int:
@@ -183,8 +184,8 @@ class Pass(Owner, ABC):
     @abstractmethod
     def join(self, witness: Witness) -> int:
         """Joins a witness, after which the pass and the witness have each seen what the other had seen. So each later version
-        of the pass includes everything that the witness's pass had seen, and each later commit number of the pass is greater
-        than those entries' commit numbers. Returns how many journal entries both have seen. Raises `OtherStore` if the witness
+        of the pass includes everything that the witness's pass had seen. Each later commit number of the pass is greater than
+        the commit numbers of those entries. Returns how many journal entries both have seen. Raises `OtherStore` if the witness
         belongs to another store."""
 
     @abstractmethod
@@ -194,14 +195,14 @@ class Pass(Owner, ABC):
 
     @abstractmethod
     def _write(self, batch: Batch, tries: int, expected: Optional[int]) -> Tuple[int, List[int]]:
-        """Writes a batch. If `expected` is given, writes it only if the journal has this many entries. Returns the
+        """Writes a batch. If `expected` is given, writes the batch only if the journal has `expected` entries. Returns the
         commit number and, for each operation, the new node's number or 0."""
 
     @abstractmethod
     def journal(self, tries: int = TRIES) -> str:
         """Returns the journal so far: a line for each write, with the pass that wrote it, its operations and their outcomes.
-        Tries up to `tries` times while another pass is writing. Uses memory for the whole journal, and other writes are `Busy`
-        meanwhile."""
+        Tries up to `tries` times while another pass is writing. Uses memory for the whole journal. In the meantime, other
+        writes raise `Busy`."""
 
     def _write_in(self, volume: int, batch: Batch, tries: int, expected: Optional[int]) -> Tuple[int, List[int]]:
         """Writes a batch to this volume, like `_write`. Raises `NoVolume` if there is no such volume."""
@@ -211,7 +212,7 @@ class Pass(Owner, ABC):
 
     @abstractmethod
     def journal_from(self, number: int = 0, tries: int = TRIES, volume: Optional[int] = None) -> Iterator[Entry]:
-        """Yields the journal entries after the first `number` ones, until there are no more. So
+        """Yields the journal entries after the first `number` entries, until there are no more. So
         `store.journal_from(version.number)` yields what was written after a snapshot. Each entry is read by a separate call,
         which is tried up to `tries` times while another pass is writing, and then raises `Busy`. If there are several volumes,
         reads the journal of `volume`, and raises `NoVolume` if that isn't given."""
@@ -219,16 +220,17 @@ class Pass(Owner, ABC):
     @abstractmethod
     def status(self, tries: int = TRIES) -> Status:
         """Returns how full the store is, and which pass is the oldest active reader. Tries up to `tries` times while another
-        pass is writing. With several volumes, the numbers are sums, and the reader is that of the first volume that has one."""
+        pass is writing. With several volumes, the numbers are sums, and the reader is that of the first volume that has a
+        reader."""
 
     def statuses(self, tries: int = TRIES) -> List[Status]:
         """Returns how full each volume is."""
         return [self.status(tries)]
 
     def reach(self, numbers: Union[int, Sequence[int]], within: float = 5) -> Tuple[int, ...]:
-        """Waits up to `within` seconds until the journal, or each volume's journal, has at least this many entries.
-        Returns how many entries each journal has. Versions that the pass pins from then on include these entries.
-        Raises `NotReached` if the entries aren't there in time."""
+        """Waits up to `within` seconds until the journal, or each volume's journal, has at least the given number of entries.
+        Returns how many entries each journal has. Versions that the pass pins from then on include these entries. Raises
+        `NotReached` if the timeout expires first."""
         wanted = _numbers(numbers, self.volumes)
         until = time.monotonic() + within
         with waiting(self._commits, self.volumes) as waiter:
@@ -256,8 +258,9 @@ class Pass(Owner, ABC):
 
     def change(self, function: Callable[[Change], _Result], attempts: int = ATTEMPTS, *, check_kinds: bool = True,
                tries: int = TRIES, volume: Optional[int] = None) -> _Result:
-        """Makes a write that depends on reads. Runs the function on a new snapshot, and commits the operations that it
-        collected, but only if nothing else has been written since. Otherwise runs the function again, on a newer snapshot.
+        """Makes a write that depends on reads. Runs the function on a new snapshot, and commits the operations that the
+        function collected, but only if nothing else has been written since that snapshot. Otherwise, runs the function again on
+        a newer snapshot.
 
             def file(change):
                 node = change.new()
@@ -267,8 +270,8 @@ class Pass(Owner, ABC):
             node = store.change(file)
 
         Returns what the function's last run returned; `committed` is then the commit number. If the function collects no
-        operation, nothing is written. The function may run up to `attempts` times, so it shouldn't have other effects that
-        mustn't happen twice. If the function raises, nothing is written.
+        operation, nothing is written. The function may run up to `attempts` times, so it shouldn't have other effects that must
+        not be repeated. If the function raises, nothing is written.
 
         With several volumes, a change reads all volumes and writes to one: `volume` if it is given, otherwise the volume of the
         first operation. If the change creates a node before that volume is known, it does so in the volume with the most free
@@ -311,9 +314,9 @@ class Pass(Owner, ABC):
 
     @abstractmethod
     def _commit(self, change: Change) -> int:
-        """Writes what a change has collected, if nothing else has been written to its volume since, and unpins its snapshot.
-        Returns the commit number. Doesn't wait, but raises `Busy` immediately if another pass is writing, and `Full` if no page
-        is free."""
+        """Writes what a change has collected, if nothing else has been written to its volume since its snapshot, and unpins
+        that snapshot. Returns the commit number. Doesn't wait, but raises `Busy` immediately if another pass is writing, and
+        `Full` if no page is free."""
 
     def _run(self, function: Callable[[Change], _Result], change: Change) -> _Result:
         """Runs a change's function."""
@@ -324,12 +327,12 @@ class Pass(Owner, ABC):
             self._is_changing = False
 
     def _may_be_given_pages(self, error: Full) -> bool:
-        """Returns whether pages may become free for a write that found none, because another pass can still unpin its snapshot."""
+        """Returns whether pages may become free for a write that found no free page, because another pass can still unpin its snapshot."""
         return False
 
     def apply(self, batch: Batch, tries: int = TRIES, volume: Optional[int] = None) -> Tuple[int, List[int]]:
-        """Applies all operations of a batch or none, whatever other passes have written meanwhile. Returns the commit number
-        and, for each operation, the new node's number or 0. For a write that depends on reads, use `change`.
+        """Applies all operations of a batch or none, whatever other passes have written in the meantime. Returns the commit
+        number and, for each operation, the new node's number or 0. For a write that depends on reads, use `change`.
 
         While another pass is writing, the call is tried up to `tries` times. With more than one try, it also waits up to about
         five seconds on `Full` while another pass has the oldest snapshot. Uses memory for the operations, and new pages on the
@@ -338,8 +341,8 @@ class Pass(Owner, ABC):
         With several volumes the batch is written to one of them: `volume` if it is given, otherwise the volume of the nodes
         that the batch names, otherwise the volume with the most free pages. The commit number is that volume's. A batch with
         only `make_index` and `remove_index` operations is written to one volume after another: to each that lacks the index to
-        create, or has the index to remove. If a volume refuses the batch, the volumes before it have already been written, and
-        applying the same batch again writes the others. For such a batch, the commit number is the sum of the volumes' numbers.
+        create, or has the index to remove. If a volume refuses the batch, the earlier volumes have already been written.
+        Applying the same batch again writes the others. For such a batch, the commit number is the sum of the volumes' numbers.
 
         Raises `Busy`, `BadCount` or `NoMemory`; `NameLength`, `DataLength`, `HasNul`, `NotUTF8`, `NoKind` or `NoValue`, with
         the first invalid operation; `NoNode`, `NoAttribute`, `TooManyAttributes`, `IndexExists`, `NoIndex`, `TooManyIndices` or
@@ -419,8 +422,8 @@ class Pass(Owner, ABC):
         self.apply(Batch().remove_index(name))
 
     def reindex(self, name: str) -> int:
-        """Adds attributes to the index with this name that were set before it was created, by setting them to the same values
-        again. Each change sets up to 64 attributes, so no newer value is lost. Returns how many attributes were set. Raises
+        """Adds the attributes that were set before the index with this name was created, by setting them again to the same
+        values. Each change sets up to 64 attributes, so no newer value is lost. Returns how many attributes were set. Raises
         `NoIndex` if there is no such index; other errors are those of `change`. Reads every node, and writes each of these
         attributes."""
         with self.pin() as version:

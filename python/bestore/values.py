@@ -96,7 +96,7 @@ Encoded = Tuple[Kind, int, bytes]
 
 
 def plain(value: SupportsIndex) -> int:
-    """Returns an integer as a plain int, because `in` searches a range number by number for an int of another class."""
+    """Returns an integer as a plain int. For an int of another class, `in` would search a range number by number."""
     return int(operator.index(value))
 
 
@@ -117,7 +117,7 @@ def encode_value(value: Value, kind: Optional[int] = None) -> Encoded:
 
 
 def _number(value: SupportsIndex) -> int:
-    """Returns a value as a number. Raises a TypeError if it isn't a number. A bool is refused, because it would be read back as 0 or 1."""
+    """Returns a value as a number. Raises a TypeError if it isn't a number. A bool is refused, because a later read would return 0 or 1."""
     if isinstance(value, bool):
         raise TypeError(f"{value} isn't an attribute's value: write int({value}), which is {int(value)}, or a string")
     try:

@@ -41,18 +41,18 @@ def not_covered(asked: Query, indices: Iterable[str]) -> NotCovered:
 
 
 class Version(ABC):
-    """A snapshot: the store as it was when the pass was pinned, whatever is written meanwhile. A version can be read until it
-    is unpinned, which happens at the end of a `with` block, by `unpin`, or when the object is destroyed. After that, each read
-    raises `NotPinned`. `version[node]` returns a node's attributes, `node in version` says whether the node exists, and `for
-    node in version` iterates over all nodes. While a version is pinned, the store keeps the version's pages, so unpin it
-    soon."""
+    """A snapshot: the store as it was when the pass was pinned, whatever is written in the meantime. A version can be read
+    until it is unpinned, which happens at the end of a `with` block, by `unpin`, or when the object is destroyed. After that,
+    each read raises `NotPinned`. `version[node]` returns a node's attributes, `node in version` says whether the node exists,
+    and `for node in version` iterates over all nodes. While a version is pinned, the store keeps the version's pages, so unpin
+    the version soon."""
 
     _shown: ClassVar[str] = "version"
 
     @property
     @abstractmethod
     def number(self) -> int:
-        """The commit number of the last write that the version includes, which is also the number of writes that it includes."""
+        """The commit number of the last write that the version includes. This is also the number of writes that it includes."""
 
     @property
     def numbers(self) -> Tuple[int, ...]:
@@ -81,7 +81,7 @@ class Version(ABC):
     @property
     @abstractmethod
     def next_node(self) -> int:
-        """The number that the next new node gets, if no other write comes first."""
+        """The number that the next new node gets, unless another write comes first."""
 
     def _next_in(self, volume: int) -> int:
         """Returns the number that the next new node in a volume gets. Raises `NoVolume` if there is no such volume."""
@@ -232,7 +232,8 @@ class Version(ABC):
         return self._part_of(prepared, by=by, descending=descending, limit=limit, after=after, start=start)
 
     def count(self, query: Union[str, Prepared]) -> int:
-        """Returns how many nodes match the query, given as text or prepared. Costs as much as the query, but builds no list."""
+        """Returns how many nodes match the query, given as text or prepared. The cost is that of the query, but no list is
+        built."""
         return self._count_of(query)
 
     def pairs(self, name: str) -> int:
@@ -250,19 +251,19 @@ class Version(ABC):
     def refresh(self, prepared: Prepared) -> Tuple[List[int], List[int]]:
         """Returns the nodes that joined the answer and those that left it since the prepared query was last refreshed, as two
         lists in ascending order. The first time, all nodes that match the query join. Refresh a query only in versions of the
-        same store, or of a store to which that store's state was carried over, because nodes are compared by number. After an
-        error the query is unchanged. Runs the whole query and takes no lock, so it never makes another pass's write `Busy`."""
+        same store, or of a store into which that store's state was copied, because nodes are compared by number. After an
+        error, the query is unchanged. Runs the whole query and takes no lock, so it never makes another pass's write `Busy`."""
 
     def refresh_changed(self, prepared: Prepared) -> Tuple[List[int], List[int]]:
         """Returns the same as `refresh`. In a store in this process, it reads what was written since the last refresh and
         checks only the nodes that were written, so it takes less time if the answer has 96 nodes or more and few nodes were
-        written. Other passes' writes are `Busy` meanwhile. Otherwise, and in a shelf or a server's store, it runs the whole
-        query."""
+        written. In the meantime, other passes' writes raise `Busy`. Otherwise, and in a shelf or a server's store, it runs the
+        whole query."""
         return self.refresh(prepared)
 
     @abstractmethod
     def explain(self, text: str) -> str:
-        """Returns how the query would be run: the comparisons whose indices would be read, and a cost. Reads no nodes. The
+        """Returns how the query would be run: the comparisons for which an index would be read, and a cost. Reads no nodes. The
         errors are those of `query`."""
 
     @overload
@@ -326,7 +327,7 @@ class Version(ABC):
 
     def columns(self, nodes: Iterable[int], names: Iterable[str]) -> List[List[Optional[Value]]]:
         """Returns several attributes of many nodes, with a list for each name as in `column`. Takes less time than calling
-        `column` for each name, because it reads node by node. With a server, one round trip can carry a few thousand nodes with
+        `column` for each name, because it reads node by node. With a server, one round trip can read a few thousand nodes with
         five attributes each."""
         read = list(nodes)
         return [self.column(read, name) for name in names]
@@ -342,7 +343,7 @@ class Version(ABC):
              descending: bool = False, after: After = None) -> List[Row]:
         """Returns up to `most` nodes that match the query, in ascending order and beginning with the number `first`, each with
         its values for these names. A row is a pair of a node and a list of values, with None for each missing attribute. Takes
-        as long as the query, plus one tree search per value. With a server, the call takes a round trip for every few thousand
+        the time of the query, plus one tree search per value. With a server, the call takes a round trip for every few thousand
         rows, and allows up to 64 names. With `by`, returns a `Page` of rows, with the nodes that `query` returns for the same
         `by`, `descending` and `after`."""
         if by is not None:
@@ -376,7 +377,7 @@ class Version(ABC):
         return self.nodes(node, 1) == [node]
 
     def nodes(self, first: int = 0, most: int = 1024) -> List[int]:
-        """Returns up to `most` nodes whose numbers are `first` or greater, in ascending order, whatever attributes they have."""
+        """Returns up to `most` nodes whose numbers are `first` or greater, in ascending order. Nodes without attributes are included."""
         if most < 0:
             raise ValueError(f"can't return {most} nodes; ask for 0 or more")
         first = max(operator.index(first), 0)

@@ -37,7 +37,8 @@ class Watch(ABC):
         self.query = query
         """The query's text, or None if every commit is watched."""
         self.commit = 0
-        """The commit number of the snapshot that the returned changes lead to, which is initially that of the first answer."""
+        """The commit number of the snapshot that the returned changes lead to. Initially, this is the snapshot of the first
+        answer."""
 
     def __repr__(self) -> str:
         return f"<watch of {self.query or 'each commit'} at commit {self.commit}>"
@@ -70,9 +71,9 @@ class Watch(ABC):
 
 
 class LocalWatch(Watch):
-    """A watch on a store in this process. A pass that writes wakes the waiting threads, so nothing polls. Each check pins the
-    pass, and raises `Pinned` if the pass is already pinned. It runs the query with `Version.refresh_changed`, because little is
-    written between two checks."""
+    """A watch on a store in this process. A pass that writes wakes the waiting threads, so no thread polls. Each check pins the
+    pass, and raises `Pinned` if the pass is already pinned. The check runs the query with `Version.refresh_changed`, because
+    little is written between two checks."""
 
     def __init__(self, user: Pass, query: Optional[str]) -> None:
         super().__init__(query)

@@ -1,4 +1,5 @@
-"""A query window: finds nodes in a store by their attributes, as BeOS's Tracker did, and follows them as they join and leave.
+"""A query window, which finds nodes in a store by their attributes, as BeOS's Tracker did, and follows them as they join and
+leave the answer.
 
     python3 -m bestore_queries --help
 

@@ -32,7 +32,7 @@ class Begin(NamedTuple):
 
     order: Order
     most: int
-    """How many of them: the visible ones and a few more."""
+    """The number of hits to report: the visible hits and a few more."""
 
 
 class Sort(NamedTuple):
@@ -55,13 +55,13 @@ class Ask(NamedTuple):
 
 
 class Write(NamedTuple):
-    """A request: set an attribute, or remove it if the text is empty."""
+    """A request: set an attribute, or remove the attribute if the text is empty."""
 
     node: Node
     name: str
     text: str
     shown: Optional[bestore.Value]
-    """The value that the window shows. If the store has a different value by now, nothing is written."""
+    """The value that the window shows. If the store now has a different value, nothing is written."""
 
 
 class Opened(NamedTuple):
@@ -71,7 +71,7 @@ class Opened(NamedTuple):
 
 
 class Lost(NamedTuple):
-    """A report: the store isn't available. It will be reopened as soon as it is back."""
+    """A report: the store isn't available. It will be reopened as soon as it is available again."""
 
     reason: str
 
@@ -84,7 +84,7 @@ class Accepted(NamedTuple):
 
 
 class Refused(NamedTuple):
-    """A report: the query isn't being followed, or is no longer."""
+    """A report: the query isn't being followed, or is no longer being followed."""
 
     turn: int
     error: bestore.Error
@@ -121,7 +121,8 @@ class Went(NamedTuple):
 
 
 class Counted(NamedTuple):
-    """A report: how many hits there are, how many of them haven't been read yet, and how many nodes a query could find."""
+    """A report: the number of hits, the number of hits that haven't been read yet, and the number of nodes that a query could
+    find."""
 
     turn: int
     hits: int
@@ -130,7 +131,7 @@ class Counted(NamedTuple):
 
 
 class Written(NamedTuple):
-    """A report: the write was made, or the reason why it wasn't."""
+    """A report: the write was made, or the reason why the write failed."""
 
     write: Write
     fault: Optional[str]
@@ -144,7 +145,8 @@ class NotWritten(Exception):
 
 
 class _Following:
-    """A query being followed: its hits, the hits that haven't been read yet, and the snapshot up to which they are known."""
+    """A query being followed: its hits, the hits that haven't been read yet, and the last snapshot for which the hits are
+    known."""
 
     def __init__(self, ask: Ask, live: LiveAnswer) -> None:
         self.ask, self.live = ask, live
@@ -177,7 +179,7 @@ class _Following:
         self.reported.update(self._ahead)
 
     def reports(self, hits: List[Hit]) -> List[Report]:
-        """Returns what there is to report now that these hits have been read. Hits that left come first, because one of them
+        """Returns the reports that are due now that these hits have been read. Hits that left come first, because one of them
         may have returned."""
         turn, gone, self.gone = self.ask.turn, self.gone, []
         for hit in hits:
@@ -212,7 +214,7 @@ class _Requests:
         self._is_ended = False
 
     def put(self, request: Union[Ask, Sort, Write, None]) -> None:
-        """Adds a request; None ends the requests."""
+        """Enqueues a request. None ends the requests."""
         with self._came:
             if isinstance(request, Ask):
                 self._ask, self._sort = request, None
@@ -225,7 +227,7 @@ class _Requests:
             self._came.notify()
 
     def put_back(self, write: Write) -> None:
-        """Puts back a write that wasn't made, so that it comes next."""
+        """Requeues a write that wasn't made, at the front of the queue."""
         with self._came:
             self._writes.appendleft(write)
 
@@ -235,19 +237,19 @@ class _Requests:
             self._came.wait_for(lambda: self._ask or self._sort or self._writes or self._is_ended, timeout)
 
     def take_ask(self) -> Optional[Ask]:
-        """Takes the query, if there is one."""
+        """Removes and returns the query, if there is one."""
         with self._came:
             ask, self._ask = self._ask, None
             return ask
 
     def take_sort(self) -> Optional[Sort]:
-        """Takes the order whose first hits are requested, if there is one."""
+        """Removes and returns the order whose first hits are requested, if there is one."""
         with self._came:
             sort, self._sort = self._sort, None
             return sort
 
     def take_write(self) -> Optional[Write]:
-        """Takes the first write, if there is one."""
+        """Removes and returns the first write, if there is one."""
         with self._came:
             return self._writes.popleft() if self._writes else None
 
@@ -328,15 +330,15 @@ class Asker(threading.Thread):
                 self._step(session, self._following)
 
     def _check_store(self, store: str) -> None:
-        """Refuses the pending writes if their nodes belong to another store."""
+        """Rejects the pending writes if their nodes belong to another store."""
         if self._store not in (None, store):
             for write in iter(self._requests.take_write, None):
                 self._report(Written(write, "there is a different store now"))
         self._store = store
 
     def _ask(self, session: Session, ask: Ask) -> None:
-        """Follows a query in place of the previous one. That one may have many hits, so they are freed only after the new
-        query's first hits have been reported."""
+        """Follows a query instead of the previous query. The previous query may have many hits, which are freed only after the
+        new query's first hits have been reported."""
         try:
             first = self._report_first(session, ask, ask.begin)
             self._follow_nothing()
@@ -365,8 +367,8 @@ class Asker(threading.Thread):
             self._has_news = True
 
     def _report_first(self, session: Session, ask: Ask, begin: Optional[Begin]) -> List[Hit]:
-        """Reads and reports the first hits in an order. After an error it reports none, and the window sorts all hits once it
-        has them."""
+        """Reads and reports the first hits in an order. After an error, no hits are reported, and the window sorts all hits
+        once it has received them."""
         if begin is None:
             return []
         names, (by, descending), hits = _names(ask), begin.order, []  # type: List[str], Order, List[Hit]
@@ -401,7 +403,7 @@ class Asker(threading.Thread):
             self._report(*reports)
 
     def _follow(self, session: Session, following: _Following, version: bestore.Version) -> List[Report]:
-        """Returns what there is to report from a snapshot. If this raises, the next call reports it again."""
+        """Returns the reports that are due from a snapshot. If this raises, the next call returns the same reports again."""
         turn = following.ask.turn
         if version.numbers != following.seen:
             following.refresh(version, self._changed(session, following, version))
@@ -415,8 +417,8 @@ class Asker(threading.Thread):
         return [*reports, Counted(turn, len(following.known), len(following.waiting), count)]
 
     def _changed(self, session: Session, following: _Following, version: bestore.Version) -> Iterable[Node]:
-        """Returns the hits whose attributes were set since the last snapshot. If a folder's attributes were set, any hit may be in that
-        folder."""
+        """Returns the hits whose attributes were set since the last snapshot. If a folder's attributes were set, any hit may be
+        affected, because it may be in that folder."""
         if following.seen is None or not following.known:
             return []
         written = session.written(following.seen, version)
@@ -437,7 +439,7 @@ class Asker(threading.Thread):
         return Hit(node, attributes)
 
     def _count(self, version: bestore.Version) -> int:
-        """Returns how many nodes a query could find. They are counted only now and then."""
+        """Returns how many nodes a query could find. The nodes are counted only at intervals."""
         if time.monotonic() >= self._counted_at + COUNTING:
             everything = find.everything(self._indices)
             self._all = version.count(everything) if everything else 0
@@ -445,7 +447,7 @@ class Asker(threading.Thread):
         return self._all
 
     def _write(self, session: Session, write: Write) -> None:
-        """Makes a write. If the store becomes unavailable first, the write waits until the store is back."""
+        """Makes a write. If the store becomes unavailable first, the write waits until the store is available again."""
         fault: Optional[str] = None
         try:
             session.user.change(lambda change: self._set(change, write))

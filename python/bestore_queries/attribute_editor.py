@@ -54,7 +54,7 @@ class AttributeEditor:
         return "" if self.entry is None else self.entry.get()
 
     def move(self, box: Optional[Box]) -> None:
-        """Follows the cell. Without a box, the cell isn't visible."""
+        """Follows the cell. If there is no box, the cell isn't visible."""
         if self.entry is None:
             return
         if box is None:

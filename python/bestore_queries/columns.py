@@ -15,9 +15,9 @@ from . import dates
 MAIL_TYPE = "text/x-email"
 FOLDER_TYPE = "application/x-vnd.Be-directory"
 HIDDEN = frozenset({"FILE:parent", "FILE:root", "FILE:name", "FILE:stat", "FILE:xattrs"})
-"""The attributes by which an import recognises files. They are of no interest to users."""
+"""The attributes by which an import recognises files. Users don't need to see these attributes."""
 OF_FILES = HIDDEN | {"name", "size", "last_modified", "created", "folder", "path"}
-"""The attributes that the file itself determines. The window doesn't edit them."""
+"""The attributes that the file itself determines. The window doesn't edit these attributes."""
 
 _TIME = re.compile(r"(?:.*[_:])?(?:modified|created|changed|when|date|time)", re.IGNORECASE)
 

@@ -98,7 +98,8 @@ def _start_of(unit: str, at: datetime) -> datetime:
 
 
 def _moved(at: datetime, unit: str, count: int) -> datetime:
-    """Returns the time this many units later. A day past the end of its month becomes the month's last day."""
+    """Returns the time that is the given number of units later. A day past the end of its month becomes the month's last
+    day."""
     if unit in ("month", "year"):
         months = at.year * 12 + at.month - 1 + count * (12 if unit == "year" else 1)
         year, month = divmod(months, 12)
@@ -123,7 +124,7 @@ def _word(words: str, now: datetime) -> Optional[_Moment]:
 
 
 def _ago(words: str, now: datetime) -> Optional[_Moment]:
-    """Parses "2 days ago", which means that moment rather than the whole day."""
+    """Parses text such as "2 days ago", which means that moment rather than the whole day."""
     found = _AGO.fullmatch(words)
     if found is None:
         return None
@@ -166,7 +167,7 @@ def _dotted(words: str, now: datetime) -> Optional[_Moment]:
 
 
 def _named(words: str, now: datetime) -> Optional[_Moment]:
-    """Parses 31 Jan 2024, Jan 31, 2024, Jan 2024 and 31 Jan. Without a year, it means the last such date up to today."""
+    """Parses 31 Jan 2024, Jan 31, 2024, Jan 2024 and 31 Jan. Without a year, the text means the last such date up to today."""
     found = _NAMED.fullmatch(words)
     if found is None:
         return None

@@ -17,7 +17,7 @@ INDICES = {
     "MAIL:when": bestore.INT64, "MAIL:status": bestore.STRING,
 }
 RESERVE = 48
-"""Pages of a volume that new files may not use, so that files can still be changed and removed."""
+"""The number of pages in a volume that new files must not use, so that files can still be changed and removed."""
 
 
 def type_of(name: str) -> str:
@@ -27,7 +27,8 @@ def type_of(name: str) -> str:
 
 
 def files_below(folder: str) -> Iterator[os.DirEntry[str]]:
-    """Yields the files in a folder and its subfolders. Skips anything that disappears in the meantime or may not be read."""
+    """Yields the files in a folder and its subfolders. Skips files that disappear in the meantime, and files that this process
+    may not read."""
     waiting = [folder]
     while waiting:
         try:
@@ -47,20 +48,20 @@ class Known(NamedTuple):
     node: int
     size: int
     changed: int
-    """When the file changed, in nanoseconds since 1970."""
+    """The time when the file was last changed, in nanoseconds since 1970."""
 
 
 class Waiting(NamedTuple):
-    """A file to write, or a file that is gone."""
+    """A file to write, or a file that no longer exists."""
 
     path: str
     values: Dict[str, bestore.Value]
     about: Optional[os.stat_result]
-    """None if the file is gone."""
+    """None if the file no longer exists."""
 
     @property
     def operations(self) -> int:
-        """The maximum number of operations that the file takes."""
+        """The maximum number of operations needed for the file."""
         return len(self.values) + 1
 
 
@@ -77,9 +78,9 @@ class FolderReader(threading.Thread):
         self._is_full = False  # whether a file didn't fit in this round
         self._counted = 0
         self.rounds = 0
-        """How many times the whole folder has been read."""
+        """The number of times that the whole folder has been read."""
         self.left_out = 0
-        """How many files the store had no room for."""
+        """The number of files that didn't fit in the store."""
         self.is_gone = False
         """Whether the folder can't be read. Its files' nodes are kept."""
         self.fault: Optional[BaseException] = None
@@ -146,7 +147,7 @@ class FolderReader(threading.Thread):
         return values
 
     def _wait(self, file: Waiting) -> None:
-        """Queues the file until there are enough files for a change."""
+        """Queues the file until enough files are queued for a change."""
         if sum(it.operations for it in [*self._waiting, file]) > bestore.MOST_OPERATIONS:
             self._write()
         self._waiting.append(file)
@@ -165,8 +166,8 @@ class FolderReader(threading.Thread):
             self._remove([file for file in files if file.about is None])
 
     def _remove(self, gone: List[Waiting]) -> None:
-        """Removes files from a full store. Removing takes pages too, so if necessary it removes fewer files at a time. A file
-        that can't be removed now is removed in a later round."""
+        """Removes files from a full store. Removing files also takes pages, so if necessary, fewer files are removed at a time.
+        A file that can't be removed now is removed in a later round."""
         try:
             self._commit(gone)
         except bestore.Full:

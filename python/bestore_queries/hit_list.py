@@ -1,4 +1,4 @@
-"""The list of hits. The widget contains only the visible rows, so a million hits take no longer than ten."""
+"""The list of hits. The widget contains only the visible rows, so showing a million hits takes no longer than showing ten."""
 
 from __future__ import annotations
 
@@ -90,7 +90,7 @@ class HitList(tk.Frame):
 
     @property
     def room(self) -> int:
-        """How many hits are visible at a time."""
+        """The number of hits that are visible at a time."""
         return self._room
 
     def show_columns(self, shown: List[Column]) -> None:
@@ -272,7 +272,7 @@ class HitList(tk.Frame):
         self._edit_later = ""
 
     def _steps_of(self, key: str) -> int:
-        """Returns how many positions a key moves by."""
+        """Returns the number of positions that a key moves by."""
         return {"Up": -1, "Down": 1, "Prior": -self._room, "Next": self._room, "Home": -len(self._hits)}.get(key, len(self._hits))
 
     def _move(self, steps: int, extends: bool) -> str:
@@ -296,7 +296,7 @@ class HitList(tk.Frame):
         return "break"
 
     def edit(self) -> str:
-        """Edits an attribute of the current hit: the clicked attribute, or otherwise the first that can be edited."""
+        """Edits an attribute of the current hit: the clicked attribute, or otherwise the first attribute that can be edited."""
         self._cancel_edit()
         place = self.selection.cursor
         can = [column for column in self.columns if column.is_edited]
@@ -330,7 +330,7 @@ class HitList(tk.Frame):
         return None if self.editor.cell is None else self._box(self.editor.cell)
 
     def _box(self, cell: Cell) -> Optional[Box]:
-        """Returns the area where a cell is visible, or None if it isn't."""
+        """Returns the area where a cell is visible, or None if the cell isn't visible."""
         place = self._hits.place_of(cell.node)
         if place is None or not self._top <= place < self._top + len(self._painted):
             return None

@@ -12,7 +12,7 @@ import bestore
 from bestore.connected import SocketPath
 
 PATIENCE = 10.0
-"""How many seconds a server may take to start listening."""
+"""The number of seconds that a server may take to start listening."""
 
 
 class CannotStart(Exception):

@@ -9,17 +9,19 @@ import tkinter as tk
 from typing import Iterator
 
 SWITCH = 0.0005
-"""Seconds after which a thread lets another one run. The window calls Tk often, and has to wait for its turn each time."""
+"""The number of seconds after which a thread lets another thread run. The window calls Tk often, and must wait for its turn
+each time."""
 LOOK = 1_000
-"""Milliseconds between garbage collections."""
+"""The number of milliseconds between garbage collections."""
 MANY = 50_000
-"""With more new objects than this, nothing is collected: most are hits, which have no cycles and are never examined."""
+"""If there are more new objects than this, nothing is collected: most of them are hits, which have no cycles and are never
+examined."""
 
 
 @contextlib.contextmanager
 def short_pauses(root: tk.Tk) -> Iterator[None]:
-    """During the `with` block, threads take turns quickly, and the garbage collector examines only new objects. Otherwise, the
-    more hits there were, the longer it would take."""
+    """During the `with` block, threads take turns quickly, and the garbage collector examines only new objects. Otherwise, a
+    collection would take longer the more hits there were."""
     before = sys.getswitchinterval()
     sys.setswitchinterval(SWITCH)
     gc.disable()

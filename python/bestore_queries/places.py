@@ -46,7 +46,7 @@ class Places:
 
 
 def _decoded(value: Optional[bestore.Value]) -> Optional[str]:
-    """Converts a path or a name to the form that system calls accept. Its bytes don't have to be valid text."""
+    """Converts a path or a name to the form that system calls accept. The bytes need not be valid text."""
     if value is None or isinstance(value, int):
         return None
     return os.fsdecode(value)

@@ -1,4 +1,4 @@
-"""Which hits in a list are selected. They are remembered by node, so the selection is preserved when the list changes."""
+"""Which hits in a list are selected. The selection is stored by node, so it is preserved when the list changes."""
 
 from __future__ import annotations
 

@@ -1,4 +1,4 @@
-"""A query's hits in order. A new hit is inserted at its position. Re-sorting is split into steps, so that none takes long
+"""A query's hits in order. A new hit is inserted at its position. Re-sorting is split into steps, so that each step is short
 however many hits there are."""
 
 from __future__ import annotations
@@ -12,7 +12,7 @@ import bestore
 
 Node = int
 CHUNK = 1_000
-"""How many hits are sorted per step."""
+"""The number of hits that are sorted in each step."""
 
 
 class Hit(NamedTuple):
@@ -70,7 +70,7 @@ class _Sorting:
         self._lacking: List[Node] = []
         self._has_read_all = False
         self.touched: Dict[Node, Optional[Hit]] = {}
-        """The hits that joined, changed or left meanwhile, as they were at the beginning, or None for those that weren't there."""
+        """The hits that joined, changed or left in the meantime, as they were at the beginning, or None for hits that didn't exist then."""
 
     def step(self) -> Optional[_Listed]:
         """Continues sorting. Returns the hits once they are sorted."""

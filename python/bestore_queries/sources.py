@@ -36,7 +36,7 @@ class LiveAnswer(ABC):
 
     @abstractmethod
     def refresh(self, version: bestore.Version) -> Tuple[List[Node], List[Node]]:
-        """Returns the nodes that joined and those that left between the last call and this version. The first time, all nodes join."""
+        """Returns the nodes that joined and the nodes that left between the last call and this version. The first time, all nodes join."""
 
     @abstractmethod
     def close(self) -> None:
@@ -97,7 +97,7 @@ class Source(ABC):
         """The source's current state."""
 
     def close(self) -> None:
-        """Ends whatever belongs to this window only."""
+        """Ends everything that belongs only to this window."""
 
 
 class _Prepared(LiveAnswer):
@@ -155,15 +155,16 @@ class _ServerSession(Session):
 
 
 def size_for(files: int) -> Tuple[int, int]:
-    """Returns how many volumes a store needs for this many files plus some growth, and how many pages each volume needs."""
+    """Returns the number of volumes that a store needs for a number of files plus some growth, and the number of pages that
+    each volume needs."""
     pages = 4096 + math.ceil(files * PAGES_OF_A_FILE * GROWTH)
     volumes = min(math.ceil(pages / MOST_PAGES), MOST_VOLUMES)
     return volumes, min(math.ceil(pages / volumes), MOST_PAGES)
 
 
 class FolderSource(Source):
-    """A store in this process with a folder's files. It is created when it is first opened, with room for the files that exist
-    then."""
+    """A store in this process with a folder's files. The store is created when it is first opened, with room for the files that
+    exist then."""
 
     def __init__(self, folder: str, pages: Optional[int] = None, pause: float = 1.0) -> None:
         self.title, self._folder, self._pages, self._pause = folder, folder, pages, pause

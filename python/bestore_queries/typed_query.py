@@ -26,7 +26,7 @@ _NO_DATE = re.compile(r"(?!(?:19|20|21)[0-9]{2}$)-?[0-9]+", re.ASCII)  # an inte
 
 
 class Fault(NamedTuple):
-    """What is wrong with a query, and at which typed character, if known."""
+    """What is wrong with a query, and the typed character where the error is, if known."""
 
     message: str
     column: Optional[int] = None
@@ -174,7 +174,7 @@ def _not_covered(error: bestore.NotCovered, query: TypedQuery, indices: Mapping[
 
 
 def _missing(typed: str, place: Optional[int]) -> str:
-    """Says what is missing or superfluous at this character."""
+    """Describes what is missing or superfluous at this character."""
     column = len(typed) if place is None else place
     before = [token for token in _tokens(typed) if token.end <= column]
     last = before[-1] if before else None
@@ -205,8 +205,8 @@ def _open_quote(typed: str) -> bool:
 
 
 def lines_of(fault: Fault, typed: str, width: int) -> List[str]:
-    """Formats a fault in lines of up to this many columns: what is wrong, and the typed text with a caret below the position.
-    If the typed text is wider, only the part around the position is shown."""
+    """Formats a fault in lines that fit in the given number of columns. The lines say what is wrong, and show the typed text
+    with a caret below the position. If the typed text doesn't fit, only the part around the position is shown."""
     message = fault.message[:1].upper() + fault.message[1:]
     lines = [shortened(message, width)]
     if fault.column is not None:
@@ -215,7 +215,7 @@ def lines_of(fault: Fault, typed: str, width: int) -> List[str]:
 
 
 def shortened(line: str, width: int) -> str:
-    """Returns as much of a line as fits."""
+    """Returns the part of a line that fits."""
     if columns_of(line) <= width:
         return line
     while line and columns_of(line) > width - 1:

@@ -177,7 +177,7 @@ class Window:
         self._ask()
 
     def sort(self, column: Column) -> None:
-        """Sorts the hits by a column from now on, or reverses the order if they are already sorted by it."""
+        """From now on, sorts the hits by a column, or reverses the order if the hits are already sorted by that column."""
         is_turned = self.hits.attribute == column.attribute and not self.hits.will_be_turned
         self.hits.sort(column.attribute, is_turned)
         begin = self._begin()
@@ -188,8 +188,8 @@ class Window:
         self.list.paint()
 
     def _begin(self) -> Optional[Begin]:
-        """Returns which hits the list begins with, if an index provides its order: the visible ones and one more page. An index
-        of strings doesn't, because the list ignores case."""
+        """Returns which hits the list begins with, if an index provides the list's order: the visible hits and one more page.
+        An index of strings doesn't provide that order, because the list ignores case."""
         attribute = self.hits.attribute
         if not columns.is_number(self._indices.get(attribute)):
             return None
@@ -336,7 +336,7 @@ class Window:
         self.list.clear()
 
     def _refuse(self, report: Refused) -> None:
-        """Shows that the query isn't being followed, so the list isn't its answer."""
+        """Shows that the query isn't being followed, so the list isn't the query's answer."""
         self._take_nothing()
         self._take_indices(report.indices)
         self._fault = typed_query.fault_of(report.error, self._typed, report.indices)
@@ -373,12 +373,13 @@ class Window:
         self.attribute_menu.offer([it for it in names if it not in columns.HIDDEN], [it.attribute for it in self._columns()])
 
     def _width(self) -> int:
-        """How many characters fit on a line below the query."""
+        """The number of characters that fit on a line below the query."""
         room = self.message.winfo_width() - 2 * int(str(self.message["padx"]))
         return max(room // tkinter.font.nametofont("TkFixedFont").measure("0"), 20)
 
     def _tell_query(self) -> None:
-        """Shows what is wrong with the query or what it can't find, or otherwise the dates that it contains."""
+        """Shows what is wrong with the query or what the query can't find. If nothing is wrong, shows the dates that the query
+        contains."""
         width = self._width()
         if self._fault is not None:
             lines = typed_query.lines_of(self._fault, self._query.get(), width)

@@ -145,7 +145,7 @@ pub enum Error {
     Unexpected {
         /// The error's number in `bestore.h`.
         code: u32,
-        /// The number that comes with the error.
+        /// The number reported with the error.
         carried: u64,
     },
 }
@@ -432,7 +432,7 @@ impl QueryError {
         }
     }
 
-    /// Returns the same error, with the name that has no index and the byte at which it begins.
+    /// Returns the same error, with the name that has no index and the name's byte offset.
     #[must_use]
     pub fn with_missing(self, name: String, offset: usize) -> Self {
         Self {

@@ -2,7 +2,7 @@
 //!
 //! A [`Store`] holds numbered nodes with typed attributes. A [`Pass`] is one thread's handle to it: it writes transactions, and pins a
 //! [`Snapshot`] in which to read and run queries. Readers take no locks, and a snapshot doesn't change while others write. This crate is
-//! built on the library libbestore, whose functions are proved to do what their contracts say.
+//! built on the library libbestore, whose functions are formally verified against their contracts.
 //!
 //! ```
 //! use bestore::{Kind, Limits, Store};

@@ -32,7 +32,7 @@ pub(crate) const FORKED: u32 = u32::MAX;
 /// The maximum number of bytes in the names and values of a batch.
 const BYTES: usize = OPERATIONS * (63 + 255);
 
-/// A code other than `BES_OK`, and the number that comes with it.
+/// A code other than `BES_OK`, and the number reported with it.
 #[derive(Clone, Copy, Debug, PartialEq, Eq)]
 pub(crate) struct Refused {
     pub(crate) code: u32,

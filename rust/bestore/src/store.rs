@@ -146,7 +146,8 @@ impl Store {
 
     /// Frees the memory of the journal so far, which would otherwise grow forever. It copies the current snapshot into a new store of the
     /// underlying library, adds the writes made in the meantime, and switches to it. During the switch, writers wait for a moment. Pinned
-    /// snapshots don't change, commit numbers and node numbers continue, and [`Pass::journal_from`] returns the entries since then.
+    /// snapshots don't change, commit numbers and node numbers continue, and [`Pass::journal_from`] returns the entries made since that
+    /// snapshot.
     ///
     /// This needs memory for all pages a second time, and the time to [copy](Self::copy_state) and write the state. The old memory is freed
     /// once every pass has called [`Pass::pin`] or [`Pass::follow`].

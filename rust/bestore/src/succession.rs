@@ -1,9 +1,9 @@
 //! Carrying on a store in another store of the library, which frees the memory of its journal.
 //!
-//! The library keeps a store's whole journal. So a second store of the library is built from a snapshot and the entries since then, and
-//! replaces the first: one *generation* follows another. Each pass takes a seat in the new generation when it next writes or pins. A pass
-//! that is reading a snapshot keeps it, and the first store's memory is freed with the last seat in it. Commit numbers continue: each
-//! generation knows what to add to the numbers that its own store of the library uses.
+//! The library keeps a store's whole journal. So a second store of the library is built from a snapshot and the entries made since that
+//! snapshot, and replaces the first: one *generation* follows another. Each pass takes a seat in the new generation when it next writes or
+//! pins. A pass that is reading a snapshot keeps it, and the first store's memory is freed with the last seat in it. Commit numbers
+//! continue: each generation knows what to add to the numbers that its own store of the library uses.
 
 use crate::raw::{Answer, Birthplace, RawPass, Refused};
 use crate::store::Store;

@@ -1,4 +1,4 @@
-//! The file: an SQLite database with the last state and the entries since then. docs/KEPT.md describes the format.
+//! The file: an SQLite database with the last state and the entries made since that state. docs/KEPT.md describes the format.
 
 use super::last::LastEntry;
 use super::tables::{self, APPLICATION, FORMAT, WITHOUT_CHECKSUMS};
