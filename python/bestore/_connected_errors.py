@@ -105,7 +105,7 @@ class BadRequest(ServerRefusal):
 
 
 class Expired(ServerRefusal):
-    """The snapshot was kept too long, and the server revoked it. Pin again."""
+    """The snapshot was kept too long, and the server took it back. Pin again."""
 
 
 class NoWatch(ServerRefusal):
@@ -113,7 +113,7 @@ class NoWatch(ServerRefusal):
 
 
 class TooManyWatches(ServerRefusal):
-    """The connection already has the maximum number of watches."""
+    """The connection has as many watches as it may have."""
 
 
 class TooManyCopies(ServerRefusal):
@@ -133,7 +133,7 @@ class NoLog(ServerRefusal):
 
 
 class NotLeader(ServerRefusal):
-    """The server follows another server, which must receive the write instead."""
+    """The server follows another one, to which the write has to go."""
 
 
 class NotAllowed(ServerRefusal):
@@ -141,7 +141,7 @@ class NotAllowed(ServerRefusal):
 
 
 class PushesLost(ServerRefusal):
-    """Changes pushed for a watch waited too long and were lost."""
+    """Pushes of a watch waited too long and were lost."""
 
 
 class Unexpected(ServerRefusal):
