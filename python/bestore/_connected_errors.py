@@ -105,7 +105,7 @@ class BadRequest(ServerRefusal):
 
 
 class Expired(ServerRefusal):
-    """The snapshot was kept too long, and the server took it back. Pin again."""
+    """The snapshot expired, because it was kept too long. Pin again."""
 
 
 class NoWatch(ServerRefusal):
@@ -113,7 +113,7 @@ class NoWatch(ServerRefusal):
 
 
 class TooManyWatches(ServerRefusal):
-    """The connection has as many watches as it may have."""
+    """The connection already has the maximum number of watches."""
 
 
 class TooManyCopies(ServerRefusal):
@@ -133,7 +133,7 @@ class NoLog(ServerRefusal):
 
 
 class NotLeader(ServerRefusal):
-    """The server follows another one, to which the write has to go."""
+    """The server follows another server. Send the write there instead."""
 
 
 class NotAllowed(ServerRefusal):
@@ -141,7 +141,7 @@ class NotAllowed(ServerRefusal):
 
 
 class PushesLost(ServerRefusal):
-    """Pushes of a watch waited too long and were lost."""
+    """Pushes for a watch waited too long and were dropped."""
 
 
 class Unexpected(ServerRefusal):
