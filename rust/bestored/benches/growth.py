@@ -6,12 +6,13 @@ usage: growth.py FOLDER [WRITES]    the folder with bestored, such as rust/targe
 
 The program creates a store of 60,000 nodes in five volumes, in a new folder. One client sends many small writes at a time, and a
 second client sends its writes one by one. The second client's slowest reply shows how long the server pauses when it rewrites its
-states. After 10,000 writes, and again after all writes, the program kills the server and restarts it. PYTHONPATH must name the
-folder that contains the bestore package.
+states. After 10,000 writes, and again after all writes, the program kills the server and restarts it. Then it has the states
+rewritten, makes another 10,000 writes, and restarts the server once more, to compare that start with the first. PYTHONPATH must
+name the folder that contains the bestore package.
 
 The program exits with 1 if the files became more than twice as long as the state, or if the memory became more than twice the size
 of the pages. Each limit allows another 20 MB per volume, for its WAL and for waiting entries. The program also exits with 1 if the
-last start takes over a fifth more processor time than the first.
+last start takes over a fifth more processor time than the first, or if the one before it takes more than twice as much.
 """
 from __future__ import annotations
 
@@ -39,6 +40,7 @@ AT_ONCE = 500
 LEAST = 20 << 20
 MOST_GROWTH = 2.0
 MOST_SLOWER = 1.2
+MOST_FULL = 2.0
 TICK = os.sysconf("SC_CLK_TCK")
 
 
@@ -145,7 +147,8 @@ def watch(path: str, watched: Watched) -> None:
 
 
 def write(server: Server, count: int) -> Size:
-    """Makes this many small writes, and returns the maximum sizes of the files and of the memory."""
+    """Makes this many small writes, waits until they are in the files, and returns the maximum sizes of the files and of the
+    memory."""
     lines = Lines(server.path)
     sizes: List[Size] = []
     for first in range(0, count, AT_ONCE):
@@ -154,6 +157,7 @@ def write(server: Server, count: int) -> Size:
         if first % 50_000 == 0:
             files = lines.ask({"info": {}})["files"]
             sizes.append(Size(files["bytes"] + files["wal_bytes"], server.memory))
+    lines.ask({"flush": {}})
     return Size(max(size.files for size in sizes), max(size.memory for size in sizes))
 
 
@@ -192,11 +196,16 @@ def main() -> None:
             first = server.start
             most = write_for_long(server, count)
         with Server(program, folder) as server:
+            many = server.start
+            Lines(server.path).ask({"compact": {}})
+            write(server, FIRST)
+        with Server(program, folder) as server:
             last = server.start
     print(f"files: {least >> 20} MB with the state, {most.files >> 20} MB at most")
-    print(f"a start: {of_state} with the state, {first} after {FIRST} writes, {last} after {count} more")
+    print(f"a start: {of_state} with the state, {first} after {FIRST} writes, {many} after {count} more, and {last} with the state of "
+          f"that time and {FIRST} writes")
     bounds = Size(int(MOST_GROWTH * least) + LEAST * VOLUMES, int(MOST_GROWTH * (VOLUMES * PAGES << 12)) + LEAST * VOLUMES)
-    is_slower = last.busy > MOST_SLOWER * first.busy
+    is_slower = last.busy > MOST_SLOWER * first.busy or many.busy > MOST_FULL * first.busy
     if most.files > bounds.files or most.memory > bounds.memory or is_slower:
         raise SystemExit(1)
 
