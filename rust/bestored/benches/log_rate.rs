@@ -147,11 +147,7 @@ fn measure_change(mut members: Vec<Member>, database: &Database) {
 fn main() {
     let database = Postgres::on_disk().expect("PostgreSQL is installed").database();
     let load = fs::read_to_string("/proc/loadavg").unwrap_or_default();
-    println!(
-        "{}; load average {}",
-        database.sql("SELECT version()"),
-        load.trim()
-    );
+    println!("{}; load average {}", database.sql("SELECT version()"), load.trim());
     println!("| case | clients | per second | p50 µs | p99 µs |");
     println!("|---|---|---|---|---|");
     let folder = Folder::new();

@@ -267,7 +267,9 @@ fn main() {
     let folder = std::env::temp_dir().join(format!("bestored-rate-{}", std::process::id()));
     fs::create_dir(&folder).expect("there is room for a folder");
     let (ours, redis) = start(&folder);
-    println!("| case | clients | bestored, per second | p50 µs | p99 µs | redis, per second | p50 µs | p99 µs | ratio |");
+    println!(
+        "| case | clients | bestored, per second | p50 µs | p99 µs | redis, per second | p50 µs | p99 µs | ratio |"
+    );
     println!("|---|---|---|---|---|---|---|---|---|");
     for case in &OURS {
         let peer = redis.as_ref().zip(REDIS.iter().find(|peer| peer.name == case.name));
