@@ -1,4 +1,4 @@
-//! Changes that C holds: reads in them, and taking one out of its handle.
+//! Changes that are held by C: reading through a change, and taking a change out of its handle.
 ghost use Rattle.std.specs.Prelude.{◌≡◌, ◌⊎◌, ℕ, None, Some};
 ghost use Rattle.be_store.specs.Passes.{HasRead};
 ghost use Rattle.bestore_c.specs.Calls.{Shown};
@@ -32,7 +32,7 @@ fn show(found: Option<Value>, reported: &mut Attribute, bytes: &mut [u8]) -> u32
     0
 }
 
-/// Reads an attribute as the change's operations leave it, and writes its value.
+/// Reads an attribute as the operations of the change leave it, and writes its value.
 pub(crate) fn read_changed(
     session: &mut Session,
     change: &Change,
@@ -54,7 +54,7 @@ pub(crate) fn read_changed(
     }
 }
 
-/// Takes the change out of its handle, and closes that.
+/// Takes the change out of its handle, and closes the handle.
 pub(crate) fn take_change(alloc: Global, draft: &mut DraftHandle) -> Option<Change>
     ensures closed { draft.new.owned.value ≡ None }
     ensures change { result ≡ draft.old.owned.value }
