@@ -104,9 +104,9 @@ MovesHandle (Some s) (Some o) from to code = (code ≡ 65) × (from ≡ Some s) 
 MovesHandle (Some s) None from to code = (code ≡ 0) × (from ≡ None) × (to ≡ Some s)
 
 -- A write of encoded operations. If one of them is invalid, nothing happens, and the number is its
--- index in the list. Otherwise they encode operations. If the store accepts these, the call returns
--- the numbers of new nodes, and the number is the length of the journal. If the store refuses them,
--- the number is what the error carries.
+-- index in the list. Otherwise they encode a list of operations. If the store accepts these, the
+-- call returns the numbers of new nodes, and the number is the length of the journal. If the store
+-- refuses them, the number is what the error carries.
 abbrev pub WritesEncoded : Sitting → Sitting → List Operation → List ℕ → List ℕ → List ℕ → ℕ → ℕ
     → Type 0
 WritesEncoded s t encoded bytes places filled number code =
@@ -288,7 +288,7 @@ ShowsFound (Some p) from places filled count code = (code ≡ 0) × (count ≡ l
     × (filled ≡ over (drop from p.found) places)
 
 -- A query was refreshed in the pinned version. It keeps which nodes were added to its answer and
--- which were removed, and the call returns how many they are. After an error, the call returns the
+-- which were removed, and the call returns how many there are. After an error, the call returns the
 -- error, and the query is unchanged.
 abbrev pub Refreshed : Sitting → PreparedQuery → PreparedQuery → UpdateCounts → ℕ → Type 0
 Refreshed s p q counts code =

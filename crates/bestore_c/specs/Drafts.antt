@@ -98,9 +98,9 @@ AbandonsDraft s t None code = (code ≡ 64) × (t ≡ s)
 AbandonsDraft s t (Some c) code = (code ≡ 0) × Abandons c s.knows t.knows
 
 -- Writing encoded operations as a change in one call. If one of them is invalid, nothing happens,
--- and the number is its index in the list. Otherwise they encode operations. If the store accepts
--- these, the number is the commit number. If it refuses them, the number is the index of the first
--- set of a wrong kind, or what the error carries.
+-- and the number is its index in the list. Otherwise they encode a list of operations. If the store
+-- accepts these, the number is the commit number. If it refuses them, the number is the index of
+-- the first set of a wrong kind, or what the error carries.
 abbrev pub WritesEncodedChange : Sitting → Sitting → List Operation → List ℕ → ℕ → ℕ → Type 0
 WritesEncodedChange s t encoded bytes number code =
     ((e : Fault) × (code ≡ fault_code e) × IsInvalid encoded bytes e number × (t ≡ s))

@@ -21,7 +21,7 @@ use Rattle.bestore_c.specs.declared.handle.UpdateCounts.{UpdateCounts}
 abbrev pub more_in : Bool → ℕ
 more_in others = if others then 1 else 0
 
--- A prepared query keeps these nodes, and the call returns how many they are and all of them.
+-- A prepared query keeps these nodes, and the call returns how many there are and all of them.
 abbrev pub KeepsPart : PreparedQuery → List ℕ → List ℕ → ℕ → ℕ → Type 0
 KeepsPart q places filled count code = (code ≡ 0) × (count ≡ length q.found)
     × (filled ≡ over q.found places)

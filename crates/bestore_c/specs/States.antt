@@ -1,4 +1,4 @@
--- What C gets of the operations that rebuild a version.
+-- How C gets the operations that rebuild a version.
 use Rattle.std.specs.Prelude.{◌≡◌, ◌⊎◌, ◌≤◌, ◌<◌, ◌++◌, ℕ, List, [], length, None, Some}
 use Rattle.std.specs.declared.option.Option.{Option}
 use Rattle.be_session.specs.States.{unreported}

@@ -8,8 +8,8 @@ use crate::owned_query::OwnedQuery;
 use crate::owned_witness::OwnedWitness;
 use be_session::sent;
 
-/// The handle of a pass in C, which is either closed or open with a session. All zero bytes are a
-/// closed handle.
+/// The handle of a pass in C, which is either closed or open with a session. A handle of all zero
+/// bytes is closed.
 #[repr(C)]
 #[derive(Drop)]
 pub struct Handle {
@@ -18,8 +18,8 @@ pub struct Handle {
     ghost full: { live ≡ is_some owned.value },
 }
 
-/// The handle of a prepared query in C, which is either closed or open with the query. All zero
-/// bytes are a closed handle.
+/// The handle of a prepared query in C, which is either closed or open with the query. A handle of
+/// all zero bytes is closed.
 #[repr(C)]
 #[derive(Drop)]
 pub struct PreparedHandle {
@@ -29,7 +29,7 @@ pub struct PreparedHandle {
 }
 
 /// The handle of a place in the operations of a version in C. It is either open with the place, or
-/// closed, which means before the first operation. All zero bytes are a closed handle.
+/// closed, which means before the first operation. A handle of all zero bytes is closed.
 #[repr(C)]
 #[derive(Drop)]
 pub struct PlaceHandle {
@@ -38,8 +38,8 @@ pub struct PlaceHandle {
     ghost full: { live ≡ is_some owned.value },
 }
 
-/// The handle of a witness in C, which is either closed or open with the witness. All zero bytes
-/// are a closed handle.
+/// The handle of a witness in C, which is either closed or open with the witness. A handle of all
+/// zero bytes is closed.
 #[repr(C)]
 #[derive(Drop)]
 pub struct WitnessHandle {
@@ -48,8 +48,8 @@ pub struct WitnessHandle {
     ghost full: { live ≡ is_some owned.value },
 }
 
-/// The handle of a change in C, which is either closed or open with the change. All zero bytes are
-/// a closed handle.
+/// The handle of a change in C, which is either closed or open with the change. A handle of all
+/// zero bytes is closed.
 #[repr(C)]
 #[derive(Drop)]
 pub struct DraftHandle {

@@ -1268,7 +1268,7 @@ pub extern "C" fn bes_ordered(
 }
 
 /// Returns the nodes of a prepared query in the pinned version in ascending order, starting at a
-/// given number, as many as fit. Also returns how many they are.
+/// given number, as many as fit. Also returns how many there are.
 #[unsafe(no_mangle)]
 pub extern "C" fn bes_first(
     pass: &mut Handle,
@@ -1295,7 +1295,7 @@ pub extern "C" fn bes_first(
 }
 
 /// Returns arbitrary nodes of a prepared query in the pinned version, without duplicates, as many
-/// as fit. Also returns how many they are.
+/// as fit. Also returns how many there are.
 #[unsafe(no_mangle)]
 pub extern "C" fn bes_any(
     pass: &mut Handle,
