@@ -165,7 +165,7 @@ kind_made s (RmIndex name) q = ap kind_in (get-remove names_total s.indices name
     ∙ ap (λ b. kind_in (cond b None (fin.get s.indices q))) (sym (texts_ties q name))
     ∙ removed_in (pointwise nat_eq q name) (fin.get s.indices q)
 
--- ## Lists of operations, from the last one back
+-- ## Lists of operations, from last to first
 
 module _ (s : State) (ops : List Op) (i : ℕ) (op : Op) (short : i < length ops) (at : op ≡ get_or ops i op) (ok : IsOk (steps s ops)) where
   after_is : state_after s (take (i + 1) ops) ≡ made (state_after s (take i ops)) op

@@ -120,7 +120,7 @@ idle_through : (k : ℕ) (w : World) (ms : List Move) (v : World) → AreQuiet k
 idle_through k w [] v quiet run idle = subst (IsIdleAt k) (sym run) idle
 idle_through k w (m ∷ ms) v quiet run idle = idle_through k (after_move w m) ms v quiet.1 run.1 (idle_after k w m quiet.0 idle)
 
--- ## Extending a history without a look of the pass
+-- ## Extending a history without a look by the pass
 
 abbrev pub GoesQuietly : ℕ → List Move → List Move → Type 0
 GoesQuietly k old new = (rest : List Move) × AreQuiet k rest × (new ≡ old ++ rest)
@@ -198,7 +198,7 @@ learns_out l a c out h = out_later l a c out h.pass (by h.moves)
     by (inl none) = quietly_same a.number a.history c.history none
     by (inr locks) = locks_quietly a c locks
 
--- ## A write through which all other passes rest
+-- ## A write during which all other passes rest
 
 abbrev first_or : Move → List Move → Move
 first_or d [] = d
