@@ -372,9 +372,8 @@ pub extern "C" fn bes_unpin(pass: &mut Handle) -> u32
     }
 }
 
-/// Writes 1 to 64 operations, all or none. Returns the length of the journal including them. For
-/// each operation, also returns the number of the node that it created, or 0, as far as there is
-/// room.
+/// Writes 1 to 64 operations, all or none. Returns the journal's length including them. For each
+/// operation, also returns the number of the node that it created, or 0, as far as there is room.
 #[unsafe(no_mangle)]
 pub extern "C" fn bes_apply(
     alloc: Global,
