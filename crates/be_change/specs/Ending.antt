@@ -19,7 +19,7 @@ abbrev pub are_checked : Kinds → Bool
 are_checked Checked = true
 are_checked Unchecked = false
 
--- The pass is pinned to the snapshot of the change, and the change reads what the pass reads.
+-- The pass is pinned to the change's snapshot, and the change reads what the pass reads.
 abbrev pub IsChangeOf : Changing → Knowledge → Type 0
 IsChangeOf change a = IsPinnedTo a change.number × Reads change (volume_pinned a)
 
@@ -50,7 +50,7 @@ Wrote change a c n = ((change.ops ≡ []) × (c ≡ a) × (n ≡ change.number))
 
 -- How a change ends, before its pin is released, if it is attempted up to `tries` times while
 -- another pass holds the lock. If another write was made in the meantime, nothing is written, the
--- length of the journal is returned, and the change must be made again. If the change is refused,
+-- journal's length is returned, and the change must be made again. If the change is refused,
 -- nothing is written either.
 abbrev pub Ends : ℕ → Changing → (a c : Knowledge) → Result Ended Refusal → Type 0
 Ends tries change a c (Ok (Accepted n)) = Wrote change a c n

@@ -31,7 +31,7 @@ pub struct Change {
     first: u64,
     /// How many nodes the operations create.
     made: u64,
-    /// The indices of the snapshot.
+    /// The snapshot's indices.
     indices: Vec<(Name, Kind)>,
     ops: Vec<Op>,
     checks_kinds: bool,
@@ -89,7 +89,7 @@ impl Change {
         }
     }
 
-    /// Returns the number of the snapshot.
+    /// Returns the snapshot's number.
     pub fn number(&self) -> u64
         ensures { result ≡ self.now.number }
     {
@@ -189,7 +189,7 @@ impl Change {
     }
 
     /// Returns the kind of the index of this name, as the collected operations leave it. Reads no
-    /// page, because the change knows the indices of the snapshot.
+    /// page, because the change knows the snapshot's indices.
     pub fn index_kind(&self, name: &Name) -> Option<Kind>
         ensures left { (base : State) → Reads self.now base
             → result ≡ index_kind_left base self.now.ops name.now }

@@ -93,7 +93,7 @@ fn commits_option<'a>(alloc: Global) -> Arg<'a> {
     number_option(alloc, "commits", help, 1, 4294967295, "1000000")
 }
 
-/// Creates a command with its files and the options for the limits of a store.
+/// Creates a command with its files and the options for a store's limits.
 fn command<'a>(
     alloc: Global,
     name: &'a str,
@@ -251,7 +251,7 @@ fn value_of(alloc: Global, matches: &ArgMatches, name: &str) -> Result<Option<St
     }
 }
 
-/// Returns the name of the file, if there is one.
+/// Returns the file's name, if there is one.
 fn file_of(alloc: Global, matches: &ArgMatches) -> Result<Option<String>, AllocError> {
     value_of(alloc, matches, FILE)
 }

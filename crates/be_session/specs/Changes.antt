@@ -1,4 +1,4 @@
--- Changes through the calls of a session: what they collect, what they read, and how they end.
+-- Changes through a session's calls: what they collect, what they read, and how they end.
 use Rattle.std.specs.Prelude.{◌≡◌, ◌⊎◌, ℕ, true, List, [], ◌∷◌, ◌++◌, None, length}
 use Rattle.std.specs.declared.option.Option.{Option}
 use Rattle.std.specs.declared.result.Result.{Result}
@@ -84,9 +84,9 @@ IsNotCollected c o bytes e = IsInvalidAt o bytes e
     ⊎ ((op : Op) × IsMeantBy o bytes op
     × (why : CollectError) × (e ≡ fault_of_collecting why) × IsUncollected c op why)
 
--- What a change reads at an attribute. If the session is pinned to the snapshot of the change, this
--- is what the operations of the change leave of the snapshot's attribute, and otherwise the result
--- is NotPinned.
+-- What a change reads at an attribute. If the session is pinned to the change's snapshot, this is
+-- what the change's operations leave of the snapshot's attribute, and otherwise the result is
+-- NotPinned.
 abbrev pub ReadsChanged : Changing → Knowledge → ℕ → List ℕ → Result (Option Value) Fault → Type 0
 ReadsChanged change a node name (Ok found) = IsPinnedTo a change.number
     × (Reads change (volume_pinned a)
@@ -99,7 +99,7 @@ as_answer (Ok (Accepted n)) = Ok n
 as_answer (Ok (Again found)) = Err (Conflict found)
 as_answer (Err why) = Err (Refused why)
 
--- How a change ends. If the session isn't pinned to the snapshot of the change, nothing happens.
+-- How a change ends. If the session isn't pinned to the change's snapshot, nothing happens.
 -- Otherwise the change ends as be_change defines it, and the pin is then released if the change
 -- made it.
 abbrev pub EndsChange : Changing → (a d : Knowledge) → Result ℕ Fault → Type 0
@@ -129,8 +129,8 @@ abbrev pub IsMismatch : (a d : Knowledge) → List Op → Fault → ℕ → Type
 IsMismatch a d ops e place = HasRead a d × (index : Kind) × (e ≡ WrongKind index)
     × IsFirstOfWrongKind (volume_pinned a) ops place index
 
--- All operations have the right kinds, but the conditional write at the number of the pin wasn't
--- made. The place is the number that comes with the error.
+-- All operations have the right kinds, but the conditional write at the pin's number wasn't made.
+-- The place is the number that comes with the error.
 abbrev pub IsUnmade : (a d : Knowledge) → ℕ → List Op → Fault → ℕ → Type 0
 IsUnmade a d number ops e place = HaveRightKinds (volume_pinned a) ops (length ops)
     × (c : Knowledge) × HasRead a c × (why : ApplyIfError) × (e ≡ fault_of why)

@@ -36,8 +36,8 @@ fault_code (WrongKind index) = 80
 fault_code (Refused e) = refusal_number e
 
 -- The number that comes with an error. For a refusal, this is the refusal's own number. For a
--- conflict, it is the length of the journal, and for a value of the wrong kind, the type code of
--- the index's kind. Otherwise it is 0.
+-- conflict, it is the journal's length, and for a value of the wrong kind, the type code of the
+-- index's kind. Otherwise it is 0.
 abbrev pub fault_carried : Fault → ℕ
 fault_carried NotPinned = 0
 fault_carried AlreadyPinned = 0

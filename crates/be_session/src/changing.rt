@@ -79,11 +79,10 @@ impl Session {
     /// from `next` on.
     ///
     /// Errors are reported in this order: `BadCount`; `NotPinned`; `WrongKind`; the errors of
-    /// `apply_if` at the number of the snapshot. `WrongKind` has the place of the first set whose
-    /// value isn't of the kind of its index, with the preceding operations taken into account. For
-    /// the errors of `apply_if`, the place is the number that comes with the error. If the call
-    /// fails, nothing is written. Besides the write, the call reads the version page once for each
-    /// set.
+    /// `apply_if` at the snapshot's number. `WrongKind` has the place of the first set whose value
+    /// isn't of the kind of its index, with the preceding operations taken into account. For the
+    /// errors of `apply_if`, the place is the number that comes with the error. If the call fails,
+    /// nothing is written. Besides the write, the call reads the version page once for each set.
     pub fn apply_change(&mut self, ops: &[Op]) -> Result<u64, ListFault>
         ensures store { (self.new.store ≡ self.old.store) × (self.new.spare ≡ self.old.spare) }
         ensures ok { IfOk result (λ n. WritesChange self.old.knows self.new.knows ops.now n) }
@@ -137,9 +136,8 @@ impl Session {
         }
     }
 
-    /// Returns an attribute of a node as the operations of the change leave it, or `None` if the
-    /// node doesn't have it. Returns `NotPinned` if the session isn't pinned to the snapshot of the
-    /// change.
+    /// Returns an attribute of a node as the change's operations leave it, or `None` if the node
+    /// doesn't have it. Returns `NotPinned` if the session isn't pinned to the change's snapshot.
     pub fn changed(
         &mut self,
         change: &Change,
@@ -158,11 +156,11 @@ impl Session {
 
     /// Writes what the change has collected as one transaction, if no other write has been made
     /// since its snapshot. Unpins the session if `begin_change` pinned it. Returns the commit
-    /// number, or the number of the snapshot if nothing was collected.
+    /// number, or the snapshot's number if nothing was collected.
     ///
-    /// Returns `NotPinned` if the session isn't pinned to the snapshot of the change, `Conflict`
-    /// with the length of the journal if another write came first, or an error of the store. After
-    /// a `Conflict`, begin the change again. If the call fails, nothing is written.
+    /// Returns `NotPinned` if the session isn't pinned to the change's snapshot, `Conflict` with
+    /// the journal's length if another write came first, or an error of the store. After a
+    /// `Conflict`, begin the change again. If the call fails, nothing is written.
     pub fn end_change(&mut self, change: Change) -> Result<u64, Fault>
         ensures store { (self.new.store ≡ self.old.store) × (self.new.spare ≡ self.old.spare) }
         ensures ends { EndsChange change self.old.knows self.new.knows result }

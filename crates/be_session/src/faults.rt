@@ -47,8 +47,8 @@ pub enum Fault {
 impl Fault {
     /// Returns the number that comes with the error. For a refusal, this is the refusal's own
     /// number, such as the pass that is writing or the offset of a byte in a text. For a conflict,
-    /// it is the length of the journal, and for a value of the wrong kind, the type code of the
-    /// index. Otherwise it is 0.
+    /// it is the journal's length, and for a value of the wrong kind, the type code of the index.
+    /// Otherwise it is 0.
     pub fn carried(&self) -> u64
         ensures { result ≡ fault_carried self.now }
     {

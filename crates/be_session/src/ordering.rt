@@ -109,7 +109,7 @@ impl Session {
     /// index. Moves the cursor to the last node of the page, and returns whether more pages follow.
     ///
     /// Errors are reported in this order: `NotPinned`; `NoRoom` if no node is wanted;
-    /// `NoSuchIndex`; `BadCursor`; the errors of the query. `BadCursor` means that the kind of the
+    /// `NoSuchIndex`; `BadCursor`; the query's errors. `BadCursor` means that the kind of the
     /// cursor isn't that of the index, or that its key doesn't have 8 to 264 bytes. An error leaves
     /// the cursor unchanged and the list empty.
     pub fn ordered(

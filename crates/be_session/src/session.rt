@@ -408,10 +408,10 @@ impl Session {
         Ok(())
     }
 
-    /// Writes a batch of 1 to 64 operations, all or none. Returns the length of the journal
-    /// including this batch. The outcomes of the operations replace the contents of `dones`. For
-    /// any other number of operations, returns `BadCount` without doing anything. Otherwise does
-    /// what the store's `apply_into` does.
+    /// Writes a batch of 1 to 64 operations, all or none. Returns the journal's length including
+    /// this batch. The outcomes of the operations replace the contents of `dones`. For any other
+    /// number of operations, returns `BadCount` without doing anything. Otherwise does what the
+    /// store's `apply_into` does.
     pub fn apply(&mut self, ops: &[Op], dones: &mut ArrayVec<Done, 64>) -> Result<u64, Fault>
         ensures store { (self.new.store ≡ self.old.store) × (self.new.spare ≡ self.old.spare) }
         ensures ok { IfOk result (λ n. Accepts self.old.knows self.new.knows ops.now n
@@ -451,7 +451,7 @@ impl Session {
         Ok(store.apply_if_into(&mut self.pass, number, ops, dones)?)
     }
 
-    /// Returns the number of the pass, under which its entries are in the journal.
+    /// Returns the pass's number, under which its entries are in the journal.
     pub fn number(&self) -> u64
         ensures { result ≡ self.now.knows.number }
     {
@@ -498,8 +498,8 @@ impl Session {
         Ok(self.shared.store().next(&mut self.pass))
     }
 
-    /// Returns the text of the journal so far, as the store's `journal_text` does. The journal is
-    /// legal. Needs no pin.
+    /// Returns the journal's text so far, as the store's `journal_text` does. The journal is legal.
+    /// Needs no pin.
     pub fn journal_text(&mut self) -> Result<String, Fault>
         ensures store { (self.new.store ≡ self.old.store) × (self.new.spare ≡ self.old.spare) }
         ensures learns { Learns self.old.knows self.new.knows }
@@ -749,7 +749,7 @@ impl Session {
     }
 }
 
-/// Parses the query whose text these bytes are. Returns `NotUtf8` if the bytes aren't valid UTF-8,
+/// Parses a query from the bytes of its text. Returns `NotUtf8` if the bytes aren't valid UTF-8,
 /// and otherwise the result of `be_query::parse`.
 pub fn query_of(alloc: Global, text: &[u8]) -> Result<Query, Fault>
     ensures ok { IfOk result (λ query. IsTextOf text.now query) }

@@ -1,4 +1,4 @@
-//! What the sessions of a store share: the store, and the passes that were given back.
+//! What a store's sessions share: the store, and the passes that were given back.
 ghost use Rattle.std.specs.Prelude.{◌≡◌, ◌≤◌, ◌<◌, ◌+◌, ◌^◌, ℕ, IfOk, IfSome, length, map, true};
 ghost use Rattle.std.specs.Prelude.{vec_capacity, vec_len};
 ghost use Rattle.be_table.specs.History.{StartsWith};
@@ -33,8 +33,8 @@ impl Fits for Returned {
     ghost fits = { λ seat returned. MayWaitAt seat returned.pass };
 }
 
-/// Puts a pass into the slot of its seat. Returns the pass if another pass waits there or if
-/// another thread is using the slot.
+/// Puts a pass into its seat's slot. Returns the pass if another pass waits there or if another
+/// thread is using the slot.
 fn put(slot: &Counted<Option<Returned>>, pass: Pass) -> Option<Pass>
     requires { MayWaitAt slot.now pass }
     ensures { IfSome result (λ p. p ≡ pass) }

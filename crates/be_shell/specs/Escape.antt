@@ -14,7 +14,7 @@ is_wide_control b c = nat_eq b 194 && (nat_le 128 c && nat_lt c 160)
 abbrev pub hex_digit : ℕ → ℕ
 hex_digit n = if nat_lt n 10 then 48 + n else 87 + n
 
--- A code as `\x` and two hexadecimal digits.
+-- A code, written as `\x` and two hexadecimal digits.
 abbrev pub mark : ℕ → List ℕ
 mark c = 92 ∷ 120 ∷ hex_digit (c / 16) ∷ hex_digit (c % 16) ∷ []
 

@@ -39,7 +39,7 @@ fn converse_with_both<S: Server, F: Peer, P: Peer>(
     converse(alloc, server, client, peer)
 }
 
-/// Does what [`crate::shell`] does, but also returns the journal of the store. If a fault ends the
+/// Does what [`crate::shell`] does, but also returns the store's journal. If a fault ends the
 /// conversations, the journal has what was accepted before that. The journal is `None` if no store
 /// was opened, or if there was no memory to close it.
 pub fn shell_and_close<F: Peer, P: Peer>(

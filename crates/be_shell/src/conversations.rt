@@ -88,7 +88,7 @@ fn serve_line<S: Server, P: Peer>(
     Ok(())
 }
 
-/// Gives the state of the store to a peer that asks for it.
+/// Gives the store's state to a peer that asks for it.
 fn hand_state<S: Server, P: Peer>(server: &mut S, peer: &mut P)
     ensures same { (event : Event) (before : P) → P.does before event peer.old
         → P.does before event peer.new }

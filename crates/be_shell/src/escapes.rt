@@ -15,7 +15,7 @@ fn hex_digit(n: u8) -> u8
     if n < 10 { b'0' + n } else { 87 + n }
 }
 
-/// Returns a code as `\x` and two hexadecimal digits.
+/// Returns a code in the form of `\x` and two hexadecimal digits.
 pub(crate) fn mark(code: u8) -> [u8; 4]
     ensures { result ≡ spec.mark code }
 {

@@ -10,8 +10,8 @@ use std::alloc::Global;
 /// The partner of the shell in a conversation. `hear` reads a line from the peer, and `say` writes
 /// a reply to it.
 pub trait Peer {
-    /// How an event changes the peer. Only events change the state of the peer, so a chain of them
-    /// gives the order in which everything was read and written.
+    /// How an event changes the peer. Only events change the peer's state, so a chain of them gives
+    /// the order in which everything was read and written.
     ghost does: { Self → Event → Self → Type 0 };
 
     /// Waits for the next line, and returns `None` if there are no more. If the line can't be read,
@@ -27,9 +27,9 @@ pub trait Peer {
         false
     }
 
-    /// Takes the script that rebuilds the state of the store, or `None` if there was no memory for
-    /// it. This is not an event: any event that could lead to the old state of the peer could also
-    /// lead to its new state.
+    /// Takes the script that rebuilds the store's state, or `None` if there was no memory for it.
+    /// This is not an event: any event that could lead to the old state of the peer could also lead
+    /// to its new state.
     fn take_state(&mut self, _script: Option<&str>)
         ensures stays { (event : Event) (before : Self) → does before event self.old
             → does before event self.new }

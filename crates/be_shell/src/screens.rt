@@ -50,7 +50,7 @@ fn say_shown<P: Peer>(peer: &mut P, bytes: &[u8]) -> Result<(), RunFault>
 
 /// A peer that writes replies with each control character except LF as `\x` and the two hexadecimal
 /// digits of its code. The terminal then shows these characters, and no value can control it. No
-/// memory is allocated. After a failed write, what is shown has been written in part.
+/// memory is allocated. After a failed write, the text may have been written only in part.
 #[derive(Drop)]
 pub struct Screen<P> {
     peer: P,

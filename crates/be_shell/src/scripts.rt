@@ -35,8 +35,7 @@ impl Script {
         Some(line)
     }
 
-    /// Writes the name of the file and the number of the line that was last taken to standard
-    /// error.
+    /// Writes the file's name and the number of the line that was last taken to standard error.
     pub(crate) fn write_place<R: Eprint>(&self, rt: &R) {
         let (name, number) = (self.name.as_str(), self.number);
         let _ = eprint!(rt; "{name}:{number}: ");

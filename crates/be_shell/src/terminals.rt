@@ -96,7 +96,7 @@ fn answer_typed<R: Files + Eprint>(
     }
 }
 
-/// Returns the name of the file in a `save` line, or `None` for any other line.
+/// Returns the file's name in a `save` line, or `None` for any other line.
 fn saved_name<R: Eprint>(rt: &R, alloc: Global, line: &Line, aside: Aside) -> Option<String> {
     let (Aside::Save, Line::Short(bytes)) = (aside, line) else {
         return None;

@@ -27,9 +27,9 @@ pub record AcceptsAt (a c : Knowledge) (number : ℕ) (ops : List Op) (n : ℕ) 
   pub next : n ≡ number + 1
   pub read : IsPinnedTo a number → Agrees (volume_pinned a) (entry_by a ops dones)
 
--- Another write came first, and the pass has then seen the whole journal. The length of the journal
--- is the length that was found, which isn't the one that the caller passed. The pass took the lock
--- and released it, and did nothing in between.
+-- Another write came first, and the pass has then seen the whole journal. The journal's length is
+-- the length that was found, which isn't the one that the caller passed. The pass took the lock and
+-- released it, and did nothing in between.
 pub record IsConflict (a c : Knowledge) (number found : ℕ) : Type 0 where
   pub learns : Learns a c
   pub found_is : found ≡ length c.seen

@@ -145,7 +145,7 @@ abbrev pub Unpins : Knowledge → Knowledge → Type 0
 Unpins a c = (c ≡ unpins (with_history a c.history))
     × Makes a.number a.history (Unpin a.number ∷ []) c.history
 
--- The text of the journal as far as the pass has seen it.
+-- The journal's text as far as the pass has seen it.
 abbrev pub text_seen : Knowledge → List ℕ
 text_seen a = lines_from 1 (entries a.seen)
 

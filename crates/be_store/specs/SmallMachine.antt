@@ -50,7 +50,7 @@ pub data Step (o : Object) : Type 0 where
   Apply : o.Entry → ℕ → Step o
   -- A call that asks nothing of the object: a refused write, a meeting, or a look at the journal.
   -- Its pass has then seen these entries. What the call returns about them, or why the write is
-  -- refused, is stated in the contract of the call and not here.
+  -- refused, is stated in the call's contract and not here.
   Learn : List o.Entry → Step o
   -- A pin that returned this number. The contracts of these calls, though not this definition,
   -- require that a pass pins only while it isn't pinned, and unpins only while it is.

@@ -1,6 +1,6 @@
 //! What queries return.
 
-/// What a query returns: the number of the pin, and the matching nodes in ascending order.
+/// What a query returns: the pin's number, and the matching nodes in ascending order.
 #[derive(Debug, Drop)]
 pub struct Answer {
     pub pin: u64,

@@ -1,4 +1,4 @@
-//! Reads many attributes in one call, into buffers of the caller.
+//! Reads many attributes in one call, into the caller's buffers.
 ghost use Rattle.std.specs.Prelude.{◌≡◌, ◌*◌, ◌^◌, ◌≤◌, ℕ, length, map as each};
 ghost use Rattle.be_volume.specs.Reading.{attribute};
 ghost use Rattle.be_paged_reading.specs.Cells.{IsReadInto, ReportsColumns, name_in};

@@ -1,8 +1,8 @@
 //! Conditional writes, which are made only if no other write was made since the caller's read.
 //!
-//! A program pins a version, reads it, and calls `apply_if` with the number of the pin. If another
-//! write came first, the call writes nothing and returns a `Conflict`, and the program pins and
-//! reads again. No update is ever lost in this way. A batch can also name the nodes that it creates
+//! A program pins a version, reads it, and calls `apply_if` with the pin's number. If another write
+//! came first, the call writes nothing and returns a `Conflict`, and the program pins and reads
+//! again. No update is ever lost in this way. A batch can also name the nodes that it creates
 //! itself, because `Store::next` returns their numbers.
 ghost use Rattle.std.specs.Prelude.{◌≡◌, ◌≤◌, [], IfOk, IfErr, OnErr, length};
 ghost use Rattle.be_store.specs.Conditional.{AcceptsAt, IsLastUnapplied, IsUnapplied, was_held};

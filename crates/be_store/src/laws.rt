@@ -137,7 +137,7 @@ pub fn alone_large_enough()
         → HasLargePool c ops → ¬ (IsRefusedAt c ops (Full least)) }
 {}
 
-/// The steps of a pass include every accepted write, pin and unpin that its moves show, in the same
+/// A pass's steps include every accepted write, pin and unpin that its moves show, in the same
 /// order. A list of steps can therefore omit only reads and calls that made no such move.
 pub fn steps_are_shown()
     ensures { (a : Knowledge) (steps : List (Step volume)) (z : Knowledge) → Calls a steps z

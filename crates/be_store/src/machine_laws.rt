@@ -1,12 +1,12 @@
 //! Laws which show that each call of a pass is a step of one small machine, and what a whole run of
 //! the machine promises.
 //!
-//! Each law is a function that does nothing. Its contract is the law. The contract of a public call
-//! says what the pass knew before and after the call. The law turns this into one step of the
-//! machine (`specs/SmallMachine.antt`), which operates on what the pass has seen and written and on
-//! its pin (`specs/Views.antt`). Consecutive calls form a run with the same steps
-//! (`specs/Calls.antt`). The last law is the main statement (`specs/OneHistory.antt`);
-//! example_history is a program that ensures it.
+//! Each law is a function that does nothing. Its contract is the law. A public call's contract says
+//! what the pass knew before and after the call. The law turns this into one step of the machine
+//! (`specs/SmallMachine.antt`), which operates on what the pass has seen and written and on its pin
+//! (`specs/Views.antt`). Consecutive calls form a run with the same steps (`specs/Calls.antt`). The
+//! last law is the main statement (`specs/OneHistory.antt`); example_history is a program that
+//! ensures it.
 ghost use Rattle.std.specs.Prelude.{◌≡◌, ◌+◌, ℕ, List, None, Some, length, map, take};
 ghost use Rattle.be_journal.specs.declared.entries.Entry.{Entry};
 ghost use Rattle.be_journal.specs.Journal.{Agrees};

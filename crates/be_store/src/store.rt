@@ -99,8 +99,8 @@ impl Store {
     }
 
     /// Writes a transaction of 1 to 64 operations, all or none. Returns its commit number, which is
-    /// the length of the journal including this transaction. The outcomes of the operations replace
-    /// the contents of `dones`. A pin is unaffected.
+    /// the journal's length including this transaction. The outcomes of the operations replace the
+    /// contents of `dones`. A pin is unaffected.
     ///
     /// Errors are reported in this order:
     /// - `Busy` if another pass holds the lock. The call tries once, and can be retried;
@@ -256,7 +256,7 @@ impl Store {
     }
 
     /// Returns the nodes that match the query in the pinned version, in ascending order, and the
-    /// number of the pin.
+    /// pin's number.
     ///
     /// Returns `NotCovered` if no index of that version covers the query, or `OutOfMemory`. The
     /// call descends one tree for each chosen index and walks the range of keys to which the query
@@ -282,7 +282,7 @@ impl Store {
     }
 
     /// Replaces the contents of a list with the nodes that match the query in the pinned version,
-    /// in ascending order. Returns the number of the pin. If the list has room for the nodes, it
+    /// in ascending order. Returns the pin's number. If the list has room for the nodes, it
     /// allocates no memory and keeps its capacity.
     ///
     /// The errors and the cost are those of `query`. After an error, the contents of the list are
@@ -485,8 +485,8 @@ impl Store {
         Ok(list?)
     }
 
-    /// Returns the text of the journal so far, in the format of `Journal::text`, while passes are
-    /// in use. A pin is unaffected.
+    /// Returns the journal's text so far, in the format of `Journal::text`, while passes are in
+    /// use. A pin is unaffected.
     ///
     /// Returns `Busy` if another pass holds the lock (the call tries once), or `OutOfMemory`. The
     /// call holds the lock while it writes the text, so writes by other passes return `Busy` during
@@ -622,8 +622,8 @@ impl Store {
     /// whatever threads. A write that was accepted with the number n is the n-th entry of the
     /// journal, with its pass, its operations and their outcomes. Whatever a pass read at pin n
     /// came from the volume after the first n entries of the journal. `moves` orders all steps:
-    /// there is a single list of moves, and after each call the history of the calling pass is a
-    /// prefix of it. Costs one load and one join per pass, and allocates no memory.
+    /// there is a single list of moves, and after each call the calling pass's history is a prefix
+    /// of it. Costs one load and one join per pass, and allocates no memory.
     pub fn close(self, passes: Vec<Pass>) -> Journal
         requires passes { AllAt self.id passes.items }
         requires all { (k : ℕ) → k < self.limits.passes → Has (map knows_of passes.items) k }

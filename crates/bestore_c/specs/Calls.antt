@@ -105,7 +105,7 @@ MovesHandle (Some s) None from to code = (code ≡ 0) × (from ≡ None) × (to 
 
 -- A write of encoded operations. If one of them is invalid, nothing happens, and the number is its
 -- index in the list. Otherwise they encode a list of operations. If the store accepts these, the
--- call returns the numbers of new nodes, and the number is the length of the journal. If the store
+-- call returns the numbers of new nodes, and the number is the journal's length. If the store
 -- refuses them, the number is what the error carries.
 abbrev pub WritesEncoded : Sitting → Sitting → List Operation → List ℕ → List ℕ → List ℕ → ℕ → ℕ
     → Type 0
@@ -117,8 +117,8 @@ WritesEncoded s t encoded bytes places filled number code =
     ⊎ ((e : Fault) × Refuses e number code × IsUnwritten s.knows t.knows ops e)))
 
 -- A conditional write of encoded operations. If one of them is invalid, nothing happens. Otherwise,
--- either the store accepts them on a journal with `expected` entries and the number is the length
--- of the journal, or the store writes nothing and the number is what the error carries.
+-- either the store accepts them on a journal with `expected` entries and the number is the
+-- journal's length, or the store writes nothing and the number is what the error carries.
 abbrev pub WritesEncodedIf : Sitting → Sitting → ℕ → List Operation → List ℕ → List ℕ → List ℕ → ℕ
     → ℕ → Type 0
 WritesEncodedIf s t expected encoded bytes places filled number code =
@@ -258,7 +258,7 @@ Prepares is_meant is_fault None None place code = (e : Fault) × (code ≡ fault
     × is_fault e place
 
 -- A query ran in the pinned version and keeps what it found. The call returns how many nodes these
--- are, and as many of them as fit. After an error, the call returns the error with what it carries,
+-- are, and as many of them as fit. If an error occurs, the call returns it with what it carries,
 -- and the query keeps no nodes. The results of the last refresh are unchanged.
 abbrev pub Asked : Sitting → PreparedQuery → PreparedQuery → List ℕ → List ℕ → ℕ → ℕ → Type 0
 Asked s p q places filled count code =
@@ -288,8 +288,8 @@ ShowsFound (Some p) from places filled count code = (code ≡ 0) × (count ≡ l
     × (filled ≡ over (drop from p.found) places)
 
 -- A query was refreshed in the pinned version. It keeps which nodes were added to its answer and
--- which were removed, and the call returns how many there are. After an error, the call returns the
--- error, and the query is unchanged.
+-- which were removed, and the call returns how many there are. If an error occurs, the call returns
+-- it, and the query is unchanged.
 abbrev pub Refreshed : Sitting → PreparedQuery → PreparedQuery → UpdateCounts → ℕ → Type 0
 Refreshed s p q counts code =
     ((code ≡ 0) × (n : ℕ) × IsPinnedTo s.knows n
@@ -339,8 +339,8 @@ IsEntryPutOut (Some entry) by counts places filled byte_places bytes =
     × (bytes ≡ over bs byte_places)
 
 -- The journal entry with this index, as far as the pass has seen the journal after the call, and
--- the length of the journal. The moves of the call are a lock and an unlock. After an error, the
--- call returns the error with what it carries.
+-- the journal's length. The call's moves are a lock and an unlock. If an error occurs, the call
+-- returns it with what it carries.
 abbrev pub ReportsEntry : Sitting → Sitting → ℕ → ℕ → Counts → List Operation → List Operation
     → List ℕ → List ℕ → ℕ → ℕ → Type 0
 ReportsEntry s t from by counts places filled byte_places bytes number code =
@@ -351,8 +351,8 @@ ReportsEntry s t from by counts places filled byte_places bytes number code =
     ⊎ ((why : Refusal) × Refuses (Refused why) number code × IsUnreported s.knows t.knows why))
 
 -- The journal, as far as the pass has seen it after the call, is legal. The call returns the length
--- of its text, and as many of the bytes as fit. The moves of the call are a lock and an unlock.
--- After an error, the call returns the error with what it carries.
+-- of its text, and as many of the bytes as fit. The call's moves are a lock and an unlock. If an
+-- error occurs, the call returns it with what it carries.
 abbrev pub ReportsJournal : Sitting → Sitting → List ℕ → List ℕ → ℕ → ℕ → Type 0
 ReportsJournal s t places filled count code =
     Learns s.knows t.knows × IsLegal (entries t.knows.seen)

@@ -1,4 +1,4 @@
--- What calls do to the handle of a change.
+-- What calls do to a change's handle.
 use Rattle.std.specs.Prelude.{◌≡◌, ◌⊎◌, ℕ, IsUtf8, List, Option, None, Some, true, false, length}
 use Rattle.std.specs.declared.result.Result.{Result}
 use Rattle.std.specs.declared.result.Result.TheVariants.{Ok, Err}
@@ -43,8 +43,7 @@ TakesAnyKind (Some c) None code = ⊥
 TakesAnyKind (Some c) (Some d) code = (code ≡ 0) × (d ≡ record c { checks = false })
 
 -- The change collects an operation, and the call returns the number of the node that it will
--- create, or 0. After an error, the change is unchanged. The handle of the change may also be
--- closed.
+-- create, or 0. After an error, the change is unchanged. The change's handle may also be closed.
 abbrev pub AddsEncoded : Option Changing → Option Changing → Operation → List ℕ → ℕ → ℕ → Type 0
 AddsEncoded None None o bytes node code = IsClosed node code
 AddsEncoded None (Some d) o bytes node code = ⊥
@@ -53,8 +52,8 @@ AddsEncoded (Some c) (Some d) o bytes node code =
     ((code ≡ 0) × CollectsMeant c d o bytes node)
     ⊎ ((e : Fault) × Refuses e node code × (d ≡ c) × IsNotCollected c o bytes e)
 
--- An attribute as the operations of the change leave it. If the session is pinned to the snapshot
--- of the change, the call returns the attribute, or 3 if there is none. Otherwise it returns 66.
+-- An attribute as the change's operations leave it. If the session is pinned to the change's
+-- snapshot, the call returns the attribute, or 3 if there is none. Otherwise it returns 66.
 abbrev pub ShowsChanged : Changing → Knowledge → ℕ → List ℕ → Attribute → List ℕ → List ℕ → ℕ
     → Type 0
 ShowsChanged c a node name reported places filled code =

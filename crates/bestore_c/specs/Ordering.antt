@@ -31,8 +31,8 @@ abbrev pub KeepsNone : PreparedQuery → Fault → ℕ → ℕ → Type 0
 KeepsNone q e count code = Refuses e count code × (q.found ≡ [])
 
 -- Reading a page of a prepared query's answer in the pinned version, with as many nodes as fit. The
--- call returns the page and whether more nodes follow, and moves the cursor. After an error, it
--- returns the error. The results of the last refresh are unchanged.
+-- call returns the page and whether more nodes follow, and moves the cursor. If an error occurs,
+-- the call returns it. The results of the last refresh are unchanged.
 abbrev pub Ordered : Sitting → PreparedQuery → PreparedQuery → List ℕ → Bool → Cursor → Cursor
     → List ℕ → List ℕ → ℕ → ℕ → ℕ → Type 0
 Ordered s p q by descending cursor moved places filled count more code =
@@ -44,7 +44,7 @@ Ordered s p q by descending cursor moved places filled count more code =
     ⊎ ((e : Fault) × KeepsNone q e count code × IsUnread (pinned_number s.knows.phase)
     (IsNoPage (volume_pinned s.knows) p.live.query by descending (length places) cursor e) e))
 
--- The nodes of a prepared query in the pinned version, starting at a given number.
+-- A prepared query's nodes in the pinned version, starting at a given number.
 abbrev pub First : Sitting → PreparedQuery → PreparedQuery → ℕ → List ℕ → List ℕ → ℕ → ℕ → Type 0
 First s p q from places filled count code =
     (q ≡ with_found p q.found)

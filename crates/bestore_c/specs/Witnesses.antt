@@ -1,4 +1,4 @@
--- What calls do to the handle of a witness.
+-- What calls do to a witness's handle.
 use Rattle.std.specs.Prelude.{◌≡◌, ℕ, Option, None, Some}
 use Rattle.be_session.specs.Sitting.{Joins, Sitting}
 use Rattle.be_table.specs.Place.{WitnessFacts}

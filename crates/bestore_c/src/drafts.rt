@@ -32,7 +32,7 @@ fn show(found: Option<Value>, reported: &mut Attribute, bytes: &mut [u8]) -> u32
     0
 }
 
-/// Reads an attribute as the operations of the change leave it, and writes its value.
+/// Reads an attribute as the change's operations leave it, and writes its value.
 pub(crate) fn read_changed(
     session: &mut Session,
     change: &Change,

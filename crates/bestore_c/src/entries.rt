@@ -45,7 +45,7 @@ fn put_entry(
 }
 
 /// Writes the journal entry at this index for the caller, if there is one, as far as there is room.
-/// Returns the length of the journal.
+/// Returns the journal's length.
 pub(crate) fn report_entry(
     alloc: Global,
     session: &mut Session,

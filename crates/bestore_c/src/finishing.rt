@@ -7,9 +7,9 @@ use crate::asking::put_text;
 use crate::refusing::refuse;
 use be_session::{Fault, Session, Unfinished};
 
-/// Returns the text of the journal if the session is the last one of its store and there is room
-/// for the whole text. Otherwise returns the code of a call that left the store unchanged. Writes
-/// the length of the text, or the number that the error carries.
+/// Returns the journal's text if the session is the last one of its store and there is room for the
+/// whole text. Otherwise returns the code of a call that left the store unchanged. Writes the
+/// length of the text, or the number that the error carries.
 pub(crate) fn last_text(session: &mut Session, room: usize, count: &mut u64) -> Result<String, u32>
     ensures store { (session.new.store ≡ session.old.store)
         × (session.new.spare ≡ session.old.spare) }

@@ -38,8 +38,8 @@ pub struct PlaceHandle {
     ghost full: { live ≡ is_some owned.value },
 }
 
-/// The handle of a witness in C, which is either closed or open with the witness. A handle of all
-/// zero bytes is closed.
+/// A witness's handle in C, which is either closed or open with the witness. A handle of all zero
+/// bytes is closed.
 #[repr(C)]
 #[derive(Drop)]
 pub struct WitnessHandle {
@@ -48,8 +48,8 @@ pub struct WitnessHandle {
     ghost full: { live ≡ is_some owned.value },
 }
 
-/// The handle of a change in C, which is either closed or open with the change. A handle of all
-/// zero bytes is closed.
+/// A change's handle in C, which is either closed or open with the change. A handle of all zero
+/// bytes is closed.
 #[repr(C)]
 #[derive(Drop)]
 pub struct DraftHandle {
@@ -66,14 +66,14 @@ pub fn may_move(pass: Handle) -> Handle
     sent(pass)
 }
 
-/// The same law for the handle of a witness.
+/// The same law for a witness's handle.
 pub fn witness_may_move(witness: WitnessHandle) -> WitnessHandle
     ensures { result ≡ witness }
 {
     sent(witness)
 }
 
-/// The same law for the handle of a change.
+/// The same law for a change's handle.
 pub fn draft_may_move(draft: DraftHandle) -> DraftHandle
     ensures { result ≡ draft }
 {

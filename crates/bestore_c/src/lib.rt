@@ -200,8 +200,8 @@ pub extern "C" fn bes_close(alloc: Global, pass: &mut Handle) -> u32
     DONE
 }
 
-/// Closes the store and its last handle. Returns the text of the journal and its length in bytes.
-/// If there isn't enough room, returns only the length, and the handle stays open.
+/// Closes the store and its last handle. Returns the journal's text and its length in bytes. If
+/// there isn't enough room, returns only the length, and the handle stays open.
 #[unsafe(no_mangle)]
 pub extern "C" fn bes_finish(
     alloc: Global,
@@ -446,8 +446,8 @@ pub extern "C" fn bes_apply_if(
 
 /// Writes encoded operations as a change on the pinned snapshot, all or none, if no other write has
 /// been made since. A set whose kind differs from that of the name's index is refused, and its
-/// place in the list is returned. Otherwise does what `bes_apply_if` does with the number of the
-/// snapshot.
+/// place in the list is returned. Otherwise does what `bes_apply_if` does with the snapshot's
+/// number.
 #[unsafe(no_mangle)]
 pub extern "C" fn bes_apply_change(
     alloc: Global,
@@ -478,8 +478,8 @@ pub extern "C" fn bes_apply_change(
 }
 
 /// Begins a change on the pinned snapshot, and opens the handle with it. If the pass isn't pinned,
-/// it is pinned until the change ends. Returns the number of the snapshot and the number of the
-/// first new node.
+/// it is pinned until the change ends. Returns the snapshot's number and the number of the first
+/// new node.
 #[unsafe(no_mangle)]
 pub extern "C" fn bes_begin_change(
     alloc: Global,
@@ -552,7 +552,7 @@ pub extern "C" fn bes_change_add(
     }
 }
 
-/// Reads an attribute of a node as the operations of the change leave it. Otherwise like `bes_get`.
+/// Reads an attribute of a node as the change's operations leave it. Otherwise like `bes_get`.
 #[unsafe(no_mangle)]
 pub extern "C" fn bes_change_get(
     pass: &mut Handle,
@@ -608,7 +608,7 @@ pub extern "C" fn bes_change_batch(
 
 /// Ends the change. Writes what it has collected if no other write has been made since its
 /// snapshot, and unpins the pass if `bes_begin_change` pinned it. The handle is closed, even after
-/// an error. Returns the commit number, or the number of the snapshot if nothing was collected.
+/// an error. Returns the commit number, or the snapshot's number if nothing was collected.
 #[unsafe(no_mangle)]
 pub extern "C" fn bes_end_change(
     alloc: Global,
@@ -720,7 +720,7 @@ pub extern "C" fn bes_next(pass: &mut Handle, node: &mut u64) -> u32
 
 /// Returns the journal entry at this index, counting from 0: its pass and as many of its operations
 /// as fit. An operation that created a node has the number of that node. There is no entry at the
-/// end of the journal. `number` receives the length of the journal.
+/// end of the journal. `number` receives the journal's length.
 #[unsafe(no_mangle)]
 pub extern "C" fn bes_journal_from(
     alloc: Global,
@@ -981,7 +981,7 @@ pub extern "C" fn bes_attributes(
     report_attributes(alloc, node, answer, counts, listed, bytes)
 }
 
-/// Lists the indices of the pinned version, as the operations that create them. Otherwise like
+/// Lists the pinned version's indices, as the operations that create them. Otherwise like
 /// `bes_attributes`.
 #[unsafe(no_mangle)]
 pub extern "C" fn bes_indices(
@@ -1266,8 +1266,8 @@ pub extern "C" fn bes_ordered(
     find_ordered(pass.owned.lent(), query, order, cursor, nodes, count, more)
 }
 
-/// Returns the nodes of a prepared query in the pinned version in ascending order, starting at a
-/// given number, as many as fit. Also returns how many there are.
+/// Returns a prepared query's nodes in the pinned version in ascending order, starting at a given
+/// number, as many as fit. Also returns how many there are.
 #[unsafe(no_mangle)]
 pub extern "C" fn bes_first(
     pass: &mut Handle,
@@ -1413,7 +1413,7 @@ pub extern "C" fn bes_changes(
     DONE
 }
 
-/// Returns the text of the journal so far: its length in bytes, and as many of the bytes as fit.
+/// Returns the journal's text so far: its length in bytes, and as many of the bytes as fit.
 #[unsafe(no_mangle)]
 pub extern "C" fn bes_journal(pass: &mut Handle, bytes: &mut [u8], count: &mut u64) -> u32
     ensures pass { Calls pass.old.owned.value pass.new.owned.value (IsClosed count.new result)

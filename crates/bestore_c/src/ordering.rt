@@ -73,8 +73,8 @@ pub(crate) fn find_ordered(
     }
 }
 
-/// Writes the nodes of a prepared query in the session's pinned version, starting at a given
-/// number, as many as fit.
+/// Writes a prepared query's nodes in the session's pinned version, starting at a given number, as
+/// many as fit.
 pub(crate) fn find_first(
     session: &mut Session,
     prepared: &mut Prepared,
