@@ -39,7 +39,7 @@ IsItemMeant kind number bytes Both = kind ≡ 13
 IsItemMeant kind number bytes Either = kind ≡ 14
 IsItemMeant kind number bytes Complement = kind ≡ 15
 
--- The reason why these aren't a valid item.
+-- The reason why these values aren't a valid item.
 abbrev pub IsNoItem : ℕ → List ℕ → Fault → Type 0
 IsNoItem kind bytes e =
     ((e ≡ NoItem) × (15 < kind))

@@ -37,7 +37,7 @@ HasNoMore number bytes (Rawt raw) = number ≡ 0
 HasNoMore number bytes (Ulng n) = bytes ≡ []
 HasNoMore number bytes (Ullg n) = bytes ≡ []
 
--- The operation that these encode. Each operation uses only some of the parts.
+-- The operation that these values encode. Each operation uses only some of the parts.
 abbrev pub IsMeant : ℕ → ℕ → List ℕ → ℕ → ℕ → List ℕ → Op → Type 0
 IsMeant number node name code value_number bytes New = number ≡ 0
 IsMeant number node name code value_number bytes (Drop n) = (number ≡ 1) × (n ≡ node)
@@ -81,8 +81,8 @@ abbrev pub IsNoValue : ℕ → ℕ → List ℕ → Fault → Type 0
 IsNoValue code number bytes e = ((e ≡ NoKind) × IsNoKind code)
     ⊎ ((kind : Kind) × (code_of kind ≡ code) × IsNoneOf kind number bytes e)
 
--- The reason why these don't encode an operation. If the operation has a name, the name is checked
--- first.
+-- The reason why these values don't encode an operation. If the operation has a name, the name is
+-- checked first.
 abbrev pub IsNoOperation : ℕ → List ℕ → ℕ → ℕ → List ℕ → Fault → Type 0
 IsNoOperation number name code value_number bytes e =
     ((e ≡ NoOperation) × (5 < number))

@@ -74,8 +74,7 @@ fn one_item(alloc: Global, encoded: &PredicateItem, bytes: &[u8]) -> Result<Item
     }
 }
 
-/// Returns the place to report for an error in the item at this place, which is 0 if memory ran
-/// out.
+/// Returns the place to report for an error in this item, or 0 if memory ran out.
 fn reported(fault: &Fault, place: usize) -> u64
     ensures { result ≡ item_reported fault.now place }
 {

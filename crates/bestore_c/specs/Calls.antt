@@ -44,8 +44,8 @@ use Rattle.bestore_c.specs.declared.handle.Attribute.{Attribute}
 use Rattle.bestore_c.specs.declared.handle.Counts.{Counts}
 use Rattle.bestore_c.specs.declared.handle.UpdateCounts.{UpdateCounts}
 
--- A call on a closed handle leaves it closed and returns the code for that. A call on an open
--- handle leaves it open, with a session of the same store and with the same number of waiting
+-- A call on a closed handle leaves it closed and returns the code for a closed handle. A call on an
+-- open handle leaves it open, with a session of the same store and with the same number of waiting
 -- passes. `does` says what the call does to the session.
 abbrev pub Calls : Option Sitting → Option Sitting → Type 0 → (Sitting → Sitting → Type 0) → Type 0
 Calls None None closed does = closed
