@@ -30,7 +30,7 @@ abbrev pub index_after : State → List ℕ → List ℕ → Option (List ℕ) �
 index_after s by low high descending cursor = after descending cursor
     (filter (λ e. is_within low high e.0) (in_order s by descending (map.keys s.nodes)))
 
--- Those of their nodes that satisfy the formula.
+-- The nodes of these entries that satisfy the formula.
 abbrev pub true_after : State → Formula → List ℕ → List ℕ → Option (List ℕ) → Bool
     → Option (List ℕ) → List ℕ
 true_after s f by low high descending cursor = filter (sat s f)
@@ -50,9 +50,9 @@ pub record HasFront (most : ℕ) (all found : List ℕ) : Type 0 where
   pub parts : all ≡ found ++ rest
   pub enough : (rest ≡ []) ⊎ (most < length found)
 
--- These are the nodes on a page, the cursor after it, and whether more nodes follow. It is the page
--- of any query that the indices cover and of which this remaining condition is left by the keys
--- from `low` to `high`.
+-- These are the nodes on a page, the cursor after it, and whether more nodes follow. The page is
+-- that of any query that the indices cover, if the keys from `low` to `high` reduce the query to
+-- this remaining condition.
 abbrev pub IsPageOfRest : State → Formula → List ℕ → Kind → List ℕ → Option (List ℕ) → Bool → ℕ
     → Option (List ℕ) → List ℕ → Option (List ℕ) → Bool → Type 0
 IsPageOfRest s rest by kind low high descending most cursor nodes next more = (f : Formula)

@@ -32,7 +32,7 @@ key_cmp descending a b = if descending then name_cmp b a else name_cmp a b
 abbrev pub keyed : State → List ℕ → ℕ → List (List ℕ × ℕ)
 keyed s by node = option_map_or (λ value. (key value node, node) ∷ []) (sees s node by) []
 
--- Those of the nodes that have a pair in the index, each with its key, in the order of the keys.
+-- Those nodes that have a pair in the index, each with its key, in the order of the keys.
 abbrev pub in_order : State → List ℕ → Bool → List ℕ → List (List ℕ × ℕ)
 in_order s by descending nodes = map.entries
     (map.from_entries {R = key_cmp descending} (flat_map (keyed s by) nodes))

@@ -145,7 +145,7 @@ fn push_if_true<S: Source>(
     Ok(())
 }
 
-/// Adds those of the nodes that satisfy the remaining condition.
+/// Adds those nodes that satisfy the remaining condition.
 fn push_true<S: Source>(
     source: &mut S,
     left: Left<'_, '_, '_>,

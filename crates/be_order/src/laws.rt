@@ -13,8 +13,8 @@ ghost use Rattle.be_order.specs.Ordered.{Page, after, in_order, nodes_of, ordere
 ghost use Rattle.be_order.specs.Pages.{ArePages, nodes_in};
 
 /// The entries after the cursor that a page leaves are the entries after the cursor that it started
-/// from, minus the page's own. So within one snapshot, the next page starts with the node after the
-/// last node on this page.
+/// from, minus those on the page. So within one snapshot, the next page starts with the node after
+/// the last node on this page.
 pub fn next_page_goes_on()
     ensures { (s : State) (by nodes : List ℕ) (descending : Bool) (cursor : Option (List ℕ))
         (most : ℕ) →

@@ -25,9 +25,9 @@ pub struct Order<'a> {
     pub most: usize,
 }
 
-/// Sorts those of the nodes that have a pair in the index into the order of the index, and keeps
-/// the first of them after the cursor. Returns whether there are more, and leaves the cursor at the
-/// last node kept.
+/// Sorts those nodes that have a pair in the index into the order of the index, and keeps the first
+/// of them after the cursor. Returns whether there are more, and leaves the cursor at the last node
+/// kept.
 fn keep_page<S: Source>(
     alloc: Global,
     source: &mut S,

@@ -65,7 +65,7 @@ fn add_if_true<S: Source>(
     Ok(())
 }
 
-/// Adds those of the nodes that satisfy the tree. The source tests each node.
+/// Adds those nodes that satisfy the tree. The source tests each node.
 fn ask_all<S: Source>(
     source: &mut S,
     tree: &Tree,
@@ -207,7 +207,7 @@ fn nodes_of_index<S: Source>(
     Ok(nodes)
 }
 
-/// Adds those of the nodes that satisfy the tree. The nodes must be in ascending order.
+/// Adds those nodes that satisfy the tree. The nodes must be in ascending order.
 fn add_true<S: Source>(
     alloc: Global,
     source: &mut S,
