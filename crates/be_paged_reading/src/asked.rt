@@ -32,8 +32,7 @@ pub fn remember(asked: &mut Option<Asked>, node: u64, name: &Name, place: Option
     }
 }
 
-/// Returns the stored result of looking up this attribute, or `None` if the result of another
-/// attribute or no result is stored.
+/// Returns the stored result if it belongs to this attribute.
 pub fn known_of(asked: &Option<Asked>, node: u64, name: &Name) -> Option<Option<(u64, usize)>>
     ensures { (page_state : ℕ → AnyPageState) (words : ℕ → ℕ → ℕ) (root : ℕ)
         → IsAsked page_state words root asked.now

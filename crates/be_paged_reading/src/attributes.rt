@@ -28,8 +28,8 @@ use be_volume::MAX_ATTRIBUTES;
 use std::alloc::{AllocError, Global};
 use std::str;
 
-/// Returns `true` if the key of the item at this offset begins with the node, which the first word
-/// of the key determines.
+/// Returns `true` if the item at this offset has a key that begins with the node. The first word of
+/// the key determines that.
 fn is_of_node<L: Look>(look: &mut L, page: u64, at: usize, node: u64) -> bool
     requires readable { IsTrue (is_readable (L.page_state look.old page)) }
     requires in_page { at + 42 ≤ 512 }

@@ -168,7 +168,8 @@ fn text_of(payload: &[u8]) -> Option<Text>
     Text::new(str::from_utf8(text).ok()?).ok()
 }
 
-/// Returns the bytes after the first byte of a payload, if there aren't more than a value may have.
+/// Returns the bytes after the first byte of a payload, unless there are more than a value may
+/// have.
 fn bytes_at<L: Look>(look: &mut L, page: u64, at: usize) -> Option<Bytes>
     requires readable { IsTrue (is_readable (L.page_state look.old page)) }
     requires in_page { at + 42 ≤ 512 }

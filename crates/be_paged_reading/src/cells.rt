@@ -1,4 +1,4 @@
-//! Writes values to buffers of the caller: a cell for each value, and the bytes of all strings, one
+//! Writes values to the caller's buffers: a cell for each value, and the bytes of all strings, one
 //! after another.
 ghost use Rattle.std.specs.Prelude.{◌≡◌, ◌+◌, ◌-◌, ◌*◌, ◌^◌, ◌<◌, ◌≤◌, ℕ, ℤ, List, [], ◌∷◌, ◌++◌};
 ghost use Rattle.std.specs.Prelude.{Ok, Err, Some, drop, length};
@@ -23,8 +23,8 @@ use be_pages::Look;
 use be_tree_reading::{fill_payload, payload_len_at};
 use be_value::{Kind, Name, Refusal};
 
-/// A name in the caller's memory: its length, and its bytes at the beginning of `bytes`. It need
-/// not be valid. A node has no attribute whose name is invalid.
+/// A name in the caller's memory: its length, and its bytes at the beginning of `bytes`. The bytes
+/// need not form a valid name; a lookup of an invalid name simply finds no attribute.
 #[repr(C)]
 #[derive(Clone, Copy)]
 pub struct HeldName {
@@ -78,7 +78,7 @@ pub(crate) fn held_key(node: u64, name: &HeldName) -> ArrayVec<u8, 72>
     key
 }
 
-/// Writes items after those that have already been written, as far as there is room.
+/// Writes as many of the items as fit after those that have already been written.
 fn put_at<T: Copy>(places: &mut [T], at: usize, items: &[T])
     ensures { (before all : List T) → length before ≡ at → places.old ≡ over before all → places.new
         ≡ over (before ++ items.now) all }

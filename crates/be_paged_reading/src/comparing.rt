@@ -1,9 +1,9 @@
 //! Compares values without decoding them.
 //!
-//! A decoded value has room for the longest string, whatever its kind, and each time it is moved,
-//! that whole room is copied. The item itself is compared instead: an integer is read as a number,
-//! and only the bytes of a string are copied. If the caller prepares the comparison before testing
-//! many items, the string isn't decoded either.
+//! A decoded value has room for the longest string, whatever its kind, and every move copies all of
+//! that room. The item itself is compared instead: an integer is read as a number, and only the
+//! bytes of a string are copied. If the caller prepares the comparison before testing many items,
+//! the string isn't decoded either.
 ghost use Rattle.std.specs.Prelude.{◌≡◌, ◌+◌, ◌≤◌, ℕ, List, ◌∷◌, IfSome, Ok, IsTrue, IsUtf8};
 ghost use Rattle.std.specs.Option.{option_copied};
 ghost use Rattle.be_pages.specs.Pages.{IsUnchanged, is_readable};

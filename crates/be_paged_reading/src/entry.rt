@@ -207,8 +207,8 @@ impl Entry {
         }
     }
 
-    /// Writes the index at this offset of a page that already has a filled word. It takes eleven
-    /// words.
+    /// Writes the index at this offset of a page that already has a filled word. The index takes up
+    /// eleven words.
     #[tactic(auto, unfolding(crate::specs::Page::entry_at))]
     pub fn store<R: Room>(&self, room: &mut R, page: u64, at: usize)
         requires filled { R.page_state room.old page ≡ Filled }

@@ -17,8 +17,8 @@ use be_pages::Look;
 use be_tree_reading::has_key;
 use be_value::{Kind, counted64, key_of};
 
-/// Returns `true` if the tree of an index contains a number, passed as the bytes that it has in a
-/// key, together with a node.
+/// Returns `true` if the tree of an index contains the key that consists of the bytes of a number
+/// and a node.
 fn has_number<L: Look>(look: &mut L, index: u64, number: &[u8], node: u64) -> bool
     requires tree { IsTree (L.page_state look.old) (L.words look.old) index }
     requires short { length number.now ≤ 8 }
@@ -32,9 +32,9 @@ fn has_number<L: Look>(look: &mut L, index: u64, number: &[u8], node: u64) -> bo
     has_key(look, index, &key)
 }
 
-/// Returns `true` if the tree of an index contains the value that the item at this offset encodes,
-/// together with a node. The value is decoded. This is a separate function because it needs space
-/// for the value and its key.
+/// Returns `true` if the tree of an index contains the key for a node and the value that the item
+/// at this offset encodes. The value is decoded. This is a separate function because it needs stack
+/// space for the value and its key.
 #[inline(never)]
 fn any_is_indexed_at<L: Look>(look: &mut L, index: u64, page: u64, at: usize, node: u64) -> bool
     requires tree { IsTree (L.page_state look.old) (L.words look.old) index }
@@ -50,8 +50,8 @@ fn any_is_indexed_at<L: Look>(look: &mut L, index: u64, page: u64, at: usize, no
     }
 }
 
-/// Returns `true` if the tree of an index contains the value that the item at this offset encodes,
-/// together with a node.
+/// Returns `true` if the tree of an index contains the key for a node and the value that the item
+/// at this offset encodes.
 pub(crate) fn is_indexed_at<L: Look>(
     look: &mut L,
     index: u64,

@@ -1,8 +1,8 @@
 //! Reads a whole version, from which be_volume_state rebuilds a volume.
 //!
 //! The reader remembers nothing that it has read. To determine whether an index contains a node, it
-//! looks up the key of the node's attribute in the tree of the index, because a pair in an index is
-//! always that of an attribute.
+//! looks up the key of the node's attribute in the tree of the index. That is enough because every
+//! pair in an index belongs to an attribute.
 ghost use Rattle.std.specs.Prelude.{◌≡◌, IfOk, None, true};
 ghost use Rattle.std.specs.FinMap as map;
 ghost use Rattle.std.specs.Option.{option_map};

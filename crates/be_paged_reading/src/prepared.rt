@@ -75,9 +75,9 @@ fn nodes_of<L: Look>(
 
 /// If a range of one index decides the prepared query, this function replaces the content of the
 /// list with the nodes that satisfy the query, in ascending order, and returns `true`. Otherwise it
-/// returns `false`, and the caller has to run the query with a plan. It first compares the name of
-/// the index at the position where it was found last, and makes one descent. If it returns `false`
-/// or `OutOfMemory`, the content of the list is unspecified.
+/// returns `false`, and the caller has to run the query with a plan. The search for the index
+/// starts where it was found last, and the answer costs one descent. If it returns `false` or
+/// `OutOfMemory`, the content of the list is unspecified.
 #[inline(always)]
 pub fn answer_decided<L: Look>(
     alloc: Global,

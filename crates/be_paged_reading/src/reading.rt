@@ -54,8 +54,8 @@ pub(crate) fn attribute_place<L: Look>(
     find_place(look, catalog, &catalog_key(node, name))
 }
 
-/// Returns the location of the item with this key: the known location if there is one, and
-/// otherwise the result of a lookup.
+/// Returns the location of the item with this key. A known location is returned as it is; otherwise
+/// the key is looked up.
 #[inline(always)]
 fn place_of<L: Look>(
     look: &mut L,

@@ -84,8 +84,8 @@ fn step_to<L: Look>(look: &mut L, cursor: &mut Cursor, key: &[u8]) -> Option<(u6
     Some((page, at))
 }
 
-/// Returns the location of the catalog item with this key, if there is one. It is searched for at
-/// the cursor first, and then with a descent. The cursor is left just past the item.
+/// Returns the location of the catalog item with this key, if there is one. The item at the cursor
+/// is tried first; if it has another key, a descent follows. The cursor is left just past the item.
 fn next_place<L: Look>(
     look: &mut L,
     catalog: u64,
@@ -105,8 +105,8 @@ fn next_place<L: Look>(
     step_to(look, cursor, key)
 }
 
-/// Returns the location of a node's value for a name, if the node has it. It is found as by
-/// `next_place`.
+/// Returns the location of a node's value for a name, if the node has it. It searches in the same
+/// way as `next_place`.
 fn value_place<L: Look>(
     look: &mut L,
     catalog: u64,
@@ -247,9 +247,9 @@ pub fn columns<L: Look>(
     filled.bytes as u64
 }
 
-/// Returns a node's attribute as a cell, if the node exists and has the attribute. The bytes of a
-/// string are written to the beginning of `bytes`, as far as they fit. It costs one descent of the
-/// catalog tree and allocates no memory.
+/// Returns a node's attribute as a cell, if the node exists and has the attribute. As many bytes of
+/// a string as fit are written to `bytes`. It costs one descent of the catalog tree and allocates
+/// no memory.
 #[inline(always)]
 pub fn get_into<L: Look>(
     look: &mut L,
