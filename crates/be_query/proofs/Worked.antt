@@ -1,4 +1,4 @@
--- Printing keeps whatever clean items build.
+-- Printing preserves whatever clean items build.
 use Rattle.std.proofs.Common.{◌≡◌, ℕ, ◌+◌, ◌<◌, ◌^◌, zero, suc, arith, Bool, true, false, Option, Some, None, Result, Ok, Err, List, [], ◌∷◌, ◌++◌, length, map, refl, sym, ap, ◌∙◌, subst}
 use Rattle.std.specs.Prelude.{IsUtf8, nat_le, nat_lt}
 use Rattle.std.specs.List.{list_all}
@@ -163,7 +163,7 @@ shallow_kept : (r : Result (ℕ × List Thing) Refusal) → WorkKept r → WorkK
 shallow_kept (Err e) h = tt
 shallow_kept (Ok s) h = cond_both (nat_lt 64 (length s.1)) _ _ WorkKept (λ e. tt) (λ e. h)
 
--- one clean item preserves this
+-- A clean item keeps everything on the stack printable.
 pub item_kept : (at n : ℕ) (things : List Thing) (i : Item) (s : ℕ × List Thing) → StackKept things → ItemClean i → shallow (work at n things i) ≡ Ok s → StackKept s.1
 item_kept at n things i s k c e = subst WorkKept e (shallow_kept _ (work_kept at n things i k c))
 
