@@ -1,5 +1,4 @@
--- The nodes that a walk finds over the keys of a range if it tests each node against the remaining
--- condition of a query.
+-- What a walk finds if it tests each node against the remaining condition of a query.
 use Rattle.std.specs.Prelude.{◌≡◌, ◌⊎◌, ◌<◌, ◌&&◌, ℕ, Bool, true, false, not, List, [], ◌++◌}
 use Rattle.std.specs.Prelude.{IfSome, Ok, Some, drop, filter, length, take}
 use Rattle.std.specs.List.{Contains}

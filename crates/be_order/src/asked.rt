@@ -1,5 +1,4 @@
-//! Pages found by walking the index and testing each node against the remaining condition of the
-//! query.
+//! Pages found by walking the index and testing nodes against the query's remaining condition.
 //!
 //! The walk proceeds in parts. It ends when the page is full or the range is exhausted. If it
 //! reaches its limit on visited keys before that, it gives up, and another method is tried.

@@ -1,10 +1,9 @@
-//! Estimates the cost of each method of finding a page, for queries that the keys of the order's
-//! own index don't decide.
+//! Estimates the cost of each method of finding a page.
 //!
-//! There are three methods. A walk may test each node against the remaining condition of the query.
-//! It may look up each node in a list of all nodes that satisfy the condition. Or the whole answer
-//! may be found and sorted. The estimates only select the method, so a wrong estimate can't make a
-//! page wrong.
+//! If the keys of the order's own index don't decide the query, there are three methods. A walk can
+//! test each node against the remaining condition of the query, or look up each node in a list of
+//! all nodes that satisfy the condition. Or the whole answer can be found and sorted. The estimates
+//! only select the method, so a wrong estimate can't make a page wrong.
 ghost use Rattle.std.specs.Prelude.{◌≡◌};
 ghost use Rattle.be_plan.specs.Sources.{StillAnswers};
 ghost use Rattle.be_volume.specs.Volume.{State};

@@ -1,5 +1,4 @@
--- What is written for nodes and names: a cell for each combination, and the bytes of all strings,
--- one after another.
+-- What is written for nodes and names: a cell for each pair, and the bytes of all strings.
 use Rattle.std.specs.Prelude.{◌≡◌, ◌≢◌, ◌≤◌, ◌⊎◌, ◌+◌, ◌*◌, ℕ, Bool, List, [], ◌∷◌, ◌++◌, None}
 use Rattle.std.specs.Prelude.{Some, Ok, Err, IfNone, IfSome, length, take, drop, map as each}
 use Rattle.std.specs.Prelude.{if◌then◌else◌}

@@ -1,5 +1,4 @@
--- The strings in the keys of an index, and the nodes of the keys whose strings satisfy a
--- comparison.
+-- The strings in the keys of an index, and the nodes whose strings satisfy a comparison.
 use Rattle.std.specs.Prelude.{ℕ, ◌≤◌, Bool, List, [], ◌∷◌, All, IsUtf8, length, if◌then◌else◌}
 use Rattle.std.specs.List.{flat_map}
 use Rattle.std.specs.declared.option.Option.{Option}

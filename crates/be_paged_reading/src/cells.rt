@@ -1,5 +1,6 @@
-//! Writes values to the caller's buffers: a cell for each value, and the bytes of all strings, one
-//! after another.
+//! Writes values to the caller's buffers.
+//!
+//! Each value gets a cell. The bytes of all strings are written one after another.
 ghost use Rattle.std.specs.Prelude.{◌≡◌, ◌+◌, ◌-◌, ◌*◌, ◌^◌, ◌<◌, ◌≤◌, ℕ, ℤ, List, [], ◌∷◌, ◌++◌};
 ghost use Rattle.std.specs.Prelude.{Ok, Err, Some, drop, length};
 ghost use Rattle.std.specs.Int.{cast_unsigned, w32, w64};

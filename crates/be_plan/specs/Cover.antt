@@ -1,5 +1,5 @@
--- The comparisons that a query may be answered from, and the choice among them. A pick is the
--- position of a comparison, counted from 0 and from left to right.
+-- The comparisons that a query may be answered from, and the choice among them.
+-- A pick is the position of a comparison, counted from 0 and from left to right.
 use Rattle.std.specs.Prelude.{ℕ, ◌+◌, Bool, true, false, ◌&&◌, ◌||◌, List, [], ◌∷◌, ◌++◌, nat_eq}
 use Rattle.std.specs.Prelude.{nat_lt, Some, None, if◌then◌else◌, slice_get}
 use Rattle.std.specs.Option.{option_map_or}

@@ -1,5 +1,5 @@
--- Building the tree of a query while its tokens are read. This is used only by the proofs:
--- `Grammar` defines the tree of a text.
+-- Building the tree of a query while its tokens are read.
+-- This is used only by the proofs: `Grammar` defines the tree of a text.
 use Rattle.std.specs.Prelude.{◌≡◌, ℕ, zero, suc, Bool, true, false, Option, Some, None, List, []}
 use Rattle.std.specs.Prelude.{◌∷◌, not, if◌then◌else◌}
 use Rattle.be_query.specs.declared.tree.Cmp.{Cmp}

@@ -1,5 +1,5 @@
--- Encodes formulas so that they can be the value of a model. The code is a list of symbols in
--- reverse Polish order.
+-- Encodes formulas so that they can be the value of a model.
+-- The code is a list of symbols in reverse Polish order.
 use Rattle.std.specs.Prelude.{◌≡◌, ◌⊎◌, ℕ, Bool, true, false, List, [], ◌∷◌, refl}
 use Rattle.std.specs.Coded.{Coded, code_by, coded_ℕ, coded_bool, coded_list, coded×, coded⊎}
 use Rattle.std.proofs.Common.{inl, inr, zero, suc, ◌∙◌}

@@ -1,5 +1,4 @@
--- The error of a query's text: the first error that is found when its tokens are read from left to
--- right.
+-- The error of a query's text: the first one found when its tokens are read from left to right.
 use Rattle.std.specs.Prelude.{ℕ, ◌+◌, Bool, true, false, Option, Some, None, Result, Ok, Err, List}
 use Rattle.std.specs.Prelude.{[], ◌∷◌, length, nat_lt, nat_le, if◌then◌else◌}
 use Rattle.std.specs.Str.{chars}

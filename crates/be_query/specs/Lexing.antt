@@ -1,5 +1,5 @@
--- How the text of a query, a list of bytes, is split into tokens. The longest possible token is
--- taken.
+-- How the text of a query is split into tokens.
+-- Texts are lists of bytes. The longest possible token is taken.
 use Rattle.std.specs.Prelude.{◌≡◌, ◌≢◌, ◌≤◌, ◌<◌, ◌⊎◌, ℕ, ◌+◌, ◌-◌, zero, suc, Bool, true, false}
 use Rattle.std.specs.Prelude.{List, [], ◌∷◌, length, slice_index, take, ◌||◌, not, ◌==◌}
 use Rattle.std.specs.Prelude.{if◌then◌else◌}

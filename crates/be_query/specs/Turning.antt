@@ -1,5 +1,5 @@
--- Taking a tree apart by rotating its inner nodes to the right. This is used only for dropping
--- trees.
+-- Taking a tree apart by rotating its inner nodes to the right.
+-- This is used only for dropping trees.
 use Rattle.std.specs.Prelude.{ℕ, ◌+◌}
 use Rattle.be_query.specs.Grammar.{Formula, Leaf, And, Or}
 

@@ -1,5 +1,5 @@
--- How the definitions view the program's values. Public contracts use only `formula`, `literal` and
--- `IsMemory`.
+-- How the definitions view the program's values.
+-- Public contracts use only `formula`, `literal` and `IsMemory`.
 use Rattle.std.specs.Prelude.{◌≡◌, ◌⊎◌, ◌<◌, ◌≤◌, ◌-◌, ℕ, Bool, true, if◌then◌else◌, ◌||◌, ◌==◌}
 use Rattle.std.specs.Prelude.{◌+◌, Option, Some, None, List, [], ◌∷◌, string_bytes, map, reverse}
 use Rattle.std.specs.Prelude.{length, drop, IsUtf8, false}

@@ -1,6 +1,7 @@
-//! Reads the tokens of a query from left to right. Every open `(` has a level, which holds the left
-//! sides of those `||` and `&&` that still need their right sides, and counts the `!` that still
-//! need their operand.
+//! Reads the tokens of a query from left to right.
+//!
+//! Every open `(` has a level, which holds the left sides of those `||` and `&&` that still need
+//! their right sides, and counts the `!` that still need their operand.
 //!
 //! A `!` is applied while its operand is read: inside an odd number of `!`, each comparison and
 //! each connective is built as its complement. Nothing here recurses, and no finished tree is

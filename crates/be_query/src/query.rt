@@ -1,5 +1,7 @@
-//! Queries, and how they are read from text. Tokens are read one by one from left to right. The
-//! first token that can't follow, or that is in error itself, is reported with its byte offset.
+//! Queries, and how they are read from text.
+//!
+//! Tokens are read one by one from left to right. The first token that can't follow, or that is
+//! itself in error, is reported with its byte offset.
 ghost use Rattle.std.specs.Prelude.{◌≡◌, ◌≤◌, None, Some, IfOk, IfErr};
 ghost use Rattle.be_query.specs.Faults.{fault};
 ghost use Rattle.be_query.specs.Grammar.{IsTextOf, comparisons};

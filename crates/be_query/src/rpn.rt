@@ -1,5 +1,6 @@
-//! Builds queries from items in reverse Polish notation, using a stack (like `BQuery` in the Be
-//! Book).
+//! Builds queries from items in reverse Polish notation.
+//!
+//! The items operate on a stack (like `BQuery` in the Be Book).
 ghost use Rattle.std.specs.Prelude.{◌≡◌, ◌≤◌, ℕ, ◌∷◌, Ok, Err, Some, None, IfOk, IfErr};
 ghost use Rattle.std.specs.Prelude.{MatchOption, map, string_bytes};
 ghost use Rattle.be_query.specs.Building.{conjunction};

@@ -70,8 +70,7 @@ to_member f c (p ∷ ps) (suc k, lt, at) =
     let rest = to_member f c ps (k, omega arith, at) in
     cond_both (p.0 == f) (p ∷ filter (λ q. q.0 == f) ps) (filter (λ q. q.0 == f) ps) (λ l. is_member c (map (λ q. q.1) l) ≡ true) (λ w. right_or _ _ rest) (λ w. rest)
 
--- If a character folds to itself, every character that folds to it is either this character or one
--- of the others.
+-- If f folds to itself, a character folds to f if and only if it is f or one of its others.
 pub fold_member : (f c : ℕ) → IsFoldPairs fold_pairs → simple_fold f ≡ f → is_member c (f ∷ others f) ≡ true → simple_fold c ≡ f
 fold_member f c pairs idem h = ⊎_elim
     (λ v. ap simple_fold (sym (within_single c f v)) ∙ idem)

@@ -152,7 +152,7 @@ case_one : (f : ℕ) (ds : List ℕ) (ps : List Part) (o : ℕ) (os : List ℕ) 
 case_one f [] ps o os = refl
 case_one f (d ∷ ds) ps o os = refl
 
--- A set admits a character if and only if the character folds to the first one.
+-- A set admits a character if and only if the character folds to f.
 admitted : (f : ℕ) (ds : List ℕ) (o : ℕ) → others f ≡ ds → IsFoldPairs fold_pairs → simple_fold f ≡ f → admits (case_part f ds) o ≡ true → simple_fold o ≡ f
 admitted f [] o e pairs idem h = ap simple_fold (eqb-true o f h) ∙ idem
 admitted f (d ∷ ds) o e pairs idem h = fold_member f o pairs idem (ap (λ l. is_member o (f ∷ l)) e ∙ h)

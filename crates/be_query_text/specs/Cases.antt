@@ -1,5 +1,5 @@
--- Texts that are equal except for upper and lower case, according to Unicode's simple case folding,
--- character by character.
+-- Texts that are equal except for case, according to Unicode's simple case folding.
+-- Texts are compared character by character.
 use Rattle.std.specs.Prelude.{◌≡◌, ◌↔◌, ℕ, true, ◌==◌, List, [], ◌∷◌, ◌++◌, map, filter}
 use Rattle.std.specs.Prelude.{Ok}
 use Rattle.std.specs.List.{flat_map}
