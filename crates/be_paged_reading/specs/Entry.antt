@@ -9,8 +9,8 @@ pub record Entry : Type 0 where
   pub kind : Kind
   pub root : ℕ
 
--- The eight words contain the bytes of the text. The first byte is the most significant byte of the
--- first word, and the bytes after the last one are zeros.
+-- The eight words contain the bytes of the string. The first byte is the most significant byte of
+-- the first word, and the bytes after the last one are zeros.
 pub record HaveText (words : ℕ → ℕ) (text : List ℕ) : Type 0 where
   pub small : (j : ℕ) → j < 8 → words j < 2 ^ 64
   pub bytes : (j : ℕ) → j < 8 → to_be_bytes w64 (words j)

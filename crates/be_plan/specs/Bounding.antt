@@ -9,9 +9,9 @@ use Rattle.be_volume.specs.Query.{sat, sees}
 use Rattle.be_volume.specs.Volume.{State}
 use Rattle.be_plan.specs.Narrow.{IsPair, LeavesRest, Within}
 
--- In any volume, each node that satisfies the formula has its key in the index of `name` between
--- `low` and `high`. A node with a key in this range satisfies the formula if and only if it
--- satisfies the remaining condition.
+-- In any volume with an index of this name and kind, every node in the index that satisfies the
+-- formula has its key in the range from `low` to `high`. A node with a key in this range satisfies
+-- the formula if and only if it satisfies the remaining condition.
 pub record Bounding (f : Formula) (name : List ℕ) (kind : Kind) (low : List ℕ)
     (high : Option (List ℕ)) (rest : Option Formula) : Type 0 where
   pub keeps : (s : State) (value : Value) (node : ℕ) → IsPair kind value node

@@ -61,7 +61,7 @@ abbrev pub ends : Awaited → List Mark → ℕ → Option Refusal
 ends Joint [] len = None
 ends _ _ len = Some (Syntax len)
 
--- The first error of the lexemes, in a text of `len` bytes that has been read up to these lexemes.
+-- The first error of the lexemes, in text of `len` bytes that has been read up to these lexemes.
 abbrev pub first_fault : Awaited → List Mark → ℕ → ℕ → List Placed → Option Refusal
 first_fault place marks comparisons len [] = ends place marks len
 first_fault place marks comparisons len (x ∷ xs) = elim x.lexeme [

@@ -41,7 +41,7 @@ abbrev mutual
   not_tokens (group o) = Open ∷ (or_tokens o ++ Close ∷ [])
   not_tokens (comparison name valid op value) = Text name ∷ Compares op ∷ Text value ∷ []
 
--- What an attribute is compared with: the tokens of a pattern, or a text as it is.
+-- What an attribute is compared with: the tokens of a pattern, or a string as it is.
 pub data Literal : Type 0 where
   Wild : List Part → Literal
   Exact : List ℕ → Literal

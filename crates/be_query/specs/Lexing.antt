@@ -1,5 +1,5 @@
--- How the text of a query is split into tokens.
--- Texts are lists of bytes. The longest possible token is taken.
+-- How the text of a query, which is a list of bytes, is split into tokens.
+-- The longest possible token is taken.
 use Rattle.std.specs.Prelude.{◌≡◌, ◌≢◌, ◌≤◌, ◌<◌, ◌⊎◌, ℕ, ◌+◌, ◌-◌, zero, suc, Bool, true, false}
 use Rattle.std.specs.Prelude.{List, [], ◌∷◌, length, slice_index, take, ◌||◌, not, ◌==◌}
 use Rattle.std.specs.Prelude.{if◌then◌else◌}
@@ -71,8 +71,8 @@ pub data Lexeme : Type 0 where
   -- A byte that can't begin a token: a single `&` or `|`, or a NUL.
   Odd : Lexeme
 
--- What a text begins with: a separator, or a lexeme with its length and the number of bytes before
--- its own text.
+-- What the text begins with: a separator, or a lexeme with its length and the number of bytes
+-- before its own text.
 pub data Front : Type 0 where
   Separator : Front
   Takes : Lexeme → ℕ → ℕ → Front
@@ -111,7 +111,7 @@ pub record Placed : Type 0 where
   pub start : ℕ
   pub lexeme : Lexeme
 
--- The lexemes of a text that begins at a position, of which some leading bytes have already been
+-- The lexemes of text that begins at a position, of which some leading bytes have already been
 -- taken.
 abbrev pub lexemes : ℕ → ℕ → List ℕ → List Placed
 lexemes taken at [] = []
@@ -132,6 +132,6 @@ abbrev pub all_whole : List Placed → Bool
 all_whole [] = true
 all_whole (x ∷ xs) = elim x.lexeme [ Whole t ↦ all_whole xs | Broken n ↦ false | Odd ↦ false ]
 
--- The tokens of a text.
+-- The tokens of the text.
 abbrev pub tokens : List ℕ → List Token
 tokens text = whole (lexemes 0 0 text)

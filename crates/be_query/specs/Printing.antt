@@ -109,7 +109,7 @@ IsPrintable (Leaf n op v) = (is_name (with_backslashes n) ≡ true) × (plain (w
 IsPrintable (And l r) = IsPrintable l × IsPrintable r
 IsPrintable (Or l r) = IsPrintable l × IsPrintable r
 
--- Between two `"`, the text is a single token.
+-- Between two `"`, the string is a single token.
 abbrev pub IsWhole : List ℕ → Type 0
 IsWhole text = (rest : List ℕ) → quoted_span 34 false (text ++ 34 ∷ rest) ≡ Ends (length text)
 
@@ -119,7 +119,7 @@ IsQuotable (Leaf n op v) = IsWhole (with_backslashes n) × IsWhole (literal_text
 IsQuotable (And l r) = IsQuotable l × IsQuotable r
 IsQuotable (Or l r) = IsQuotable l × IsQuotable r
 
--- The pattern is read back from its canonical text, and the text contains no NUL.
+-- The pattern is read back from its canonical text, and no string contains a NUL.
 abbrev pub IsKeptBy : Cmp → Literal → Type 0
 IsKeptBy op (Wild ps) = (takes_pattern op ≡ true) × (pattern (canonical ps) ≡ Ok ps)
     × (has_nul (canonical ps) ≡ false) × (all_scalars (canonical ps) ≡ true)

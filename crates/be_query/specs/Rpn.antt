@@ -27,10 +27,10 @@ pub data Thing : Type 0 where
 pub data Item : Type 0 where
   Attr : List ℕ → Item
   Given : List ℕ → Item
-  -- A number, as its decimal text.
+  -- A number in decimal.
   Number : List ℕ → Item
   Compare : Cmp → Item
-  -- `==` with a literal text, and whether a `*` precedes it and follows it.
+  -- `==` with a literal string, and whether a `*` precedes it and follows it.
   Around : Bool → Bool → Item
   Both : Item
   Either : Item
@@ -68,7 +68,8 @@ top_trees stack = tree_below (top_tree stack)
 abbrev pub counts : ℕ → Formula → List Thing → Result (ℕ × List Thing) Refusal
 counts n leaf stack = if nat_le 256 n then Err TooMany else Ok (n + 1, Whole leaf ∷ stack)
 
--- The literal that a text is compared as: a pattern, or for an order operator the text as it is.
+-- The literal that a string is compared as: a pattern, or for an order operator the string as it
+-- is.
 abbrev pub given_literal : Cmp → List ℕ → Literal
 given_literal op text = if takes_pattern op then literal_of op text else Exact text
 
@@ -153,7 +154,7 @@ item_of code_item.TheVariants.And = Both
 item_of code_item.TheVariants.Or = Either
 item_of code_item.TheVariants.Not = Complement
 
--- The name of an item is valid, and its text is valid UTF-8.
+-- The name of an item is valid, and its string is valid UTF-8.
 abbrev pub ItemClean : Item → Type 0
 ItemClean (Attr name) = name_from name ≡ Ok name
 ItemClean (Given text) = IsUtf8 text

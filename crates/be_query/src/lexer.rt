@@ -24,7 +24,7 @@ pub(crate) enum Span {
     Breaks(usize),
 }
 
-/// What a text begins with.
+/// What the remaining text begins with.
 #[derive(Clone, Copy)]
 pub(crate) enum Front<'a> {
     /// A separator, followed by this text.
@@ -205,7 +205,7 @@ fn sign(first: u8, second: Option<u8>) -> Option<(Token<'static>, usize)>
     }
 }
 
-/// Splits a text that begins with this quote.
+/// Splits off the quoted string that the text begins with.
 fn quoted_front(quote: u8, text: &str) -> Front<'_>
     requires nonempty { 0 < length text.now }
     requires first { slice_index text.now 0 ≡ quote }
@@ -232,7 +232,7 @@ fn byte_at(bytes: &[u8], i: usize) -> Option<u8>
     bytes.get(i).copied()
 }
 
-/// Splits a text that begins with this sign or with a NUL.
+/// Splits off the sign that the text begins with. If the text begins with a NUL, no token is found.
 fn sign_front(first: u8, text: &str) -> Front<'_>
     requires nonempty { 0 < length text.now }
     requires first { slice_index text.now 0 ≡ first }
@@ -252,7 +252,7 @@ fn sign_front(first: u8, text: &str) -> Front<'_>
     }
 }
 
-/// Splits a text that begins with a word.
+/// Splits off the word that the text begins with.
 fn word_front(text: &str) -> Front<'_>
     requires nonempty { 0 < length text.now }
     requires separator { is_separator (slice_index text.now 0) ≡ false }
@@ -271,7 +271,7 @@ fn word_front(text: &str) -> Front<'_>
     }
 }
 
-/// Splits off what a nonempty text begins with.
+/// Splits off the separator or token that nonempty text begins with.
 pub(crate) fn split_front(text: &str) -> Front<'_>
     requires { 0 < length text.now }
     ensures front { IsFront text.now result }

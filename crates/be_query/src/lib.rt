@@ -1,4 +1,4 @@
-//! The query language: turns texts and predicates into trees of comparisons.
+//! The query language: turns query text and predicates into trees of comparisons.
 //!
 //! A query is a tree. Its leaves compare an attribute with a literal, and its inner nodes are `&&`
 //! and `||`. A `!` is pushed down to the leaves while the tree is built. `parse` reads a query from

@@ -146,7 +146,8 @@ impl Context {
         }
     }
 
-    /// Returns the tree at the end of a text of `len` bytes. No token may be accepted after this.
+    /// Returns the tree at the end of the text, which is `len` bytes long. No token may be accepted
+    /// after this.
     pub(crate) fn finish(
         &mut self,
         alloc: Global,
@@ -180,7 +181,7 @@ impl<'a> Parser<'a> {
     ghost use Rattle.be_query.specs.Building.{nothing_built};
     ghost use Rattle.be_query.specs.View.{parser_state};
 
-    /// Creates a parser at the start of a text.
+    /// Creates a parser at the start of the text.
     pub(crate) fn new(alloc: Global) -> Parser<'a>
         ensures counted { IsCounted (stage_of result.stage) result.context }
         ensures start { parser_state result ≡ nothing_built }
@@ -346,8 +347,8 @@ fn take_joint<'a>(
 }
 
 #[tactic(auto, using(crate::proofs::Short::short_name))]
-/// Returns `true` if a text without a NUL encodes a name. Unescaping only shortens a text, so a
-/// text of 1 to 63 bytes doesn't have to be unescaped.
+/// Returns `true` if `raw`, which contains no NUL, encodes a name. Unescaping only shortens a
+/// string, so one of 1 to 63 bytes doesn't have to be unescaped.
 fn encodes_name(alloc: Global, raw: &str) -> Result<bool, AllocError>
     requires { has_nul raw.now ≡ false }
     ensures { IfOk result (λ b. is_name raw.now ≡ b) }
@@ -363,7 +364,7 @@ fn encodes_name(alloc: Global, raw: &str) -> Result<bool, AllocError>
     }
 }
 
-/// Returns the name that a text encodes, if it encodes one.
+/// Returns the name that `raw` encodes, if it encodes one.
 fn read_name(alloc: Global, raw: &str) -> Result<Option<Name>, AllocError>
     ensures { IfOk result (λ o. MatchOption o (is_name raw.now ≡ false)
         (λ n. (n ≡ plain raw.now) × (is_name raw.now ≡ true))) }
@@ -375,7 +376,7 @@ fn read_name(alloc: Global, raw: &str) -> Result<Option<Name>, AllocError>
     Ok(name_of(&text))
 }
 
-/// Returns the text as a name, if it is a valid one.
+/// Returns the string as a name, if it is a valid one.
 fn name_of(text: &str) -> Option<Name>
     ensures { MatchOption result (is_ok (name_from text.now) ≡ false)
         (λ n. (n ≡ text.now) × (is_ok (name_from text.now) ≡ true)) }
@@ -386,7 +387,7 @@ fn name_of(text: &str) -> Option<Name>
     }
 }
 
-/// Returns `true` if the text contains no backslash.
+/// Returns `true` if the string contains no backslash.
 fn is_plain(raw: &str) -> bool
     ensures { result ≡ true → plain raw.now ≡ raw.now }
 {
@@ -411,7 +412,7 @@ fn split_plain(text: &str) -> Option<(char, &str)>
     }
 }
 
-/// Returns the text with its backslashes resolved.
+/// Returns the string with its backslashes resolved.
 fn unescape(alloc: Global, raw: &str) -> Result<String, AllocError>
     ensures { IfOk result (λ s. string_bytes s ≡ plain raw.now) }
 {

@@ -53,12 +53,12 @@ impl Query {
     }
 }
 
-/// Reads the query that a text encodes.
+/// Parses the text of a query.
 ///
-/// A text of more than 4,096 bytes is `TooLong`, whatever it contains. Otherwise the leftmost error
-/// is returned, with its byte offset in the text:
+/// Text of more than 4,096 bytes is `TooLong`, whatever it contains. Otherwise the leftmost error
+/// is returned, with its byte offset:
 ///
-/// - `Syntax` at a token that can't follow, or at the end of a text that ends too soon
+/// - `Syntax` at a token that can't follow, or at the end of text that ends too soon
 /// - `BadPattern` at the `[` of an invalid set
 /// - `TooMany` at the 257th comparison
 /// - `TooDeep` at a `(` or `!` inside 64 open ones
@@ -67,12 +67,12 @@ impl Query {
 /// other token. Nothing recurses, whatever the text contains, not even when an error drops the
 /// trees that have been built.
 ///
-/// Memory is allocated for a name's text if it contains a backslash or is longer than 63 bytes
-/// before unescaping. It is also allocated for the text of every value; for a pattern that uses
-/// pattern notation, including each of its sets; for every comparison; and for every connective
-/// when its right side is complete.
+/// Memory is allocated for a name if it contains a backslash or is longer than 63 bytes before
+/// unescaping. It is also allocated for every value; for a pattern that uses pattern notation,
+/// including each of its sets; for every comparison; and for every connective when its right side
+/// is complete.
 pub fn parse(alloc: Global, text: &str) -> Result<Query, Refusal>
-    // A text without an error is a sentence of the grammar, and this is its tree.
+    // Text without an error is a sentence of the grammar, and this is its tree.
     ensures ok { IfOk result (λ q. (fault text.now ≡ None) × IsTextOf text.now q) }
     // The error is that of the text, unless memory ran out.
     ensures err { IfErr result (λ e. IsMemory e (fault text.now ≡ Some e)) }

@@ -38,11 +38,11 @@ pub enum Item {
     Le,
     Gt,
     Ge,
-    /// The attribute contains the text.
+    /// The attribute contains the string.
     Contains,
-    /// The attribute begins with the text.
+    /// The attribute begins with the string.
     BeginsWith,
-    /// The attribute ends with the text.
+    /// The attribute ends with the string.
     EndsWith,
     And,
     Or,
@@ -67,8 +67,8 @@ pub(crate) struct Stack {
 /// Builds the query that the items describe.
 ///
 /// `BadRpn` and `BadPattern` contain the index of an item, counting from 0. `BadRpn` is returned
-/// for an item whose operands aren't on the stack, and for a text that contains a NUL. If the items
-/// leave anything other than a single query on the stack, its index is the number of items.
+/// for an item whose operands aren't on the stack, and for a string that contains a NUL. If the
+/// items leave anything other than a single query on the stack, its index is the number of items.
 /// `BadPattern` is returned for a comparison with an invalid pattern.
 ///
 /// `TooMany` is returned for the 257th comparison, and `TooDeep` if there are more than 64 things
@@ -123,7 +123,7 @@ fn know_item(item: &Item)
     }
 }
 
-/// States facts that hold for the decimal text of a number. This function does nothing.
+/// States facts that hold for the decimal form of a number. This function does nothing.
 fn know_uint(n: u64)
     ensures { ItemClean (Number (decimal n)) }
 {
@@ -195,7 +195,7 @@ fn work(alloc: Global, stack: &mut Stack, at: usize, item: &Item) -> Result<(), 
     }
 }
 
-/// Returns `true` if the text contains a NUL.
+/// Returns `true` if the string contains a NUL.
 fn has_nul(text: &str) -> bool
     ensures { result ≡ has_nul text.now }
 {
@@ -246,8 +246,8 @@ fn compare(alloc: Global, stack: &mut Stack, at: usize, op: Cmp) -> Result<(), R
     push_comparison(stack, Comparison { name, op, literal })
 }
 
-/// Returns the literal for a text. For `==` and `!=` it is a pattern, or the position of the error
-/// in the pattern. For an order operator it is the text as it is.
+/// Returns the literal for a value. For `==` and `!=` it is a pattern, or the position of the error
+/// in the pattern. For an order operator it is the string as it is.
 fn given_literal(alloc: Global, op: Cmp, text: String) -> Result<Result<Literal, usize>, AllocError>
     ensures ok { IfOk result (λ r. IfOk r
         (λ l. (literal l ≡ given_literal op (string_bytes text))
@@ -262,8 +262,8 @@ fn given_literal(alloc: Global, op: Cmp, text: String) -> Result<Result<Literal,
 }
 
 /// Pops a value and the attribute below it, and pushes an `==` comparison of the attribute with a
-/// pattern. The pattern is the literal text of the value, with a `*` before it if `before` is
-/// `true` and one after it if `beyond` is `true`.
+/// pattern. The pattern is the literal string, with a `*` before it if `before` is `true` and one
+/// after it if `beyond` is `true`.
 fn surround(
     alloc: Global,
     stack: &mut Stack,

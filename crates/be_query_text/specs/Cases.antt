@@ -1,5 +1,5 @@
--- Texts that are equal except for case, according to Unicode's simple case folding.
--- Texts are compared character by character.
+-- Strings that are equal except for case, according to Unicode's simple case folding.
+-- Strings are compared character by character.
 use Rattle.std.specs.Prelude.{◌≡◌, ◌↔◌, ℕ, true, ◌==◌, List, [], ◌∷◌, ◌++◌, map, filter}
 use Rattle.std.specs.Prelude.{Ok}
 use Rattle.std.specs.List.{flat_map}
@@ -9,7 +9,7 @@ use Rattle.be_pattern.specs.Parse.{pattern}
 use Rattle.ucd_case.specs.CaseFolding.{fold_pairs, simple_fold}
 use Rattle.be_query_text.specs.Encoded.{escaped_char}
 
--- The bytes are a pattern that matches exactly the texts that equal this one except for case.
+-- The bytes are a pattern that matches exactly the strings that equal this one except for case.
 abbrev pub MatchesAnyCase : List ℕ → List ℕ → Type 0
 MatchesAnyCase bytes text = (parts : List Part) × (pattern (chars bytes) ≡ Ok parts)
     × ((cs : List ℕ) → (matches parts cs ≡ true) ↔ (map simple_fold cs

@@ -32,7 +32,7 @@ pub record Description : Type 0 where
   pub words : List ℕ
   pub place : Place
 
--- The form of a literal that encodes no number. A pattern without a wildcard counts as a text.
+-- The form of a literal that encodes no number. A pattern without a wildcard counts as a string.
 abbrev pub form_without_number : Literal → Form
 form_without_number (Exact words) = Text
 form_without_number (Wild parts) = if is_plain parts then Text else Pattern
@@ -41,7 +41,7 @@ abbrev pub form_of : Literal → Option ℤ → Form
 form_of literal (Some n) = Number
 form_of literal None = form_without_number literal
 
--- The text, or the canonical text of a pattern with a wildcard.
+-- The string, or the canonical text of a pattern with a wildcard.
 abbrev pub words_of : Literal → List ℕ
 words_of (Exact words) = words
 words_of (Wild parts) = encode_utf8_all (if is_plain parts then literal_prefix parts

@@ -1,4 +1,4 @@
--- A text as a name or a value in a query.
+-- A string as a name or a value in a query.
 use Rattle.std.specs.Prelude.{◌≡◌, ℕ, ◌+◌, Bool, true, false, ◌||◌, ◌==◌, List, [], ◌∷◌, ◌++◌}
 use Rattle.std.specs.Prelude.{length, map, Ok}
 use Rattle.std.specs.List.{flat_map}
@@ -22,7 +22,7 @@ pub record IsOneToken (bytes : List ℕ) : Type 0 where
   pub word : (b : ℕ) (bs rest : List ℕ) → bytes ≡ b ∷ bs → EndsWord rest → front b (bs ++ rest)
       ≡ Takes (Whole (Text bytes)) (length bytes) 0
 
--- A query reads the bytes as this text, wherever it reads a name or a value.
+-- A query reads the bytes as this string, wherever it reads a name or a value.
 pub record Encodes (bytes text : List ℕ) : Type 0 where
   pub token : IsOneToken bytes
   -- As a name, or as the value of an order operator.
@@ -38,6 +38,6 @@ is_special c = (is_separator c || is_quote c || is_sign c) || (c == 92) || (c ==
 abbrev pub escaped_char : ℕ → List ℕ
 escaped_char c = marked (is_special c) c
 
--- The text with a backslash before each special character.
+-- The string with a backslash before each special character.
 abbrev pub escaped : List ℕ → List ℕ
 escaped = flat_map escaped_char

@@ -22,7 +22,7 @@ pieces_of at start (Text raw) = code.TheVariants.Text
       end = start + length raw + (start - at);
     }) ∷ []
 
--- The names, operators and values in a text, from left to right.
+-- The names, operators and values in the text, from left to right.
 abbrev pub pieces : List Placed → List code.Piece
 pieces [] = []
 pieces (x ∷ xs) = elim x.lexeme [

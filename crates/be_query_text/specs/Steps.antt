@@ -1,4 +1,5 @@
--- One step from the front of a text toward its end. This is used only by the proofs.
+-- One step from the front of the text toward its end.
+-- This is used only by the proofs.
 use Rattle.std.specs.Prelude.{◌≡◌, ◌≤◌, ◌<◌, ℕ, ◌+◌, ◌-◌, true, false, Option, Some, None}
 use Rattle.std.specs.Prelude.{List, ◌∷◌, length, ◌||◌, ◌==◌}
 use Rattle.be_query.specs.Lexing.{Placed, Whole, Odd, Takes, front, is_sign, lexemes, all_whole}
@@ -23,7 +24,7 @@ SignIs first second None = (is_sign first || (first == 0)) ≡ true → front fi
 SignIs first second (Some p) = (front first (second_of second) ≡ Takes (Whole (token_of p.0)) p.1 0)
     × (1 ≤ p.1) × (p.1 ≤ 1 + length (second_of second))
 
--- The lexemes in the rest of a text of `total` bytes.
+-- The lexemes in the rest of the text, which is `total` bytes long.
 abbrev pub left : ℕ → List ℕ → List Placed
 left total rest = lexemes 0 (total - length rest) rest
 

@@ -1,4 +1,4 @@
-//! Patterns that match a text in both upper and lower case.
+//! Patterns that match a string in both upper and lower case.
 ghost use Rattle.std.specs.Prelude.{◌≡◌, ◌++◌, ◌∷◌, ◌<◌, [], false, IfNone, IfOk, IfSome};
 ghost use Rattle.std.specs.Prelude.{encode_utf8, encode_utf8_all, length, string_bytes};
 ghost use Rattle.std.specs.Char.{IsScalar};
@@ -12,9 +12,9 @@ use std::alloc::{AllocError, Global};
 use std::char;
 use ucd_case::{fold_pairs, simple_fold};
 
-/// Returns a pattern that matches exactly the texts that equal this one under Unicode's simple case
-/// folding, character by character: `[gG][üÜ]n` for `Gün`. A character that has no other case is
-/// written as `escaped` writes it, so the pattern can be used wherever an escaped text can.
+/// Returns a pattern that matches exactly the strings that equal this one under Unicode's simple
+/// case folding, character by character: `[gG][üÜ]n` for `Gün`. A character that has no other case
+/// is written as `escaped` writes it, so the pattern can be used wherever an escaped string can.
 ///
 /// Under simple folding, some sets have three characters, such as `k`, `K` and the Kelvin sign. `ß`
 /// and `ss` aren't equal. For each character, 3,134 pairs are searched.

@@ -19,9 +19,9 @@ use std::alloc::Global;
 /// What a comparison compares with.
 #[derive(Clone, Copy, Debug, PartialEq, Eq)]
 pub enum Form {
-    /// A text that encodes a whole number from -2^63 to 2^64 - 1.
+    /// A string that encodes a whole number from -2^63 to 2^64 - 1.
     Number,
-    /// Any other text.
+    /// Any other string.
     Text,
     /// A pattern with a wildcard.
     Pattern,
@@ -34,7 +34,7 @@ pub struct Compared {
     /// The operator in the tree: it is inverted by every `!` around the comparison.
     pub op: Cmp,
     pub form: Form,
-    /// The number, if the text encodes one.
+    /// The number, if the value encodes one.
     pub number: Option<i128>,
     /// What the comparison compares with, without quotes and backslashes. For a pattern, it is the
     /// canonical text.
@@ -51,7 +51,7 @@ pub fn comparisons(alloc: Global, text: &str) -> Result<Vec<Compared>, Refusal>
     ensures ok { IfOk result (λ v. (fault text.now ≡ None) × (tree : Formula)
         × IsTextOf text.now tree × (map reported v.items
         ≡ described (leaves tree) (places text.now))) }
-    // For a text that isn't a query, the error is that of `parse`.
+    // If the text isn't a query, the error is that of `parse`.
     ensures err { IfErr result (λ e. IsMemory e (fault text.now ≡ Some e)) }
 {
     let query = parse(alloc, text)?;
@@ -132,7 +132,7 @@ fn form_of(literal: &Literal, number: Option<i128>) -> Form
     }
 }
 
-/// Returns what a literal compares with: a text, or the canonical text of a pattern.
+/// Returns what a literal compares with: a string, or the canonical text of a pattern.
 fn words_of(alloc: Global, literal: &Literal) -> Result<String, Refusal>
     ensures ok { IfOk result (λ words. string_bytes words ≡ words_of (literal_of literal.now)) }
     ensures memory { IfErr result (λ e. e ≡ OutOfMemory) }

@@ -34,7 +34,7 @@ pub struct EncodedComparison {
     pub kind: u32,
     /// The operator in the text, with the same numbers.
     pub kind_in_text: u32,
-    /// 0 for a text, 1 for a whole number, and 2 for a pattern with a wildcard.
+    /// 0 for a string, 1 for a whole number, and 2 for a pattern with a wildcard.
     pub form: u32,
     /// Whether the comparison is false for all values of the kind.
     pub is_never_int32: bool,

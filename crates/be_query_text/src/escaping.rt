@@ -1,4 +1,4 @@
-//! Escapes a text so that it can be a name or a value in a query.
+//! Escapes a string so that it can be a name or a value in a query.
 ghost use Rattle.std.specs.Prelude.{◌≡◌, ◌++◌, ◌||◌, false, IfOk, encode_utf8_all, string_bytes};
 ghost use Rattle.be_pattern.specs.Canonical.{marked};
 ghost use Rattle.be_query.specs.Lexing.{is_quote, is_separator, is_sign};
@@ -8,9 +8,9 @@ ghost use Rattle.be_query_text.specs.Encoded.{Encodes, escaped_char, is_special}
 use be_pattern::matching::split_first_char;
 use std::alloc::{AllocError, Global};
 
-/// Returns the text with a backslash before each character that has a special meaning in a query or
-/// a pattern. A query reads the result as the original text: as a name or a value, in quotes of
-/// either kind or as a word, and also as part of a pattern. An empty text needs quotes.
+/// Returns the string with a backslash before each character that has a special meaning in a query
+/// or a pattern. A query reads the result as the original string: as a name or a value, in quotes
+/// of either kind or as a word, and also as part of a pattern. An empty string needs quotes.
 pub fn escaped(alloc: Global, text: &str) -> Result<String, AllocError>
     ensures { IfOk result (λ s. has_nul text.now ≡ false → Encodes (string_bytes s) text.now) }
 {

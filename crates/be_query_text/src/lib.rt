@@ -1,9 +1,9 @@
-//! Finds what the text of a query compares, and escapes text for use in a query.
+//! Finds what the text of a query compares, and escapes strings for use in a query.
 //!
-//! `comparisons` reads a text with be_query's parser and returns the comparisons of its tree, with
-//! their places in the text. `escaped` turns any text into a name or a value, and `any_case` turns
-//! it into a pattern that matches the text in both upper and lower case. The libraries for all
-//! languages call these functions, so that a text is read the same way everywhere.
+//! `comparisons` reads the text with be_query's parser and returns the comparisons of its tree,
+//! with their places in the text. `escaped` turns any string into a name or a value, and `any_case`
+//! turns it into a pattern that matches the string in both upper and lower case. The libraries for
+//! all languages call these functions, so that a query is read the same way everywhere.
 #![tactic(auto)]
 
 mod cases;

@@ -16,7 +16,7 @@ ghost use Rattle.be_query_text.specs.declared.places.Piece.TheVariants as AnyPie
 use be_query::Cmp;
 use std::alloc::{AllocError, Global};
 
-/// The place of a name or a value in a text, in bytes.
+/// The place of a name or a value in the text, in bytes.
 #[derive(Clone, Copy, Debug, PartialEq, Eq)]
 pub struct TextPlace {
     /// The offset of the first byte, including an opening quote.
@@ -29,7 +29,7 @@ pub struct TextPlace {
     pub end: usize,
 }
 
-/// The place of a comparison in a text, and its operator there.
+/// The place of a comparison in the text, and its operator there.
 #[derive(Clone, Copy, Debug, PartialEq, Eq)]
 pub struct Place {
     pub name: TextPlace,
@@ -56,7 +56,7 @@ enum Sign {
     Compares(Cmp),
 }
 
-/// What a step takes from the front of a text.
+/// What a step takes from the front of the text.
 #[derive(Clone, Copy)]
 enum Step<'a> {
     /// Something that isn't a piece, followed by these bytes.
@@ -217,7 +217,7 @@ fn byte_at(bytes: &[u8], i: usize) -> Option<u8>
     bytes.get(i).copied()
 }
 
-/// Takes the sign at the start of `rest`, the unread part of a text of `total` bytes.
+/// Takes the sign at the start of `rest`, the unread part of the text, which is `total` bytes long.
 fn take_sign(total: usize, rest: &[u8]) -> Step<'_>
     requires within { length rest.now ≤ total }
     requires nonempty { 0 < length rest.now }
@@ -236,7 +236,8 @@ fn take_sign(total: usize, rest: &[u8]) -> Step<'_>
     }
 }
 
-/// Takes the quoted string at the start of `rest`, the unread part of a text of `total` bytes.
+/// Takes the quoted string at the start of `rest`, the unread part of the text, which is `total`
+/// bytes long.
 fn take_quoted(total: usize, rest: &[u8]) -> Step<'_>
     requires within { length rest.now ≤ total }
     requires nonempty { 0 < length rest.now }
@@ -260,7 +261,7 @@ fn take_quoted(total: usize, rest: &[u8]) -> Step<'_>
     Step::Found(Piece::Text(place), beyond)
 }
 
-/// Takes the word at the start of `rest`, the unread part of a text of `total` bytes.
+/// Takes the word at the start of `rest`, the unread part of the text, which is `total` bytes long.
 fn take_word(total: usize, rest: &[u8]) -> Step<'_>
     requires within { length rest.now ≤ total }
     requires nonempty { 0 < length rest.now }
@@ -285,7 +286,8 @@ fn take_word(total: usize, rest: &[u8]) -> Step<'_>
     Step::Found(Piece::Text(place), beyond)
 }
 
-/// Takes whatever is at the start of `rest`, the unread part of a text of `total` bytes.
+/// Takes whatever is at the start of `rest`, the unread part of the text, which is `total` bytes
+/// long.
 fn take_front(total: usize, rest: &[u8]) -> Step<'_>
     requires within { length rest.now ≤ total }
     requires nonempty { 0 < length rest.now }
@@ -305,7 +307,8 @@ fn take_front(total: usize, rest: &[u8]) -> Step<'_>
     take_word(total, rest)
 }
 
-/// Returns the next piece in the unread part of a text of `total` bytes, and the bytes after it.
+/// Returns the next piece in the unread part of the text, and the bytes after it. The whole text is
+/// `total` bytes long.
 fn next_piece(total: usize, bytes: &[u8]) -> Option<(Piece, &[u8])>
     requires within { length bytes.now ≤ total }
     requires whole { all_whole (left total bytes.now) ≡ true }
@@ -325,8 +328,8 @@ fn next_piece(total: usize, bytes: &[u8]) -> Option<(Piece, &[u8])>
     None
 }
 
-/// Returns the next comparison in the unread part of a text of `total` bytes, and the bytes after
-/// it.
+/// Returns the next comparison in the unread part of the text, and the bytes after it. The whole
+/// text is `total` bytes long.
 fn next_place(total: usize, bytes: &[u8]) -> Option<(Place, &[u8])>
     requires within { length bytes.now ≤ total }
     requires whole { all_whole (left total bytes.now) ≡ true }
