@@ -1,4 +1,4 @@
--- Any few nodes of a query that a range decides, found by walking over that many keys. Also, no
+-- Arbitrary nodes of a query that a range decides, found by walking over as many keys. Also, no
 -- node occurs twice in the order of an index.
 use Rattle.std.proofs.Common.{◌≡◌, ◌≢◌, ◌<◌, ℕ, suc, Bool, true, false, ◌&&◌, List, [], ◌∷◌, refl, sym, ap, ◌∙◌, subst, arith, Some, None, take, length, get_or, min}
 use Rattle.std.specs.Prelude.{T, slice_index}
@@ -184,6 +184,6 @@ module _ (s : State) (sound : IsSound s) (f : Formula) (by : List ℕ) (kind : K
       count = nodes_length es ∙ ap length front ∙ length_take most rest ∙ ap (min most) as_many;
     }
 
-    -- The nodes that the walk found are any few nodes of the scan.
+    -- The nodes that the walk found are nodes of the scan, and there are as many as requested.
     pub any_walked : (found : List ℕ) → found ≡ nodes_of es → IsAnyOf (scan s f) most found
     any_walked found found_is = subst (IsAnyOf (scan s f) most) (sym found_is) few

@@ -1,4 +1,4 @@
--- The first nodes of an answer by number, and any few of its nodes.
+-- The first nodes of an answer by number, and arbitrary nodes of an answer.
 use Rattle.std.specs.Prelude.{◌≡◌, ◌≢◌, ℕ, ◌<◌, List, Ok, filter, length, min, nat_le, take}
 use Rattle.std.specs.Prelude.{slice_index}
 use Rattle.std.specs.List.{Contains}

@@ -1,4 +1,4 @@
-//! The first nodes of an answer by node number, or any few of its nodes.
+//! The first nodes of an answer by node number, and arbitrary nodes of an answer.
 ghost use Rattle.std.specs.Prelude.{◌≡◌, ℕ, List, IfErr, IfOk, IfSome, OnOk, Some};
 ghost use Rattle.std.specs.Prelude.{filter, nat_le, take, true};
 ghost use Rattle.std.specs.Option.{option_copied};
@@ -53,9 +53,9 @@ pub fn first_by_number<S: Source>(
     Ok(())
 }
 
-/// Replaces the content of a list with any `most` distinct nodes that satisfy the query, or with
-/// all of them if there are fewer. The errors and their effects are the same as for
-/// `first_by_number`.
+/// Replaces the content of a list with `most` distinct nodes that satisfy the query, or with all of
+/// them if there are fewer. It is unspecified which nodes are chosen. The errors and their effects
+/// are the same as for `first_by_number`.
 pub fn any_into<S: Source>(
     alloc: Global,
     query: &Query,
@@ -118,8 +118,8 @@ fn meet_own<S: Source>(prepared: &mut PreparedQuery, source: &mut S) -> Option<K
     Some(kind)
 }
 
-/// Finds any few nodes in a range that decides a query, with a single walk. Returns `false` if the
-/// source can't walk in order.
+/// Finds up to `most` arbitrary nodes in a range that decides a query, with a single walk. Returns
+/// `false` if the source can't walk in order.
 fn walk_any<S: OrderedSource>(
     source: &mut S,
     keys: KeyRange<'_>,

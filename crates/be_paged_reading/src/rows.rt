@@ -219,7 +219,7 @@ fn report_row<L: Look>(
 /// second, and so on. The bytes of all strings are written to `bytes`, one after another. Cells and
 /// bytes that don't fit are omitted. Returns the total length of all strings in bytes.
 ///
-/// No memory is allocated. A node costs one descent if its attributes with these names are
+/// No memory is allocated. Each node costs one descent if its attributes with these names are
 /// adjacent. Each name for which the node has no attribute costs one more, and so does a node that
 /// has none of the names.
 pub fn columns<L: Look>(

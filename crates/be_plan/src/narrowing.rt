@@ -9,8 +9,8 @@
 //! value sets a bound with its first 255 bytes.
 //!
 //! Bounds are inclusive byte strings. Each is the key of a value with the lowest or the highest
-//! node number, or the byte string next to that key if the value itself is excluded. So a range of
-//! numbers contains no key that the walk would only have to reject. The key itself is never
+//! node number, or the byte string next to that key if the value itself is excluded. A range of
+//! numbers therefore contains no key that the walk would have to reject. The key itself is never
 //! assembled: its front is the bytes of the literal or the number, and its end is one of four
 //! constants.
 //!
@@ -175,8 +175,8 @@ fn is_false_between(op: Cmp, number: Option<i128>, least: i128, greatest: i128) 
     }
 }
 
-/// Returns `true` if the comparison is false for all values of an integer kind: its literal either
-/// encodes no number, or a number on the wrong side of all these values.
+/// Returns `true` if the comparison is false for all values of an integer kind: its literal encodes
+/// either no number or a number on the wrong side of all these values.
 fn is_false_of_all(comparison: &Comparison, kind: Kind, number: Option<i128>) -> bool
     requires { number ≡ literal_number (literal comparison.now.literal) }
     ensures { result ≡ true → (v : AnyValue) → IsValue v → kind_of v ≡ kind

@@ -19,8 +19,8 @@ use std::marker::Model;
 
 /// A query, together with what its uses have in common. If all its comparisons are on one name, it
 /// keeps that name and the range of keys that decides them. The range is valid for indices of the
-/// kind that was last passed to `meet`. A prepared query can be used on any versions of any stores,
-/// one after the other. Contracts view it as the query.
+/// kind that was last passed to `meet`. A prepared query can be used with any version of any store,
+/// one at a time. Contracts view it as the query.
 #[derive(Drop)]
 pub struct PreparedQuery {
     query: Query,

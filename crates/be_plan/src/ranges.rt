@@ -200,7 +200,7 @@ impl Range {
         true
     }
 
-    /// Excludes all keys, by setting the high bound to the empty byte string, which no key equals.
+    /// Excludes all keys by setting the high bound to the empty byte string, which no key equals.
     /// The walk ends at the first key that it reads.
     pub(crate) fn close(&mut self)
         ensures within { (k : List ℕ) → IsIn self.new k → IsIn self.old k }

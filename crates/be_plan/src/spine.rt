@@ -1,10 +1,11 @@
 //! The parts of a query that are only under `||`.
 //!
-//! The other side of an `||` says nothing about a pick, so the walk for a pick considers only the
-//! part that contains it. A query with many parts leans to the left: its last part is the right
-//! side of the top `||`, and the left side begins with the first comparison of the query. So if the
-//! picks are taken from the last to the first, each search continues where the previous one ended,
-//! and all searches together visit each `||` once.
+//! A part is only under `||` if every operator above it is an `||`. The other side of an `||` says
+//! nothing about a pick, so the walk for a pick considers only the part that contains it. A query
+//! with many parts leans to the left: its last part is the right side of the top `||`, and the left
+//! side begins with the first comparison of the query. So if the picks are taken from the last to
+//! the first, each search continues where the previous one ended, and all searches together visit
+//! each `||` once.
 ghost use Rattle.std.specs.Prelude.{◌≡◌, ◌≤◌, ◌<◌, ◌+◌};
 ghost use Rattle.be_query.specs.Grammar.{Formula, comparisons};
 ghost use Rattle.be_query.specs.View.{formula};

@@ -1,8 +1,9 @@
 //! Walks over indices.
 //!
-//! A walk collects those nodes of the keys in a range that match the query. If the range decides
-//! the query, every node in it is an answer, and the source returns the nodes in one call. If a
-//! single comparison with a string remains, the source is asked for the nodes that satisfy it.
+//! A walk visits the keys in a range and collects those of their nodes that match the query. If the
+//! range decides the query, every node in it is an answer, and the source returns the nodes in one
+//! call. If a single comparison with a string remains, the source is asked for the nodes that
+//! satisfy it.
 //!
 //! Otherwise, or if the source doesn't test strings, the walk steps from key to key with
 //! `next_key`, from the low end of the range to the first key above its high end, and tests each
@@ -35,8 +36,8 @@ use be_query::{Comparison, Tree};
 use be_value::{Kind, Name, Refusal, node_of, read_key};
 use std::alloc::Global;
 
-/// The number of nodes that a new list has room for, so that a hundred results don't make it grow.
-/// An allocator returns these 1,024 bytes as fast as a few bytes; more would take longer.
+/// The initial capacity of a list of nodes, so that a hundred results don't make it grow. An
+/// allocator returns these 1,024 bytes as fast as a few bytes; more would take longer.
 pub(crate) const ROOM: usize = 128;
 
 /// The index of a name, and the kind of the index.

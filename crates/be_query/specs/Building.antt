@@ -153,7 +153,7 @@ abbrev pub outer_marks : List Level → List Mark
 outer_marks [] = []
 outer_marks (level ∷ outer) = Paren ∷ negations_on level.negations (outer_marks outer)
 
--- Everything that is open.
+-- The `(` and `!` that are open.
 abbrev pub marks_of : Level → List Level → List Mark
 marks_of level outer = negations_on level.negations (outer_marks outer)
 

@@ -35,8 +35,8 @@ abbrev pub value_fault : ℕ → ℕ → Option ℕ → Option Refusal
 value_fault comparisons start (Some at) = Some (BadPattern (start + at))
 value_fault comparisons start None = if nat_le 256 comparisons then Some TooMany else None
 
--- The error of the token itself, provided that it can follow after `comparisons` comparisons. Its
--- own text begins at `start`.
+-- The error in the token itself, if it is a token that can follow. It comes after `comparisons`
+-- comparisons, and its own text begins at `start`.
 abbrev pub own_fault : Awaited → List Mark → ℕ → ℕ → Token → Option Refusal
 own_fault Operand marks comparisons start Open = if nat_le 64 (length marks) then Some TooDeep
     else None
@@ -50,8 +50,8 @@ abbrev pub comparisons_with : Awaited → ℕ → ℕ
 comparisons_with (Value op) comparisons = comparisons + 1
 comparisons_with _ comparisons = comparisons
 
--- The position of the error for a name or value that is cut off: where it is cut off, if a name or
--- value may come here.
+-- The position of the error in a name or value that is cut off: the point where it is cut off if a
+-- name or value may come here, and otherwise its first byte.
 abbrev pub broken_at : Awaited → ℕ → ℕ → ℕ
 broken_at Operand at n = at + n
 broken_at (Value op) at n = at + n

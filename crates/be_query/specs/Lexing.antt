@@ -111,8 +111,8 @@ pub record Placed : Type 0 where
   pub start : ℕ
   pub lexeme : Lexeme
 
--- The lexemes of text that begins at a position, of which some leading bytes have already been
--- taken.
+-- The lexemes of the text that begins at position `at`. The first `taken` bytes of the text belong
+-- to the previous lexeme.
 abbrev pub lexemes : ℕ → ℕ → List ℕ → List Placed
 lexemes taken at [] = []
 lexemes (suc taken) at (b ∷ bs) = lexemes taken (at + 1) bs

@@ -75,7 +75,7 @@ IsClean Either = Unit {0}
 IsClean (Compares op) = Unit {0}
 IsClean (Text raw) = (has_nul raw ≡ false) × IsUtf8 raw
 
--- Any token at the front of a text is clean.
+-- If the text begins with a token, the token is clean.
 abbrev pub IsCleanFront : code_front.Front → Type 0
 IsCleanFront (code_front.TheVariants.Separator rest) = Unit {0}
 IsCleanFront (code_front.TheVariants.Token token shift rest) = IsClean (token_of token)
@@ -102,7 +102,7 @@ state_of stage c = record { stage = stage; level = level_seen c.level; outer = o
 abbrev pub parser_state : code_parser.Parser → State
 parser_state p = state_of (stage_of p.stage) p.context
 
--- A name for which an operator or a value is awaited is valid.
+-- If an operator or a value is awaited, the name before it is valid.
 abbrev pub IsNamed : Stage → Type 0
 IsNamed Operands = Unit {0}
 IsNamed (Operators name) = is_ok (name_from name) ≡ true

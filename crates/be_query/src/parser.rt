@@ -54,8 +54,9 @@ pub(crate) struct Level {
     negations: usize,
 }
 
-/// What may come next, along with the name or tree that has been read. A name is kept as it is in
-/// the text, which is cheap to move. The `Name` is created only when its comparison is complete.
+/// What may come next, along with the name or tree that has been read. A name is kept as it appears
+/// in the text, because that is cheap to move. The `Name` is created only when its comparison is
+/// complete.
 #[derive(Drop)]
 pub(crate) enum Stage<'a> {
     Operand,
@@ -64,7 +65,7 @@ pub(crate) enum Stage<'a> {
     Joint(Box<Tree>),
 }
 
-/// Everything that is open around the next token.
+/// The levels and counts that are open around the next token.
 #[derive(Drop)]
 pub(crate) struct Context {
     level: Level,

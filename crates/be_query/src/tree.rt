@@ -87,8 +87,9 @@ impl Drop for Tree {
     }
 }
 
-/// If the left side of an inner node is an inner node, rotates it to the right side, and returns
-/// `true`. The comparisons keep their order, but the inner nodes no longer join the same trees.
+/// If the left side of an inner node is itself an inner node, rotates it to the right side, and
+/// returns `true`. The comparisons keep their order, but the inner nodes no longer join the same
+/// trees.
 fn turn(tree: &mut Tree) -> bool
     ensures turned { result ≡ true → rounds (formula tree.new) < rounds (formula tree.old) }
     ensures kept { result ≡ false → formula tree.new ≡ formula tree.old }
