@@ -25,7 +25,7 @@ use Rattle.be_query.specs.View.{IsClean}
 use Rattle.be_query.proofs.Names.{own_name}
 use Rattle.be_query.proofs.Kept.{nul_parts}
 
--- Texts without a NUL.
+-- Strings without a NUL.
 
 abbrev pub some : ℕ → Bool
 some c = not (c == 0)
@@ -163,7 +163,7 @@ closed_kept t (l ∷ ls) h o = operand_kept t l ls h o.0 o.1
 named_kept : (raw : List ℕ) (level : Level) (outer : List Level) → LevelKept level → LevelsKept outer → IfKept (cond (is_name raw) (Some (record { stage = Operators (plain raw); level = level; outer = outer })) None)
 named_kept raw level outer k o = cond_both (is_name raw) (Some (record { stage = Operators (plain raw); level = level; outer = outer })) None IfKept (λ e. (own_name (plain raw) e, k, o)) (λ e. tt)
 
--- A clean token keeps everything printable that has been built.
+-- Building with a clean token adds only what printing preserves.
 pub build_kept : (stage : Stage) (level : Level) (outer : List Level) (t : Token) → StageKept stage → LevelKept level → LevelsKept outer → IsClean t → IfKept (build_at stage level outer t)
 build_kept Operands level outer Open s k o c = (tt, (tt, tt), (k, o))
 build_kept Operands level outer Close s k o c = tt

@@ -129,7 +129,7 @@ text_whole t h = let w = or_lex t h 0 [] in ap (λ x. all_whole (lexemes 0 0 x))
 pub text_parses : (t : Formula) → IsQuotable t → IsPrintable t → ParsesTo (tokens (or_text t)) t
 text_parses t h k = subst (λ ts. ParsesTo ts t) (sym (text_lexes t h)) (printed_parses t k)
 
--- Once its backslashes are inserted, a text without a NUL is a single token between quotes.
+-- Once its backslashes are inserted, a string without a NUL is a single token between quotes.
 further_ends : (n m : ℕ) (s : Span) → s ≡ Ends n → m ≡ n + 1 → further s ≡ Ends m
 further_ends n m s e k = ap further e ∙ ap Ends (sym k)
 

@@ -1,4 +1,4 @@
--- A pattern of sets matches the texts with the same foldings.
+-- A pattern of sets matches the strings with the same foldings.
 use Rattle.std.proofs.Common.{◌≡◌, ℕ, ◌+◌, Bool, true, false, Some, None, Ok, List, [], ◌∷◌, ◌++◌, length, map, ◌||◌, ◌&&◌, refl, sym, ap, ◌∙◌, subst, arith, append_assoc, append-nil, length-append, IsUtf8}
 use Rattle.std.specs.Prelude.{encode_utf8, encode_utf8_all, not}
 use Rattle.std.specs.Bool.{◌==◌}
