@@ -7,8 +7,8 @@ use Rattle.be_core.specs.declared.event.Phase.TheVariants.{Pinned}
 use Rattle.be_core.specs.Machine.{World, Writer, Run, Move, happens, first_state, Unreached}
 use Rattle.be_core.specs.Machine.{after_scan, MayScan, MayFill}
 
--- P holds after every schedule, from the first state of any size with at least one page, whatever
--- its words are
+-- P holds after every schedule, from the first state of any size with at least one page and with
+-- any words
 abbrev pub Always : (World → Type 0) → Type 0
 Always P = (pages passes commits : ℕ) (words : ℕ → ℕ → ℕ) (moves : List Move) (w : World) → 0
     < pages
@@ -37,6 +37,6 @@ LeavesNone w (Unlock k) w' = Unit {0}
 abbrev pub ScanLeavesNone : World → Type 0
 ScanLeavesNone w = (k j : ℕ) → MayScan w k j → LeavesNone w (Scan k j) (after_scan w j)
 
--- from every state, every list of events has a run
+-- every list of events has a run from every state
 abbrev pub EachScheduleRuns : Type 0
 EachScheduleRuns = (w : World) (events : List Event) → (w' : World) × Run w (map happens events) w'

@@ -104,7 +104,8 @@ IsHome (Some h) w log homes = homes ≡ none ∷ []
 
 -- ## The first part: the table shows the state
 
--- a word before the pages that isn't the lock, the current version or the reader slot of one of `passes` passes
+-- a word before the pages that isn't the lock, the current version or the reader slot of one of
+-- `passes` passes
 abbrev pub IsUnused : (passes k : ℕ) → Type 0
 IsUnused passes k = (k < 528) × (k ≢ 0) × (k ≢ 8) × ((j : ℕ) → j < passes → k ≢ 16 + 8 * j)
 
@@ -227,7 +228,8 @@ ViewsFit limits b views = (seat : ℕ) (v : View) → get_elem? views seat ≡ s
 
 -- ## The fourth part: the trace
 
--- The moves lead from the first state to this one. After the end of a pass's history, no move is by that pass.
+-- The moves lead from the first state to this one. After the end of a pass's history, no move is by
+-- that pass.
 pub record IsTrace (limits : Limits) (w : World) (views : List View) (trace : List Move) : Type 0
   where
     pub words : ℕ → ℕ → ℕ

@@ -151,8 +151,8 @@ fills a p i x = record a {
   steps = a.steps + 1;
 }
 
--- A word of a page is filled. A load checks whether the word is there already; if so, the load is the fill. Otherwise a store
--- follows.
+-- A word of a page is filled. A load checks whether the word is there already; if so, the load is
+-- the fill. Otherwise a store follows.
 abbrev pub fill_steps : Knowledge → ℕ → ℕ → ℕ → ℕ
 fill_steps a p i x = if slice_index a.words (word_place p i) == x then 1 else 2
 
@@ -273,7 +273,8 @@ met a log = record a { seen = log; steps = a.steps + 3 }
 abbrev pub longer : List Commit → List Commit → List Commit
 longer p q = if ltb (length p) (length q) then q else p
 
--- the two passes of a seat have now seen the longer of their journals; the shorter is a prefix of it
+-- the two passes of a seat have now seen the longer of their journals; the shorter is a prefix of
+-- it
 abbrev pub Compared : Step (Option WriterState) → Me (Option WriterState) View → ℕ
     → Me (Option WriterState) View → Type 0
 Compared st m n r =
@@ -281,8 +282,8 @@ Compared st m n r =
     (r ≡ (beside (having_seen a log) (having_seen c log), m.1)) × StartsWith log a.seen
     × StartsWith log c.seen × IsPass (having_seen a log) × IsPass (having_seen c log)
 
--- The pass of a seat has now seen the longer of its own journal and its seat's front; the shorter is a prefix of it. The seat
--- then has no front.
+-- The pass of a seat has now seen the longer of its own journal and its seat's front; the shorter
+-- is a prefix of it. The seat then has no front.
 abbrev pub Learned : Step (Option WriterState) → Me (Option WriterState) View → ℕ
     → Me (Option WriterState) View → Type 0
 Learned st m n r =
@@ -305,7 +306,8 @@ abbrev pub AllIdle : List Knowledge → Type 0
 AllIdle [] = Unit {0}
 AllIdle (a ∷ v) = (a.writes ≡ false) × AllIdle v
 
--- the journal begins with what each pass has seen, and its entries by that pass are exactly the pass's own
+-- the journal begins with what each pass has seen, and its entries by that pass are exactly the
+-- pass's own
 abbrev pub KeepsSeen : List Entry → List Knowledge → Type 0
 KeepsSeen log [] = Unit {0}
 KeepsSeen log (a ∷ v) = StartsWith log (entries a.seen) × (by_pass a.number log ≡ a.mine)
@@ -378,7 +380,8 @@ abbrev pub PageGivenUp : Step (Option WriterState) → Me (Option WriterState) V
 PageGivenUp st m n r = let a = pass_of m.0 in (p : ℕ) → st.word ≡ word_place p 0 → r
     ≡ (alone (gives_up a p), m.1)
 
--- s is the pass a after it has read j reader slots of a scan, in which `least` is the lowest number so far
+-- s is the pass a after it has read j reader slots of a scan, in which `least` is the lowest number
+-- so far
 pub record IsPart (passes : ℕ) (a s : Knowledge) (j least : ℕ) : Type 0 where
   pub same : s ≡ record a {
     scanned = s.scanned;
@@ -456,7 +459,8 @@ abbrev pub CompareMoves : Step (Option WriterState) → Me (Option WriterState) 
 CompareMoves st m n r = let a = pass_of m.0 in let c = second_of m.0 in Compared st m n r
     × HasTrace a.limits (a ∷ c ∷ [])
 
--- The number found is in the reader slot of the pass whose turn it is. Just before that, the machine was as the pass knew it.
+-- The number found is in the reader slot of the pass whose turn it is. Just before that, the
+-- machine was as the pass knew it.
 abbrev pub ScanMoves : Step (Option WriterState) → Me (Option WriterState) View → ℕ
     → Me (Option WriterState) View → Type 0
 ScanMoves st m n r =
@@ -493,7 +497,8 @@ abbrev pub fill_moves : Knowledge → ℕ → ℕ → ℕ → List Move
 fill_moves a p i x = let found = slice_index a.words (word_place p i) in Fill a.number p i found
     ∷ (if found == x then [] else Fill a.number p i x ∷ [])
 
--- A page that the write had taken returns to the free pages. The machine learns of any other given-up page only later.
+-- A page that the write had taken returns to the free pages. The machine learns of any other
+-- given-up page only later.
 abbrev pub given_moves : Knowledge → ℕ → List Move
 given_moves a p = if shows_taken (place_of a.places p) then Return a.number p ∷ [] else []
 
@@ -523,8 +528,8 @@ abbrev pub scans_of : ℕ → ℕ → List Move
 scans_of k zero = []
 scans_of k (suc j) = scans_of k j ++ Scan k j ∷ []
 
--- The j-th scan that pass k made after `before` finds this word, which is the announcement of pass j in the machine after the
--- moves up to that scan.
+-- The j-th scan that pass k made after `before` finds this word, which is the announcement of pass
+-- j in the machine after the moves up to that scan.
 pub record FoundAt (limits : Limits) (k : ℕ) (before after : List Move) (j word : ℕ) : Type 0 where
   pub upto : List Move
   pub front : StartsWith after upto

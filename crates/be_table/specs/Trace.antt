@@ -73,8 +73,8 @@ abbrev pub NoneBy : ℕ → List Move → Type 0
 NoneBy k [] = Unit {0}
 NoneBy k (m ∷ ms) = (mover m ≢ k) × NoneBy k ms
 
--- Pass k makes these moves one after another, each possibly after moves of other passes. This takes its history from `old` to
--- `new`.
+-- Pass k makes these moves one after another, each possibly after moves of other passes. This takes
+-- its history from `old` to `new`.
 abbrev pub Makes : ℕ → List Move → List Move → List Move → Type 0
 Makes k old [] new = new ≡ old
 Makes k old (m ∷ ms) new = (others : List Move) × NoneBy k others
@@ -89,7 +89,8 @@ abbrev pub AllRest : List Move → List Knowledge → Type 0
 AllRest trace [] = Unit {0}
 AllRest trace (a ∷ v) = Rests a.number a.history trace × AllRest trace v
 
--- One list of moves has each of these passes' histories as a prefix. It has no move of a pass after that pass's history.
+-- One list of moves has each of these passes' histories as a prefix. It has no move of a pass after
+-- that pass's history.
 pub record HasTrace (limits : Limits) (passes : List Knowledge) : Type 0 where
   pub trace : List Move
   pub runs : IsRun limits trace

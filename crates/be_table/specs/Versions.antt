@@ -20,8 +20,8 @@ at_start false = Nowhere
 abbrev pub in_pages : (ℕ → ℕ → ℕ) → ℕ → ℕ → ℕ
 in_pages words q i = if nat_lt i 512 then words q i else 0
 
--- The version with these pages and words encodes the volume from its version page, and its pages are exactly those reached from
--- there.
+-- The version with these pages and words encodes the volume from its version page, and its pages
+-- are exactly those reached from there.
 pub record EncodesVolume (pages : List ℕ) (words : ℕ → ℕ → ℕ) (page : ℕ) (volume : State) : Type 0
   where
     pub version : IsVersion (λ q. at_start (has pages q)) words page volume

@@ -15,8 +15,8 @@ pub record HasNoneFree (limits : Limits) (moves : List Move) : Type 0 where
   pub runs : RunsTo limits words moves world
   pub none : (p : ℕ) → IsFalse (world.free p)
 
--- A whole scan begins with the reader slot of pass 0, for the reason that the machine has no free page. Other moves need no
--- reason.
+-- A whole scan begins with the reader slot of pass 0, for the reason that the machine has no free
+-- page. Other moves need no reason.
 abbrev pub HasReason : Limits → List Move → Move → Type 0
 HasReason limits before (Look j) = Unit {0}
 HasReason limits before (Announce j) = Unit {0}
@@ -37,8 +37,9 @@ MakesForReason limits k old (m ∷ ms) new = (others : List Move) × NoneBy k ot
     × HasReason limits (old ++ others) m
     × MakesForReason limits k ((old ++ others) ++ m ∷ []) ms new
 
--- While it holds the lock, pass k extends its history from `old` to `new`. First it may make one whole scan. Then it fills pages,
--- returns pages and scans; each of these whole scans begins when no page is free.
+-- While it holds the lock, pass k extends its history from `old` to `new`. First it may make one
+-- whole scan. Then it fills pages, returns pages and scans; each of these whole scans begins when
+-- no page is free.
 pub record WorksOn (limits : Limits) (k : ℕ) (old new : List Move) : Type 0 where
   pub first : List Move
   pub early : (first ≡ []) ⊎ (first ≡ scans_of k limits.passes)

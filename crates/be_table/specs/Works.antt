@@ -52,7 +52,8 @@ AllAt id (s ∷ ss) = ((s.blank ≡ false) × (s.table ≡ id)) × AllAt id ss
 abbrev pub knows_of : SeatFacts → Knowledge
 knows_of s = s.knows
 
--- between a and c the pass has made these moves in this order, and the machine is then as the pass knows it
+-- between a and c the pass has made these moves in this order, and the machine is then as the pass
+-- knows it
 pub record Moves (a : Knowledge) (own : List Move) (c : Knowledge) : Type 0 where
   pub made : Makes a.number a.history own c.history
   pub at : Reaches c (λ w. Unit {0})
@@ -90,7 +91,8 @@ pub record PinsCurrent (a c : Knowledge) : Type 0 where
       × (c ≡ pins (with_history a c.history) x c.seen c.image)
   pub pass : IsPass c
 
--- the pass made one attempt, which found another pass of the table holding the lock; the error names that pass
+-- the pass made one attempt, which found another pass of the table holding the lock; the error
+-- names that pass
 abbrev pub FoundHeld : Refusal → Knowledge → Knowledge → Type 0
 FoundHeld r a c = (b : ℕ) × (r ≡ Busy b) × (b < a.limits.passes) × (b ≢ a.number)
     × (c ≡ finds_held a b)
@@ -159,7 +161,8 @@ abbrev pub HoldsUnreached : Knowledge → ℕ → Type 0
 HoldsUnreached a least = (p : ℕ) → p < a.limits.pages → NoCommitReaches a.seen least p
     → IsTrue (has a.held p)
 
--- after some prefix of the pass's history that includes the lock, pass j had announced this number in the machine
+-- after some prefix of the pass's history that includes the lock, pass j had announced this number
+-- in the machine
 pub record HadAnnounced (a : Knowledge) (j number : ℕ) : Type 0 where
   pub upto : List Move
   pub front : StartsWith a.history upto
@@ -174,9 +177,10 @@ abbrev pub WasAnnounced : Knowledge → ℕ → Type 0
 WasAnnounced a least = (least ≡ length a.seen)
     ⊎ ((j : ℕ) × (j < a.limits.passes) × HadAnnounced a j least)
 
--- `least` is the lowest number of the write's last whole scan, and the write held each page that belongs to no version from
--- `least` on. It is at most the current number and at most what the pass has announced; in a table of one pass it is the lower of
--- the two. If it isn't the current number, some pass had announced it.
+-- `least` is the lowest number of the write's last whole scan, and the write held each page that
+-- belongs to no version from `least` on. It is at most the current number and at most what the pass
+-- has announced; in a table of one pass it is the lower of the two. If it isn't the current number,
+-- some pass had announced it.
 abbrev pub IsSpent : Knowledge → ℕ → Type 0
 IsSpent a least = (least ≡ a.least) × HoldsUnreached a least × IsOwnLowest a least
     × WasAnnounced a least

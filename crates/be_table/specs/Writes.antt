@@ -16,8 +16,8 @@ work_of w = record {
   left = w.writer_state.left;
 }
 
--- The seat belongs to the table and carries its slot. The writer state matches what the pass has seen. Until it publishes, the
--- pass has only scanned, filled and returned pages.
+-- The seat belongs to the table and carries its slot. The writer state matches what the pass has
+-- seen. Until it publishes, the pass has only scanned, filled and returned pages.
 pub record IsOpen (w : Inside) : Type 0 where
   pub table_is : w.base.table_id ≡ w.table.now.id
   pub me_is : w.base.me ≡ (alone (pass_of w.base.me.0), (0, None) ∷ [])
