@@ -80,8 +80,8 @@ IsPublish k page given n v w = MayPublishAt v k page given × (w ≡ after_publi
 
 -- ## What a step does
 
--- As in `Allows`, the seat can step in any state of the table and preserve the rule. The machine
--- that the table shows then makes the event, which may depend on the number found.
+-- As in `Allows`, the seat can take the step in any state of the table, and the rule is preserved.
+-- The machine that the table shows then makes the event, which may depend on the number found.
 abbrev pub AllowsBy : Limits → ℕ → ℕ → Me (Option WriterState) View → ℕ → (ℕ → ℕ)
     → (ℕ → World → World → Type 0) → (ℕ → Me (Option WriterState) View → Type 0) → Type 0
 AllowsBy limits slots id me i f event then =

@@ -85,7 +85,8 @@ abbrev pub is_writer : Option Writer → ℕ → Bool
 is_writer None k = false
 is_writer (Some h) k = h.pass == k
 
--- a writer state that agrees with the table: the journal, the version page, and where each page is
+-- a writer state that agrees with the table: the journal, the version page, and the place of each
+-- page
 pub record AtHome (w : World) (log : List Commit) (writer_state : WriterState) : Type 0 where
   pub journal : writer_state.journal.entries ≡ entries log
   pub limit : writer_state.journal.limit ≡ w.commits

@@ -35,7 +35,8 @@ pub fn encoded_counts()
     version_pages();
 }
 
-/// At that point the pages that the write held at the scan are among those that it still holds.
+/// If a write was refused because no page was left, the pages that it held at the scan are among
+/// those that it still holds.
 pub fn held_counts()
     ensures { (a : Knowledge) (n : ℕ) → HoldsStill a → n ≤ 16384
         → count_below (has a.held) n ≤ in_hand n (page_state_among a.places) }

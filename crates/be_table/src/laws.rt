@@ -104,7 +104,7 @@ pub fn take()
 {}
 
 /// The load that gives up a page is no event. A page that the write had taken returns to the free
-/// pages, which is the writer's own bookkeeping.
+/// pages; that is the writer's own bookkeeping.
 pub fn give_up()
     ensures { (limits : Limits) (slots id : ℕ) (a : Knowledge)
         (carried : List (ℕ × Option WriterState))
@@ -130,7 +130,7 @@ pub fn compare()
         (carried : List (ℕ × Option WriterState)) → CompareIsNoEvent limits slots id a c carried }
 {}
 
-/// The load that makes a witness is no event: what a pass has seen gets a seat without a pass.
+/// The load that makes a witness is no event: it gives what a pass has seen a seat without a pass.
 pub fn attest()
     ensures { (limits : Limits) (id : ℕ) (a : Knowledge) → AttestIsNoEvent limits id a }
 {}
@@ -154,12 +154,12 @@ pub fn join()
         → JoinIsNoEvent limits id v other w }
 {}
 
-/// The load that makes a seat without a pass is no event.
+/// The load that creates a seat without a pass is no event.
 pub fn arrive()
     ensures { (limits : Limits) → ArrivalIsNoEvent limits }
 {}
 
-/// An allowed event leads where its moves lead; a read changes nothing and has no moves.
+/// Every allowed event has the same effect as its moves; a read changes nothing and has no moves.
 pub fn events_are_moves()
     ensures { EventsAreMoves }
 {}

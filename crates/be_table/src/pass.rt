@@ -35,7 +35,7 @@ pub enum Move {
     /// Publishes a version page, and gives up the listed pages.
     Publish(u64, u64, LinkedList<u64>),
     Unlock(u64),
-    /// Puts a page that the write had taken back among the free pages.
+    /// Makes a page that the write had taken free again.
     Return(u64, u64),
 }
 
@@ -59,8 +59,8 @@ pub struct Knowledge {
     pub least: u64,
     /// Whether it has published its write.
     pub published: bool,
-    /// While it holds the lock: the place of each page, and the table's words. The words of the
-    /// pages remain accurate.
+    /// While it holds the lock: the place of each page, and the table's words. Of these words,
+    /// those of the pages remain accurate.
     pub places: LinkedList<Place>,
     pub words: LinkedList<u64>,
     /// The pages that its write had taken and not yet returned when its last whole scan ended.

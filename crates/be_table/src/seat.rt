@@ -1,8 +1,8 @@
 //! A pass's seat at the table.
 //!
-//! A seat is the right to take steps for one pass. No two seats share a pass, so only the owner of
-//! its seat has a pass's knowledge. Along with that right it carries the pass's number, how much of
-//! the journal the pass has seen, and its pin.
+//! A seat is the right to take steps for one pass. No two seats share a pass, so a pass's knowledge
+//! is available only to the owner of its seat. Along with that right it carries the pass's number,
+//! how much of the journal the pass has seen, and its pin.
 ghost use Rattle.std.specs.Prelude.{◌≡◌, ℕ, ◌<◌, true, false, [], length, IsTrue};
 ghost use Rattle.be_core.specs.Machine.{has};
 ghost use Rattle.be_core.specs.declared.event.Phase.TheVariants.{Pinned};
@@ -121,8 +121,8 @@ impl Seat {
         }
     }
 
-    /// A law of one seat: what holds for every pass holds for this one. It exists because a
-    /// contract can't say so about a seat that it borrows. It does nothing.
+    /// A law of one seat: what holds for every pass holds for this one. A contract can't state this
+    /// about a seat that it borrows. It does nothing.
     pub fn is_pass(&self)
         requires { self.now.blank ≡ false }
         ensures { IsPass self.now.knows }

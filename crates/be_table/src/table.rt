@@ -38,7 +38,7 @@ pub(crate) const CURRENT: usize = 8;
 /// Word ANNOUNCE + 8 * k is the reader slot of pass k, on its own cache line.
 pub(crate) const ANNOUNCE: usize = 16;
 
-/// The first word of the pages, which have `PAGE_WORDS` words each.
+/// The index of the first page's first word. Each page has `PAGE_WORDS` words.
 pub(crate) const PAGES: usize = 528;
 
 pub(crate) type Inner = Table<Option<WriterState>, View, Limits, Law, Global>;
@@ -86,8 +86,8 @@ impl VersionTable {
     /// their numbers. Version 0 consists only of page 0, which holds `first` and encodes the empty
     /// volume. All other pages are free.
     ///
-    /// Fails with BadLimits if and only if a limit is out of range, or with OutOfMemory. After
-    /// that, only `reserve`, `journal_text` and `entry` allocate memory.
+    /// Fails with BadLimits if a limit is out of range, and otherwise with OutOfMemory if memory
+    /// runs out. After that, only `reserve`, `journal_text` and `entry` allocate memory.
     pub fn open(
         alloc: Global,
         limits: Limits,

@@ -1,4 +1,4 @@
-//! An open write: the pass holds the lock and has the writer state.
+//! An open write: the pass holds the lock and owns the writer state.
 //!
 //! A write takes pages, fills them, gives pages up, and publishes. Until it publishes, no other
 //! pass sees anything of it, and `unlock` undoes it. It has no `Drop`, so it can end only with
@@ -43,13 +43,15 @@ use std::marker::{Brand, Model};
 /// A retired page can be reused only after a scan has freed it. A write that lets the pool run
 /// empty first goes through the memory of every page, although the pages given up most recently are
 /// still in the cache. A write gives up 6 to 16 pages, all of which map to the same few lines of
-/// the cache. So the pages given up by two or three writes are still in its nearest levels. While
-/// readers hold pages, scanning at every write frees nothing more and costs one load per pass.
+/// the cache. So the pages given up by the last two or three writes are still in the nearest levels
+/// of the cache. While readers hold pages, scanning at every write frees nothing more and costs one
+/// load per pass.
 const EARLY: usize = 32;
 
-/// How many more pages must be retired than the last whole scan left before a scan pays. If that
-/// scan left none, no reader holds pages, and every write scans. The pages that the last write gave
-/// up are then free, so each page can be copied back to the page that it was copied from.
+/// How far the retired pages must outnumber those that the last whole scan left before a scan pays.
+/// If that scan left none, no reader holds pages, and every write scans. The pages that the last
+/// write gave up are then free, so each page can be copied back to the page that it was copied
+/// from.
 fn due_after(left: usize) -> usize
     ensures { result ≡ due_after left }
 {
@@ -242,8 +244,8 @@ impl<'a> Writing<'a> {
         self.writer_state.pool.give_up(page);
     }
 
-    /// Takes the most recently freed page, if any page is free. It takes a page that is spared for
-    /// a copy only if there is no other.
+    /// Takes the most recently freed page, if any page is free. A page that is spared for a copy is
+    /// taken only if there is no other.
     fn take_free(&mut self) -> Option<u64>
         requires open { self.old.knows.published ≡ false }
         ensures some { IfSome result (λ page. (page < length self.old.knows.places)
@@ -268,7 +270,7 @@ impl<'a> Writing<'a> {
 
     /// Takes a free page to hold a copy of `page`: the page that `page` was copied from, if that is
     /// free and spared. While readers hold pages, the pages that one write gives up aren't free at
-    /// the next. It then takes the page that `take_free` would take.
+    /// the next. In that case it takes the page that `take_free` would take.
     fn take_free_like(&mut self, page: u64) -> Option<u64>
         requires open { self.old.knows.published ≡ false }
         ensures some { IfSome result (λ page. (page < length self.old.knows.places)
@@ -291,10 +293,11 @@ impl<'a> Writing<'a> {
         Some(copy)
     }
 
-    /// Takes the most recently freed page. It takes a page that is spared for a copy only if there
+    /// Takes the most recently freed page. A page that is spared for a copy is taken only if there
     /// is no other. If no page is free, it scans first. If none is free after the scan either, it
-    /// fails with Full and the lowest number that the scan found. This write then holds each page
-    /// that belongs to no version from that number on. One load, plus the scan's loads if it scans.
+    /// fails with Full and the lowest number that the scan found. This write then holds every page
+    /// that belongs to no version with that number or a higher one. One load, plus the scan's loads
+    /// if it scans.
     pub fn take(&mut self) -> Result<u64, Refusal>
         requires open { self.old.knows.published ≡ false }
         ensures ok { IfOk result (λ page. TakesPage self.old self.new page) }
@@ -325,10 +328,9 @@ impl<'a> Writing<'a> {
         self.take()
     }
 
-    /// Returns whether a scan pays even if pages are free. It does once enough more pages are
-    /// retired than the last whole scan had to leave for readers: 1 more if it left none, and
-    /// otherwise 32 more. The number retired now is never less than the number that it left. No
-    /// step.
+    /// Returns whether a scan pays even if pages are free. It does once the retired pages outnumber
+    /// those that the last whole scan had to leave for readers, by 1 if it left none and by 32
+    /// otherwise. There are never fewer retired pages than that scan left. No step.
     pub fn is_scan_due(&self) -> bool
         ensures due { result ≡ true → self.now.left + due_after self.now.left
             ≤ count_by is_retired self.now.knows.places }
@@ -342,7 +344,7 @@ impl<'a> Writing<'a> {
 
     /// Reads every reader slot once. Returns the lowest of the numbers there and the current
     /// number; pages that were retired with a lower number are then free. One load per pass, and
-    /// work for each page that becomes free. It may be called right after the lock was taken, or
+    /// work for each page that becomes free. It may be called right after the lock is taken, or
     /// when no page is free.
     pub fn scan(&mut self) -> u64
         requires open { self.old.knows.published ≡ false }
@@ -399,7 +401,7 @@ impl<'a> Writing<'a> {
     }
 
     /// Makes room for one entry of `count` operations. Fails with CommitsSpent if the journal has
-    /// reached its limit, or with OutOfMemory. Both errors leave the write unchanged.
+    /// reached its limit, or with OutOfMemory. Either error leaves the write unchanged.
     #[tactic(auto, using(crate::proofs::Opened::no_room, crate::proofs::Opened::has_room))]
     pub fn reserve(&mut self, count: usize) -> Result<(), Refusal>
         requires open { self.old.knows.published ≡ false }
