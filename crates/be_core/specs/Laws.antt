@@ -19,8 +19,8 @@ abbrev pub FillsNoPinned : World → Type 0
 FillsNoPinned w = (k p i j a n : ℕ) → MayFill w k p i → w.phases j ≡ Pinned a n
     → IsFalse (w.reach n p)
 
--- After a scan of the last reader slot, each page that no version from the minimum on reaches is
--- free or taken
+-- After a scan of the last reader slot, each page that isn't reached by any version from the
+-- minimum on is free or taken
 abbrev pub LeavesNone : World → Event → World → Type 0
 LeavesNone w (Scan k j) w' = suc j ≡ w.passes → (h : Writer) → w'.writer ≡ Some h
     → (p : ℕ) → p < w'.pages → Unreached w' h.least w'.current p → IsTrue (w'.free p || w'.taken p)

@@ -12,7 +12,7 @@ use Rattle.be_core.specs.Machine as machine
 abbrev pub Images : Type 0
 Images = ℕ → ℕ → ℕ → ℕ
 
--- whether an event is allowed doesn't depend on the images, so these will do for deciding it
+-- whether an event is allowed doesn't depend on the images, so these images suffice to decide it
 abbrev pub blank : Images
 blank n p i = 0
 

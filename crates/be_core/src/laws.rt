@@ -64,10 +64,10 @@ pub fn lock()
     ensures { (w : World) (k : ℕ) → Sound w → MayLock w k → Sound (after_lock w k) }
 {}
 
-/// A scan preserves the invariant. After a whole scan, each page that no version from the minimum
-/// on reaches is free or taken. The minimum is the lowest of the number that was current when the
-/// scan began and the numbers that it found in the reader slots. This holds whatever else happened
-/// between its steps.
+/// A scan preserves the invariant. After a whole scan, each page that isn't reached by any version
+/// from the minimum on is free or taken. The minimum is the lowest of the number that was current
+/// when the scan began and the numbers that it found in the reader slots. This holds whatever else
+/// happened between its steps.
 pub fn scan()
     ensures kept { (w : World) (k j : ℕ) → Sound w → MayScan w k j → Sound (after_scan w j) }
     // the two outcomes of a scan, if the caller knows the writer's state

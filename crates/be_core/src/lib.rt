@@ -32,9 +32,9 @@ pub use event::{Event, Phase};
 pub use state::State;
 
 /// After any events in any order, no page of a pinned version is free, taken or changed, and none
-/// may be filled. Each page is in exactly one set: the free, the taken, the retired or the current
-/// version's pages. A whole scan leaves no retired page that no version from the minimum on
-/// reaches. Each list of events has a run, so the theorem isn't vacuous.
+/// may be filled. Each page is in exactly one of four sets: free, taken, retired, or in the current
+/// version. A whole scan leaves a page retired only if some version from the minimum on reaches it.
+/// Each list of events has a run, so the theorem isn't vacuous.
 pub fn law()
     ensures protected { Always Protected }
     ensures partition { Always Partition }

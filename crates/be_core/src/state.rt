@@ -554,7 +554,7 @@ impl State {
         ensures err { OnErr result (IsUnchanged self.old self.new) }
         ensures memory { IsOkUnless result Refusal.OutOfMemory }
         ensures sound { ShowsSound self.old → ShowsSound self.new }
-        // a whole scan leaves no retired page that no version from the minimum on reaches
+        // a whole scan leaves a page retired only if some version from the minimum on reaches it
         ensures leaves_none { ShowsSound self.old
             → IfOk result (λ done. IsTrue done
             → LeavesNone (shown self.old blank) event.now (shown self.new blank)) }

@@ -20,8 +20,8 @@
 //!
 //! # What is proved
 //! For each type that implements the traits: what each call of a `Look` or a `Room` does to the
-//! words and states of pages (`specs/Pages.antt`). For a pool: how the places of its pages change,
-//! by equations (`specs/Place.antt`).
+//! words and states of pages (`specs/Pages.antt`). For a pool: equations that say how the places of
+//! its pages change (`specs/Place.antt`).
 #![tactic(auto)]
 
 mod free_pages;

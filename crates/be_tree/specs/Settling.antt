@@ -39,8 +39,8 @@ pub record IsChildInHand {S K : Type 0} (kept_of : S → K) (page_state_of : S �
   pub rising : IsRising (beside (suc level) (words_of start) step
       (pairs_below level (words_of now) (pairs_of (words_of now) given slots)))
 
--- what was below the step's page has become what is below its items with other branches among them,
--- which have these pairs
+-- what was below the step's page has become what is below its items, some of which are now other
+-- branches; together they have these pairs
 pub record IsSettled {S K : Type 0} (kept_of : S → K) (page_state_of : S → ℕ → PageState)
     (words_of : S → ℕ → ℕ → ℕ)
     (step : Step) (level : ℕ) (given : Pair) (all : List Pair) (settled : Settled) (start now : S) :

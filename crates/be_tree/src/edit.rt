@@ -3,9 +3,9 @@
 //! # Full pages
 //! A full leaf shares its items with its left neighbour, which takes all that it can hold. If the
 //! neighbour is full too, the leaf is split. The first of the two pages takes all that it can hold,
-//! but leaves at least six items for the second. A page above that gains one branch too many does
-//! the same. So ascending keys produce full pages. An insertion writes at most two pages per level,
-//! and three at the root.
+//! but leaves at least six items for the second. An inner page that gains one branch too many is
+//! treated the same way. So ascending keys produce full pages. An insertion writes at most two
+//! pages per level, and three at the root.
 ghost use Rattle.std.specs.Prelude.{◌+◌, ◌≤◌, length, IfOk, OnErr, IfErr, IsTrue};
 ghost use Rattle.be_pages.specs.Pages.{KeepsStart};
 ghost use Rattle.be_pages.specs.Refusal.{IsFullOf};

@@ -101,7 +101,7 @@ fn open_here<R: Room>(room: &mut R, page: u64, cut: Cut, more: usize)
 
 /// Takes a page to hold a copy of a page on this level. From level 2 up, it asks for the page that
 /// this one was copied from, most of whose words are the same. On lower levels, that page has
-/// usually left the cache by then, so the page that was freed last is nearer.
+/// usually left the cache by then, so the page that was freed last is more likely to be in it.
 fn take_copy<R: Room>(room: &mut R, page: u64, level: u64) -> Result<u64, Refusal>
     requires open { IsTrue (R.is_open (R.kept room.old)) }
     ensures page { IfOk result (λ copy. (copy < 2 ^ 32) × (R.page_state room.old copy ≡ Free)) }

@@ -21,8 +21,8 @@ use arrayvec::ArrayVec;
 use be_pages::{Look, Room};
 use be_tree_reading::{HEADER_WORDS, ITEM_WORDS, LENGTH_BITS, word_from};
 
-/// Writes bytes into a page's words, starting at a place, eight per word, with zeros after the last
-/// byte. The page must have a filled word.
+/// Writes bytes into a page's words from a place on, eight per word, and pads the last word with
+/// zeros. The page must have a filled word.
 pub(crate) fn store_bytes<R: Room>(room: &mut R, page: u64, at: usize, bytes: &[u8])
     requires filled { R.page_state room.old page ≡ Filled }
     requires in_page { at + words_for (length bytes.now) ≤ 512 }

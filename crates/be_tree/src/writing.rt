@@ -1,7 +1,7 @@
 //! Writes unwritten nodes to new pages.
 //!
-//! It serves nodes that have too many or too few items. Their items are on one or two pages, and go
-//! to one or two newly taken pages. The pages where the items were are given up.
+//! Such a node has too many or too few items. The items are on one or two pages, and go to one or
+//! two newly taken pages. The pages where they were are given up.
 ghost use Rattle.std.specs.Prelude.{◌≡◌, ◌+◌, ◌-◌, ◌^◌, ◌<◌, ◌≤◌, [], ◌∷◌};
 ghost use Rattle.std.specs.Prelude.{length, take, All, IfOk};
 ghost use Rattle.std.specs.Prelude.{IsTrue};
