@@ -36,7 +36,7 @@ abbrev pub repaired : Index → ℕ → Option Value → Index
 repaired index node options.None = unpaired index node
 repaired index node (options.Some value) = paired index node value
 
--- the indices after that change to the index of a name
+-- the indices after that change to the index with this name
 abbrev pub with_change : Indices → List ℕ → ℕ → Option Value → Indices
 with_change indices name node options.None = without_pair indices name node
 with_change indices name node (options.Some value) = with_pair indices name node value

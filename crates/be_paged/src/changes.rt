@@ -81,7 +81,7 @@ enum Turn {
     Enters,
 }
 
-/// Removes a key from a tree, or inserts it without a payload, if there is a key.
+/// If there is a key, removes it from a tree or inserts it without a payload.
 fn turn_key<R: Room>(
     room: &mut R,
     root: u64,

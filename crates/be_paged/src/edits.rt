@@ -78,7 +78,7 @@ fn set_value<R: Room>(
     Ok(Done::Unit)
 }
 
-/// Removes an attribute, after its pair in an index.
+/// Removes an attribute, after removing its pair from an index.
 fn unset_value<R: Room>(
     room: &mut R,
     version: &mut Version,

@@ -22,8 +22,8 @@ use be_value::Refusal;
 use be_volume::{Done, Op, first_refusal};
 
 /// Returns the error, from NoNode to NotIndexable, with which the volume refuses the list, if it
-/// does. The error depends only on the list and the old version, and nothing changes. `asked`
-/// receives the first attribute that was looked up, unless it already has one.
+/// does. The error depends only on the list and the old version, and finding it changes nothing.
+/// `asked` receives the first attribute that was looked up, unless it already has one.
 fn refusal<L: Look>(
     look: &mut L,
     version: &Version,

@@ -18,7 +18,7 @@ abbrev pub pairs_up_to : (words : ℕ → ℕ → ℕ) → List Place → List P
 pairs_up_to words [] = []
 pairs_up_to words (place ∷ path) = pairs_before words place ++ pairs_up_to words path
 
--- the pairs before a cursor, which it has ahead, the last one first
+-- the pairs before a cursor, which are still ahead of it, the last one first
 abbrev pub coming : (words : ℕ → ℕ → ℕ) → BackCursor → List Pair
 coming words cursor = pairs_up_to words cursor.path.items
 

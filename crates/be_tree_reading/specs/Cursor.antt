@@ -18,7 +18,7 @@ abbrev pub pairs_along : (words : ℕ → ℕ → ℕ) → List Place → List P
 pairs_along words [] = []
 pairs_along words (place ∷ path) = pairs_along words path ++ pairs_past words place
 
--- the pairs after a cursor, which it has ahead
+-- the pairs after a cursor, which are still ahead of it
 abbrev pub remaining : (words : ℕ → ℕ → ℕ) → Cursor → List Pair
 remaining words cursor = pairs_along words cursor.path.items
 

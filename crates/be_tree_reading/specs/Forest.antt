@@ -10,7 +10,7 @@ use Rattle.be_tree_reading.specs.Tree.{pairs, pages, IsTree}
 abbrev pub pages_of : (words : ℕ → ℕ → ℕ) (roots : List ℕ) → List ℕ
 pages_of words roots = flat_map (λ root. pages words root) roots
 
--- well-formed trees that share no page, in each of which a page occurs only once
+-- well-formed trees; no page occurs in two of them, or twice in one
 pub record AreTrees (page_state : ℕ → PageState) (words : ℕ → ℕ → ℕ) (roots : List ℕ) : Type 0 where
   pub each : All (IsTree page_state words) roots
   pub once : (q : ℕ) → times q (pages_of words roots) ≤ 1

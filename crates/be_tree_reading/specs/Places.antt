@@ -37,7 +37,7 @@ pub record AreFrom (words : ℕ → ℕ → ℕ) (page place : ℕ) (all rest : 
   pub in_range : number ≤ words page 1
   pub parts : all ≡ drop number (items_of (words page)) ++ rest
 
--- the branch at a place has the key of the first of these pairs; at place 0 there are none
+-- the branch at a place has the key of the first of these pairs; if the place is 0, there are none
 pub record IsNext (page_state : ℕ → PageState) (words : ℕ → ℕ → ℕ) (page place : ℕ)
     (rest : List Pair) : Type 0 where
   pub none : place ≡ 0 → rest ≡ []

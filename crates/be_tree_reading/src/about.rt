@@ -94,8 +94,8 @@ fn branch_to<L: Look>(look: &mut L, page: u64, key: Option<&[u8]>) -> usize
     item_number(at)
 }
 
-/// Returns the position in a leaf before the keys at or after a key; if `after` is set, before
-/// those strictly after it. Without a key, returns the leaf's end.
+/// Returns the position in a leaf just before the first key at or after a given key; if `after` is
+/// set, strictly after it. Without a key, returns the leaf's end.
 fn end_in<L: Look>(look: &mut L, page: u64, key: Option<&[u8]>, after: bool) -> End
     requires leaf { IsTreeAt 0 1 (L.page_state look.old) (L.words look.old) page }
     ensures unchanged { IsUnchanged L.kept L.page_state L.words look.old look.new }

@@ -26,7 +26,7 @@ use crate::walk::{TreeItem, fill_key, key_at};
 use arrayvec::ArrayVec;
 use be_pages::Look;
 
-/// A place on a page of a level: the number of the next item. It is kept small, because a cursor
+/// A place on a page at some level: the number of the next item. It is kept small, because a cursor
 /// has room for 14 of them.
 #[derive(Clone, Copy)]
 pub(crate) struct Place {

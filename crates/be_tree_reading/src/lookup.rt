@@ -166,8 +166,8 @@ pub fn branch_in<L: Look>(look: &mut L, page: u64, key: &[u8], first: u64) -> us
 }
 
 /// Returns the place of the branch below which a key belongs, on a page whose items end at `end`.
-/// It is the last branch whose key isn't higher, otherwise the first branch, so the first branch's
-/// key is never read.
+/// It is the last branch whose key isn't higher, or the first branch if there is none. So the first
+/// branch's key is never read.
 #[inline(always)]
 pub(crate) fn branch_for<L: Look>(
     look: &mut L,
@@ -194,7 +194,8 @@ pub(crate) fn branch_for<L: Look>(
     at - ITEM_WORDS
 }
 
-/// Returns the place of the item that has a key, otherwise the place after the items with lower keys.
+/// Returns the place of the item that has a key, or, if there is none, the place after the items
+/// with lower keys.
 #[inline(always)]
 pub fn search<L: Look>(look: &mut L, page: u64, key: &[u8], first: u64) -> Result<usize, usize>
     requires readable { IsTrue (is_readable (L.page_state look.old page)) }

@@ -200,8 +200,8 @@ fn whole_word(bytes: &[u8], from: usize) -> u64
     ])
 }
 
-/// Returns the bytes from one of the last seven on as a word, with zeros past the end: it loads the
-/// last eight bytes and shifts them up.
+/// Returns the bytes from an index on as a word, with zeros past the end. The index is among the
+/// last seven, so it loads the last eight bytes and shifts them up.
 fn last_word(bytes: &[u8], from: usize) -> u64
     requires some { 8 ≤ length bytes.now }
     requires within { from < length bytes.now }

@@ -1,4 +1,4 @@
-//! Finds the lowest pair of a tree from a key on.
+//! Finds a tree's lowest pair at or after a key.
 //!
 //! A tree is a sorted list of pairs, so the pairs at or after a key are a tail of the list. The
 //! tail's first pair is the lowest. One descent finds where the tail begins: on each inner page it

@@ -39,7 +39,7 @@ kind_number kinds.Rawt = 5
 kind_number kinds.Ulng = 6
 kind_number kinds.Ullg = 7
 
--- the kind's name in texts
+-- the kind's name in text form
 abbrev pub kind_name : Kind → List ℕ
 kind_name kinds.Cstr = codes "CSTR"
 kind_name kinds.Long = codes "LONG"

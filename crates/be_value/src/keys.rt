@@ -6,7 +6,7 @@
 //! values is a range of keys.
 //!
 //! A signed integer is written as its distance from the lowest of its kind, and every integer is
-//! written high byte first. A text ends with a zero byte, which no text contains.
+//! written high byte first. A text is followed by a zero byte, which no text contains.
 ghost use Rattle.std.specs.Prelude.{◌≡◌, ◌<◌, ◌≤◌, ◌^◌, ◌↔◌, ℕ, IsTrue, IfSome, IfNone, length};
 ghost use Rattle.std.specs.Prelude.{Some, None, Ok, List, [], ◌∷◌, ◌++◌, IsUtf8};
 ghost use Rattle.std.specs.Int.{to_be_bytes, w32, w64};
@@ -189,7 +189,7 @@ pub fn node_of(bytes: &[u8]) -> u64
     read64(last)
 }
 
-/// A law: within one kind, the bytes of keys are in the order of their pairs (value, node).
+/// A law: within one kind, keys compare by their bytes as their pairs (value, node) do.
 pub fn key_order()
     ensures { (v w : AnyValue) (m n : ℕ) → IsValue v → IsValue w → m < 2 ^ 64 → n < 2 ^ 64 →
         IsTrue (is_indexable (kind_of v)) → kind_of v ≡ kind_of w →

@@ -2,8 +2,8 @@
 //!
 //! # What an attribute has
 //! It has a name of 1 to 63 bytes and a value of one of seven kinds. These are texts, MIME types,
-//! raw bytes, and signed and unsigned integers of 32 or 64 bits. A text, a MIME type and raw bytes
-//! have at most 255 bytes. Names and values hold their bytes in place, so no call allocates memory.
+//! raw bytes, and signed and unsigned integers of 32 or 64 bits. Each text, MIME type or raw value
+//! has at most 255 bytes. Names and values hold their bytes in place, so no call allocates memory.
 //!
 //! # How an index finds a value
 //! It uses a key: the value's bytes followed by the node in eight bytes. Keys of one kind are in

@@ -124,7 +124,8 @@ impl Model for Text {
 }
 
 impl Text {
-    /// Creates a value's text from a string. The length is checked before zero bytes.
+    /// Creates a value's text from a string. The length is checked first, and then that no byte is
+    /// zero.
     pub fn new(text: &str) -> Result<Text, Refusal>
         ensures { result ≡ text_from text.now }
     {

@@ -4,7 +4,7 @@
 //! the old volume and then carried through those operations, so nothing is copied and no memory is
 //! allocated. For a list of n operations this costs n steps per fact. Counting attributes would
 //! cost n reads per operation. So they are counted only for a new name, and only if the old count
-//! plus the earlier sets of that node reaches the limit.
+//! plus the earlier sets on that node reaches the limit.
 ghost use Rattle.std.specs.FinMap as map;
 ghost use Rattle.std.specs.Prelude.{◌≡◌, ◌≤◌, ◌<◌, ◌+◌, ◌^◌, IsOk, false, length, nat_eq};
 ghost use Rattle.std.specs.Prelude.{nat_le};
@@ -246,7 +246,7 @@ fn is_full<F: Facts>(facts: &mut F, before: &[Op], node: u64) -> bool
     may_be_full(facts, before, node) && attribute_count(facts, before, node) >= MAX_ATTRIBUTES
 }
 
-/// Returns whether the old count plus the sets of this node among these operations reaches the
+/// Returns whether the old count plus the sets on this node among these operations reaches the
 /// limit. Each set adds at most one attribute.
 fn may_be_full<F: Facts>(facts: &mut F, before: &[Op], node: u64) -> bool
     ghost volume: { State }
