@@ -7,7 +7,7 @@
 //! the writer.
 //!
 //! # What a write may do
-//! It may fill a page that it has taken as often as it likes. `Room::is_taken` returns whether it
+//! It may fill any page that it has taken, any number of times. `Room::is_taken` returns whether it
 //! has taken a page. It never fills a page that was in use when the write began. It gives such a
 //! page up, and the page keeps its words until the write is kept. So the state before a write
 //! survives until the write ends, and undoing the write changes no words.

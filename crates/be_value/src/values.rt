@@ -124,8 +124,8 @@ impl Model for Text {
 }
 
 impl Text {
-    /// Creates a value's text from a string. The length is checked first, and then that no byte is
-    /// zero.
+    /// Creates a value's text from a string. If the length is wrong and there is a zero byte, the
+    /// error is about the length.
     pub fn new(text: &str) -> Result<Text, Refusal>
         ensures { result ≡ text_from text.now }
     {
