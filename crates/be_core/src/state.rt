@@ -307,7 +307,7 @@ impl State {
         }
     }
 
-    /// Returns whether the version has the page.
+    /// Returns `true` if the version has the page.
     fn reaches(&self, version: u64, page: u64) -> bool
         ensures { result ≡ (shown self.now blank).reach version page }
     {
@@ -366,7 +366,7 @@ impl State {
         true
     }
 
-    /// Returns whether pass k holds the lock and hasn't published.
+    /// Returns `true` if pass k holds the lock and hasn't published.
     fn writes(&self, k: u64) -> bool
         ensures { IsTrue result ↔ ((h : machine.Writer) × HasOpenWrite (shown self.now blank) k h) }
     {

@@ -52,8 +52,8 @@ fn key_in(kind: Kind, value: Option<&Value>, node: u64) -> Option<ArrayVec<u8, 2
     }
 }
 
-/// Returns whether the two keys are equal and the tree has that key. If they differ, the tree isn't
-/// searched.
+/// Returns `true` if the two keys are equal and the tree has that key. If they differ, the tree
+/// isn't searched.
 fn holds_both<L: Look>(
     look: &mut L,
     root: u64,
@@ -110,9 +110,9 @@ fn turn_key<R: Room>(
 }
 
 /// Changes the node's pair in an index's tree: it removes the old value's pair and inserts the new
-/// value's, where they are of the index's kind. If the tree already has the new pair, the root and
-/// the page writer are unchanged. The tree is searched for it only if the old value has the same
-/// pair, because an index has no pair of any other value.
+/// value's, if they are of the index's kind. If the tree already has the new pair, the root and the
+/// page writer are unchanged. The tree is searched for it only if the old value has the same pair,
+/// because an index has no pair of any other value.
 fn change_root<R: Room>(
     room: &mut R,
     root: u64,

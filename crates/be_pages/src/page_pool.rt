@@ -121,7 +121,7 @@ impl PagePool {
         self.places[page as usize]
     }
 
-    /// Returns whether the open write has taken a page.
+    /// Returns `true` if the open write has taken a page.
     pub fn is_in_hand(&self, page: u64) -> bool
         requires { page < length (places self.now) }
         ensures { result ≡ is_in_hand (place_of (places self.now) page) }
@@ -300,7 +300,7 @@ impl PagePool {
     }
 }
 
-/// Returns whether this is the place of a page that the open write has taken.
+/// Returns `true` if this is the place of a page that the open write has taken.
 fn is_in_hand(place: Place) -> bool
     ensures { result ≡ is_in_hand place }
 {
@@ -310,7 +310,7 @@ fn is_in_hand(place: Place) -> bool
     }
 }
 
-/// Returns whether this is the place of a page that the open write hasn't touched.
+/// Returns `true` if this is the place of a page that the open write hasn't touched.
 fn is_idle(place: Place) -> bool
     ensures { result ≡ is_idle place }
 {

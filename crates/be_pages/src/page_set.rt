@@ -88,7 +88,7 @@ impl PageSet {
         Some(page)
     }
 
-    /// Returns whether a page is in the set.
+    /// Returns `true` if a page is in the set.
     #[tactic(auto, unfolding(crate::specs::PageSet::has_page))]
     pub(crate) fn has(&self, page: u64) -> bool
         ensures { result ≡ has_page self.now.places.items page }

@@ -67,7 +67,7 @@ pub trait Room: Look {
     /// What holds of the number in the error if the writer has just returned `Full`.
     ghost full: { Self → ℕ → Type 0 };
 
-    /// Returns whether this write has taken a readable page; such a page may be filled again in
+    /// Returns `true` if this write has taken a readable page; such a page may be filled again in
     /// place. It doesn't read the page's words.
     fn is_taken(&self, page: u64) -> bool
         requires readable { IsTrue (is_readable (Self.page_state self.now page)) }

@@ -72,7 +72,7 @@ absent_append : (k : ℕ) (v w : List Knowledge) → IsAbsent k v → IsAbsent k
 absent_append k [] w h g = g
 absent_append k (a ∷ v) w h g = (h.0, absent_append k v w h.1 g)
 
--- no pass of another seat
+-- a pass of one seat is absent from every other seat
 absent_elsewhere : (limits : Limits) (b : Board) (i j : ℕ) (a : Knowledge) (w : List Knowledge) → j ≢ i → Fits limits b i a → AllFit limits b j w → IsAbsent a.number w
 absent_elsewhere limits b i j a [] ne fa h = tt
 absent_elsewhere limits b i j a (x ∷ w) ne fa h = (apart limits b i j a x ne fa h.0, absent_elsewhere limits b i j a w ne fa h.2)

@@ -26,7 +26,7 @@ impl Limits {
     /// The maximum number of entries, chosen so that a version's number fits into half a word.
     pub const MAX_COMMITS: u64 = 4294967295;
 
-    /// Returns whether a table may have these limits.
+    /// Returns `true` if a table may have these limits.
     pub fn are_within(&self) -> bool
         ensures within { result ≡ true → IsWithin self.now }
         ensures bad { result ≡ false → AreBad self.now }

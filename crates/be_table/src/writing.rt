@@ -40,15 +40,15 @@ use be_value::Refusal;
 use be_volume::{Done, Op};
 use std::marker::{Brand, Model};
 
-/// A retired page can be reused only after a scan has freed it. A write that lets the pool run
-/// empty first goes through the memory of every page, although the pages given up most recently are
-/// still in the cache. A write gives up 6 to 16 pages, all of which map to the same few lines of
-/// the cache. So the pages given up by the last two or three writes are still in the nearest levels
-/// of the cache. While readers hold pages, scanning at every write frees nothing more and costs one
-/// load per pass.
+/// A retired page can be reused only after a scan has freed it. If a write lets the pool run empty
+/// before it scans, it goes through the memory of every page, although the pages given up most
+/// recently are still in the cache. A write gives up 6 to 16 pages, all of which map to the same
+/// few lines of the cache. So the pages given up by the last two or three writes are still in the
+/// nearest levels of the cache. While readers hold pages, scanning at every write frees nothing
+/// more and costs one load per pass.
 const EARLY: usize = 32;
 
-/// How far the retired pages must outnumber those that the last whole scan left before a scan pays.
+/// How many pages must be retired, beyond those that the last whole scan left, before a scan pays.
 /// If that scan left none, no reader holds pages, and every write scans. The pages that the last
 /// write gave up are then free, so each page can be copied back to the page that it was copied
 /// from.
@@ -178,7 +178,7 @@ impl<'a> Writing<'a> {
         table.table.shared.load::<OwnWord>(&mut self.base, word)
     }
 
-    /// Returns whether this write has taken a page. No step.
+    /// Returns `true` if this write has taken a page. No step.
     pub fn is_taken(&self, page: u64) -> bool
         requires page { page < length self.now.knows.places }
         ensures { result ≡ is_in_hand (place_of self.now.knows.places page) }
@@ -328,9 +328,9 @@ impl<'a> Writing<'a> {
         self.take()
     }
 
-    /// Returns whether a scan pays even if pages are free. It does once the retired pages outnumber
-    /// those that the last whole scan had to leave for readers, by 1 if it left none and by 32
-    /// otherwise. There are never fewer retired pages than that scan left. No step.
+    /// Returns `true` if a scan pays even though pages are free. It does once the retired pages
+    /// outnumber those that the last whole scan had to leave for readers, by 1 if it left none and
+    /// by 32 otherwise. There are never fewer retired pages than that scan left. No step.
     pub fn is_scan_due(&self) -> bool
         ensures due { result ≡ true → self.now.left + due_after self.now.left
             ≤ count_by is_retired self.now.knows.places }

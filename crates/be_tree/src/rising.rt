@@ -29,7 +29,7 @@ pub(crate) struct Changed {
     pub(crate) same_minimum: bool,
 }
 
-/// Returns whether the lowest key below a page is known to be unchanged after the child of branch
+/// Returns `true` if the lowest key below a page is known to be unchanged after the child of branch
 /// `at` was changed.
 fn keeps_minimum(child: Changed, at: usize) -> bool
     ensures { result ≡ true → (0 < at) ⊎ (child.same_minimum ≡ true) }

@@ -114,7 +114,7 @@ fn settle_right<R: Room>(room: &mut R, step: Step, was: u64, node: Node<'_>) -> 
     Ok(Settled { cut, branches })
 }
 
-/// Returns whether there is a child before the step's that has room for an item.
+/// Returns `true` if there is a child before the step's that has room for an item.
 fn left_has_room<R: Room>(room: &mut R, step: Step, was: u64, node: Node<'_>) -> bool
     requires child { (start : R) × IsChildInHand R.kept R.page_state R.words step was node.level
         node.pair.now node.slots.now start room.old }
@@ -211,7 +211,7 @@ fn replace_at(slots: &mut ArrayVec<Slot, 24>, at: usize, mut more: ArrayVec<Slot
     }
 }
 
-/// Returns whether a page may have this many items: a root needs two branches, and any other page
+/// Returns `true` if a page may have this many items: a root needs two branches, and any other page
 /// needs six items.
 fn fits(count: usize, is_root: bool) -> bool
     ensures most { result ≡ true → count ≤ 12 }

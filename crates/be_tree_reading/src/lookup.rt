@@ -64,7 +64,7 @@ pub fn find<L: Look>(look: &mut L, root: u64, key: &[u8]) -> Option<ArrayVec<u8,
     Some(payload)
 }
 
-/// Returns whether the tree has a key. It costs one descent, and reads no payload.
+/// Returns `true` if the tree has a key. It costs one descent, and reads no payload.
 pub fn has_key<L: Look>(look: &mut L, root: u64, key: &[u8]) -> bool
     requires tree { IsTree (L.page_state look.old) (L.words look.old) root }
     ensures found { result ≡ is_some (payload_at (pairs (L.words look.old) root) key.now) }
@@ -102,7 +102,7 @@ pub fn find_place<L: Look>(look: &mut L, root: u64, key: &[u8]) -> Option<(u64, 
     }
 }
 
-/// Returns whether the item at this place of a page, as returned by `Cursor::step`, has this key.
+/// Returns `true` if the item at this place of a page, as returned by `Cursor::step`, has this key.
 /// The keys are compared in place.
 pub fn is_key_at<L: Look>(look: &mut L, page: u64, at: usize, key: &[u8]) -> bool
     requires readable { IsTrue (is_readable (L.page_state look.old page)) }
@@ -220,7 +220,7 @@ pub fn search<L: Look>(look: &mut L, page: u64, key: &[u8], first: u64) -> Resul
     Err(at)
 }
 
-/// Returns whether the key of the item at this place is higher than a key whose first word is
+/// Returns `true` if the key of the item at this place is higher than a key whose first word is
 /// `first`.
 #[inline(always)]
 pub(crate) fn is_above<L: Look>(look: &mut L, page: u64, at: usize, key: &[u8], first: u64) -> bool
@@ -234,7 +234,7 @@ pub(crate) fn is_above<L: Look>(look: &mut L, page: u64, at: usize, key: &[u8], 
     order_at(look, page, at, key, first).is_gt()
 }
 
-/// Returns whether the key of the item at this place is lower than a key whose first word is
+/// Returns `true` if the key of the item at this place is lower than a key whose first word is
 /// `first`.
 #[inline(always)]
 pub(crate) fn is_below<L: Look>(look: &mut L, page: u64, at: usize, key: &[u8], first: u64) -> bool

@@ -135,7 +135,7 @@ fn first_from<L: Look>(look: &mut L, page: u64, low: &[u8], first: u64) -> usize
     }
 }
 
-/// Returns whether all keys from a branch on are above the bound.
+/// Returns `true` if all keys from a branch on are above the bound.
 #[inline(always)]
 fn ends_before<L: Look>(look: &mut L, next: NextBranch, high: Option<&[u8]>) -> bool
     requires next { (rest : List Pair)
@@ -233,7 +233,7 @@ fn push_rest<L: Look>(
 }
 
 /// Adds the numbers of a leaf's keys up to the bound, starting with the item that has this number.
-/// Returns whether a key is above the bound. If the last key isn't above it, no other key is
+/// Returns `true` if a key is above the bound. If the last key isn't above it, no other key is
 /// compared.
 fn push_leaf<L: Look>(
     look: &mut L,
@@ -267,7 +267,7 @@ fn push_leaf<L: Look>(
 }
 
 /// Adds the numbers of a leaf's keys up to the bound, starting with the item at this place. Returns
-/// whether a key is above the bound.
+/// `true` if a key is above the bound.
 #[inline(always)]
 fn push_to<L: Look>(
     look: &mut L,
@@ -315,7 +315,7 @@ pub fn first_of(high: Option<&[u8]>) -> u64
     }
 }
 
-/// Returns whether the key of the item at this place is above the bound, whose first word is
+/// Returns `true` if the key of the item at this place is above the bound, whose first word is
 /// `first`.
 #[inline(always)]
 pub fn is_past_at<L: Look>(

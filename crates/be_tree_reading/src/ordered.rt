@@ -151,8 +151,8 @@ fn count_within<L: Look>(look: &mut L, leaf: Leaf, way: Way<'_>, first: u64, mos
     0
 }
 
-/// Returns whether the key of the item at this place isn't past the end of a way, whose first word
-/// is `first` (`first_of_end`).
+/// Returns `true` if the key of the item at this place isn't past the end of a way, whose first
+/// word is `first` (`first_of_end`).
 #[inline(always)]
 pub fn is_within<L: Look>(look: &mut L, page: u64, at: usize, way: Way<'_>, first: u64) -> bool
     requires readable { IsTrue (is_readable (L.page_state look.old page)) }

@@ -48,7 +48,7 @@ impl Kind {
         }
     }
 
-    /// Returns whether an index may have this kind.
+    /// Returns `true` if an index may have this kind.
     pub fn indexable(&self) -> bool
         ensures { result ≡ is_indexable self.now }
     {

@@ -165,7 +165,7 @@ fn next_after(op: &Op, next: u64) -> u64
     }
 }
 
-/// Returns whether the node exists after these operations.
+/// Returns `true` if the node exists after these operations.
 fn has_node<F: Facts>(facts: &mut F, before: &[Op], node: u64) -> bool
     ghost volume: { State }
     requires answers { F.answers_for facts.old volume }
@@ -192,7 +192,7 @@ fn node_after(op: &Op, next: u64, there: bool, node: u64) -> bool
     }
 }
 
-/// Returns whether the node has the attribute after these operations.
+/// Returns `true` if the node has the attribute after these operations.
 fn has_attribute<F: Facts>(facts: &mut F, before: &[Op], node: u64, name: &Name) -> bool
     ghost volume: { State }
     requires answers { F.answers_for facts.old volume }
@@ -222,7 +222,7 @@ fn attribute_after(op: &Op, next: u64, there: bool, node: u64, name: &Name) -> b
     }
 }
 
-/// Returns whether two names are equal. Names in one list usually differ in their length or last
+/// Returns `true` if two names are equal. Names in one list usually differ in their length or last
 /// byte, so these are compared first.
 #[inline(always)]
 fn is_same(name: &Name, other: &Name) -> bool
@@ -233,7 +233,7 @@ fn is_same(name: &Name, other: &Name) -> bool
     bytes.len() == others.len() && bytes.last() == others.last() && name == other
 }
 
-/// Returns whether the node has the maximum number of attributes after these operations. They are
+/// Returns `true` if the node has the maximum number of attributes after these operations. They are
 /// counted only if the maximum may have been reached.
 fn is_full<F: Facts>(facts: &mut F, before: &[Op], node: u64) -> bool
     ghost volume: { State }
@@ -246,7 +246,7 @@ fn is_full<F: Facts>(facts: &mut F, before: &[Op], node: u64) -> bool
     may_be_full(facts, before, node) && attribute_count(facts, before, node) >= MAX_ATTRIBUTES
 }
 
-/// Returns whether the old count plus the sets on this node among these operations reaches the
+/// Returns `true` if the old count plus the sets on this node among these operations reaches the
 /// limit. Each set adds at most one attribute.
 fn may_be_full<F: Facts>(facts: &mut F, before: &[Op], node: u64) -> bool
     ghost volume: { State }
@@ -264,7 +264,7 @@ fn may_be_full<F: Facts>(facts: &mut F, before: &[Op], node: u64) -> bool
     reach_limit(old, sets)
 }
 
-/// Returns whether the sum of the two counts reaches the maximum number of attributes of a node.
+/// Returns `true` if the sum of the two counts reaches the maximum number of attributes of a node.
 fn reach_limit(old: usize, sets: usize) -> bool
     ensures { result ≡ nat_le 64 (old + sets) }
 {
@@ -299,7 +299,7 @@ fn attribute_count<F: Facts>(facts: &mut F, before: &[Op], node: u64) -> usize
     count
 }
 
-/// Returns whether the operation sets an attribute that already exists.
+/// Returns `true` if the operation sets an attribute that already exists.
 fn sets_again<F: Facts>(facts: &mut F, before: &[Op], op: &Op) -> bool
     ghost volume: { State }
     requires answers { F.answers_for facts.old volume }
@@ -326,7 +326,7 @@ fn count_after(op: &Op, next: u64, count: usize, node: u64, has: bool) -> usize
     }
 }
 
-/// Returns whether there is an index with this name after these operations.
+/// Returns `true` if there is an index with this name after these operations.
 fn has_index<F: Facts>(facts: &mut F, before: &[Op], name: &Name) -> bool
     ghost volume: { State }
     requires answers { F.answers_for facts.old volume }

@@ -29,7 +29,7 @@ pub trait Facts {
         ensures answers { (volume : State) → answers_for self.old volume
             → answers_for self.new volume };
 
-    /// Returns whether the node exists.
+    /// Returns `true` if the node exists.
     fn has_node(&mut self, node: u64) -> bool
         requires { (volume : State) × answers_for self.old volume }
         ensures answer { (volume : State) → answers_for self.old volume → result
@@ -38,7 +38,7 @@ pub trait Facts {
         ensures answers { (volume : State) → answers_for self.old volume
             → answers_for self.new volume };
 
-    /// Returns whether the node has an attribute with this name.
+    /// Returns `true` if the node has an attribute with this name.
     fn has_attribute(&mut self, node: u64, name: &Name) -> bool
         requires { (volume : State) × answers_for self.old volume }
         ensures answer { (volume : State) → answers_for self.old volume → result
@@ -56,7 +56,7 @@ pub trait Facts {
         ensures answers { (volume : State) → answers_for self.old volume
             → answers_for self.new volume };
 
-    /// Returns whether there is an index with this name.
+    /// Returns `true` if there is an index with this name.
     fn has_index(&mut self, name: &Name) -> bool
         requires { (volume : State) × answers_for self.old volume }
         ensures answer { (volume : State) → answers_for self.old volume → result

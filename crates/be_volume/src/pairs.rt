@@ -59,7 +59,7 @@ impl Pairs {
         self.values.get(&node)
     }
 
-    /// Returns whether these bytes are the key of a pair.
+    /// Returns `true` if these bytes are the key of a pair.
     pub fn has_key(&self, bytes: &[u8]) -> bool
         ensures found { result ≡ true → IsKeyOf self.now bytes.now }
         ensures finds { IsKeyOf self.now bytes.now → result ≡ true }

@@ -14,7 +14,7 @@ use be_query::{Cmp, Comparison, Literal, Tree};
 use be_value::{Name, Value, number_of};
 use std::cmp::Ordering;
 
-/// Returns whether indices cover the tree.
+/// Returns `true` if indices cover the tree.
 pub fn covers(contents: &Contents, tree: &Tree) -> bool
     ensures { result ≡ covered contents.now (formula tree.now) }
 {
@@ -25,7 +25,7 @@ pub fn covers(contents: &Contents, tree: &Tree) -> bool
     }
 }
 
-/// Returns whether the node satisfies the tree.
+/// Returns `true` if the node satisfies the tree.
 pub fn satisfies(contents: &Contents, tree: &Tree, node: u64) -> bool
     ensures { result ≡ sat contents.now (formula tree.now) node }
 {
@@ -49,8 +49,8 @@ fn seen<'a>(contents: &'a Contents, node: u64, name: &Name) -> Option<&'a Value>
     }
 }
 
-/// Returns whether a comparison is true of a value. Texts match a pattern by their characters, and
-/// are compared with an exact literal by their bytes. Integers of every kind are compared, as
+/// Returns `true` if a comparison is true of a value. Texts match a pattern by their characters,
+/// and are compared with an exact literal by their bytes. Integers of every kind are compared, as
 /// numbers, with the number that the literal encodes. If it encodes no number, the comparison is
 /// false, even for `!=`. Every comparison with raw bytes is false.
 pub fn holds(comparison: &Comparison, value: &Value) -> bool
@@ -107,7 +107,7 @@ pub fn literal_number(literal: &Literal) -> Option<i128>
     }
 }
 
-/// Returns whether an operator is true of a value and something that compares with it in this
+/// Returns `true` if an operator is true of a value and something that compares with it in this
 /// order, the value first.
 pub fn is_true_of(op: Cmp, order: Ordering) -> bool
     ensures { result ≡ is_true_of op order }

@@ -214,7 +214,7 @@ impl Volume {
         index.pairs.next_key(from, after)
     }
 
-    /// Returns whether the index with this name has the key.
+    /// Returns `true` if the index with this name has the key.
     pub fn has_key(&self, name: &Name, key: &[u8]) -> bool
         ensures found { result ≡ true → IsKey self.now name.now key.now }
         ensures finds { IsKey self.now name.now key.now → result ≡ true }

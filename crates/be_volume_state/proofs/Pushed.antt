@@ -1,4 +1,4 @@
--- The operations of a number as they are appended.
+-- The operations for a number as they are appended.
 use Rattle.std.proofs.Common.{◌≡◌, ◌<◌, ◌+◌, ◌++◌, ℕ, Bool, true, false, cond, if◌then◌else◌, List, [], ◌∷◌, length, take, get_or, filter, append_assoc, refl, sym, ap, ◌∙◌, Some, None, unwrap_or, Option, option_map, arith}
 use Rattle.std.proofs.lemmas.List.{map-append}
 use Rattle.std.proofs.lemmas.List.Elements.{filter_more}

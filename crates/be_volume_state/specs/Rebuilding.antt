@@ -32,7 +32,7 @@ held s node = filter (λ e. is_held s node e.0) (map.entries (attributes_of s.no
 abbrev pub set_all : ℕ → List (List ℕ × Value) → List Op
 set_all node attributes = each (λ e. Set node e.0 e.1) attributes
 
--- The operations of a number create its node and set the attributes that no index has. If the
+-- The operations for a number create its node and set the attributes that no index has. If the
 -- volume has no such node, they then drop it.
 abbrev pub number_ops : State → ℕ → List Op
 number_ops s node = New ∷ (if map.contains_key s.nodes node then set_all node (outside s node)

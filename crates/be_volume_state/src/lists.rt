@@ -1,7 +1,7 @@
 //! A volume's operations, read list by list.
 //!
 //! The operations are never all in memory at once. Apart from the list being returned, only those
-//! of one number, or those of the indices, are in memory.
+//! for one number, or those for the indices, are in memory.
 ghost use Rattle.std.specs.Prelude.{◌≡◌, ◌<◌, ◌≤◌, ◌++◌, ◌⊎◌, [], IfOk, IfSome, IfNone, OnOk};
 ghost use Rattle.std.specs.Prelude.{length, true, false};
 ghost use Rattle.be_volume.specs.Volume.{State};
@@ -93,7 +93,7 @@ fn fill<W: Whole>(whole: &mut W, place: &mut Place) -> Result<(), AllocError>
     Ok(())
 }
 
-/// Returns whether a list is full or nothing is left to read.
+/// Returns `true` if a list is full or nothing is left to read.
 fn is_ready(place: &Place, next: u64) -> bool
     ensures ready { (volume : State) → next ≡ volume.next → result ≡ true →
         (64 ≤ length place.now.ready.items) ⊎ (places.left_from volume place.now.step ≡ []) }
@@ -102,7 +102,7 @@ fn is_ready(place: &Place, next: u64) -> bool
     place.ready.len() >= FULL || is_last(place.step, next)
 }
 
-/// Returns whether nothing is left to read.
+/// Returns `true` if nothing is left to read.
 fn is_last(step: Step, next: u64) -> bool
     ensures last { (volume : State) → next ≡ volume.next → result ≡ true
         → places.left_from volume step ≡ [] }

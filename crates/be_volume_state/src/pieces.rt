@@ -1,4 +1,4 @@
-//! The operations of one number, and of the indices.
+//! The operations for one number, and those for the indices.
 ghost use Rattle.std.specs.Prelude.{◌≡◌, ◌++◌, ◌∷◌, [], IfOk, OnOk, filter, not, if◌then◌else◌};
 ghost use Rattle.std.specs.Prelude.{map as each};
 ghost use Rattle.be_volume.specs.Volume.{State};
@@ -10,7 +10,7 @@ use be_value::{Kind, Name, Value};
 use be_volume::Op;
 use std::alloc::{AllocError, Global};
 
-/// Returns the operations of the next number. They create its node and set the attributes that no
+/// Returns the operations for the next number. They create its node and set the attributes that no
 /// index has; if the volume has no such node, they then drop it.
 pub(crate) fn number_ops<W: Whole>(
     alloc: Global,

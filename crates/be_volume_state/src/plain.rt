@@ -81,7 +81,7 @@ fn indices_of(volume: &Volume) -> Result<Vec<(Name, Kind)>, AllocError>
     }
 }
 
-/// Returns whether the index of that name has the node. A pair in an index is always an attribute
+/// Returns `true` if the index of that name has the node. A pair in an index is always an attribute
 /// of its node, so the function looks for the key of that attribute.
 fn index_has(volume: &Volume, node: u64, name: &Name) -> bool
     ensures { result ≡ is_held volume.now node name.now }

@@ -53,7 +53,7 @@ pub trait Whole {
         ensures answers { (volume : State) → answers_for self.old volume
             → answers_for self.new volume };
 
-    /// Returns whether the index of that name has the node. It allocates no memory.
+    /// Returns `true` if the index of that name has the node. It allocates no memory.
     fn is_held(&mut self, node: u64, name: &Name) -> bool
         requires { (volume : State) × answers_for self.old volume }
         ensures answer { (volume : State) → answers_for self.old volume → result
