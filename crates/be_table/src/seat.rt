@@ -99,9 +99,9 @@ impl Seat {
         }
     }
 
-    /// Returns the version page of the version to which the pass is pinned. From that page, the
-    /// version's pages, with the words that they had when it was published, encode the volume after
-    /// the first n entries of the journal, where n is the version's number.
+    /// Returns the version page of the version to which the pass is pinned. From there, the
+    /// version's pages, with the words that they had when it was published, encode a volume. It is
+    /// the volume after the first n entries of the journal, where n is the version's number.
     pub fn version_page(&self) -> u64
         requires seat { self.now.blank ≡ false }
         requires pinned { (x : ℕ) × (n : ℕ) × (self.now.knows.phase ≡ Pinned x n) }

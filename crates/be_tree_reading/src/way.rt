@@ -14,9 +14,9 @@ use crate::cursor::Cursor;
 use crate::page::{HEADER_WORDS, ITEM_WORDS};
 use be_pages::Look;
 
-/// A range of keys and the direction of a walk over it: up from `low`, or, if `back` is set, down
-/// from `high`, or from the last key if there is no `high`. Both ends belong to the range, but
-/// `strict` leaves out the end where the walk begins.
+/// A range of keys and the direction of a walk over it. The walk goes up from `low`, or, if `back`
+/// is set, down from `high`. If there is no `high`, it goes down from the last key. Both ends
+/// belong to the range, but `strict` leaves out the end where the walk begins.
 #[derive(Clone, Copy)]
 pub struct Way<'a> {
     pub low: &'a [u8],
