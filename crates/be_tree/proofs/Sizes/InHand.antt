@@ -72,7 +72,7 @@ all_times_size : (n : ℕ) (ps : List ℕ) → all_times n ps ≤ length ps
 all_times_size n [] = omega (arith, none_of_none n)
 all_times_size n (p ∷ ps) = omega (arith, all_times_cons n p ps, one_hit n p, all_times_size n ps)
 
--- if all newly held pages are among these, they are no more than these
+-- if all newly held pages are among these, there are no more of them than of these
 by_pages : (n : ℕ) (old new : ℕ → PageState) (ps : List ℕ) → ((q : ℕ) → one_of (is_taken (new q)) ≤ one_of (is_taken (old q)) + times q ps) → in_hand n new ≤ in_hand n old + all_times n ps
 unfolding all_times
 by_pages zero old new ps each = omega arith
