@@ -32,7 +32,7 @@ fn read_op(alloc: Global, text: &[u8]) -> Result<Option<Op>, AllocError>
     }
 }
 
-/// The outcome that a text encodes. For a node, that is the number after `node `.
+/// The outcome that a text encodes: a node if a number follows `node `, otherwise no value.
 fn read_done(text: &[u8]) -> Done
     ensures { (done : AnyDone) → history.CanBeDone done → text.now ≡ done_text done → result
         ≡ done }
