@@ -37,7 +37,8 @@ abbrev pub after_stars : List (List ℕ) → List Part
 after_stars [] = []
 after_stars (r ∷ rs) = Run ∷ (map Only r ++ after_stars rs)
 
--- A canonical text begins with this literal character, and the rest of it is the canonical text of the remaining parts.
+-- A canonical text begins with this literal character, and the rest of it is the canonical text of
+-- the remaining parts.
 pub record BeginsWith (parts : List Part) (char : ℕ) (rest : List ℕ) : Type 0 where
   pub after : List Part
   pub first : parts ≡ Only char ∷ after

@@ -1,4 +1,5 @@
--- How an entry is read from its bytes, from left to right. Each step returns the item that it read and the bytes after it.
+-- How an entry is read from its bytes, from left to right. Each step returns the item that it read
+-- and the bytes after it.
 use Rattle.std.specs.Prelude.{ℕ, zero, suc, ◌-◌, ◌^◌, List, [], ◌∷◌, length, take, drop, Some, None}
 use Rattle.std.specs.Prelude.{nat_lt, nat_eq, pos, negsuc, if◌then◌else◌}
 use Rattle.std.specs.Int.{Width, from_be_bytes, byte_len, w16, w32, w64}

@@ -64,7 +64,8 @@ op_bytes (Unset node name) = number_bytes node ++ counted_bytes name
 op_bytes (MkIndex name kind) = counted_bytes name ++ kind_number kind ∷ []
 op_bytes (RmIndex name) = counted_bytes name
 
--- An operation and its outcome: the form, plus 128 if the outcome is a node, then the rest of the operation, then that node.
+-- An operation and its outcome: the form, plus 128 if the outcome is a node, then the rest of the
+-- operation, then that node.
 unfoldable pub step_bytes : Op → Done → List ℕ
 step_bytes op (Node node) = (form_of op + 128) ∷ (op_bytes op ++ number_bytes node)
 step_bytes op Nothing = form_of op ∷ op_bytes op
@@ -101,7 +102,8 @@ abbrev pub CanBeDone : Done → Type 0
 CanBeDone (Node node) = node < 2 ^ 64
 CanBeDone Nothing = ⊤
 
--- an entry that the program can make: at most 64 operations, an outcome for each, and the number of a pass
+-- an entry that the program can make: at most 64 operations, an outcome for each, and the number of
+-- a pass
 pub record CanBeEntry (by : ℕ) (ops : List Op) (dones : List Done) : Type 0 where
   pub pass : by < 2 ^ 64
   pub few : length ops ≤ 64

@@ -21,7 +21,8 @@ entries_at zero bytes = []
 entries_at (suc count) bytes = option_map_or
     (λ x. (record { by = x.0; ops = x.1; dones = x.2 }) ∷ entries_at count x.3) (entry_at bytes) []
 
--- the operations that the bytes begin with, each with its outcome: `count` of them, or all if there are fewer
+-- the operations that the bytes begin with, each with its outcome: `count` of them, or all if there
+-- are fewer
 unfoldable pub steps_in : ℕ → List ℕ → List (Op × Done)
 steps_in zero bytes = []
 steps_in (suc count) bytes = option_map_or (λ x. (x.0, x.1) ∷ steps_in count x.2) (step_at bytes) []
@@ -36,7 +37,8 @@ pub record AreEntries (count : ℕ) (bytes : List ℕ) : Type 0 where
   pub counted : length (entries_at count bytes) ≡ count
   pub stored : All IsStored (entries_at count bytes)
 
--- among the `count` entries in the bytes, the entry after the first `before` entries begins at this offset
+-- among the `count` entries in the bytes, the entry after the first `before` entries begins at this
+-- offset
 pub record IsPlace (before place count : ℕ) (bytes : List ℕ) : Type 0 where
   pub known : before ≤ count
   pub within : place ≤ length bytes
@@ -47,7 +49,8 @@ pub record ArePlaces (places : List ℕ) (count : ℕ) (bytes : List ℕ) : Type
   pub each : (k : ℕ) → k < length places → IsPlace (16 * k) (get_or places k 0) count bytes
   pub all : count ≤ 16 * length places
 
--- the offsets once another entry follows `count` entries: its offset is added if it begins a group of 16
+-- the offsets once another entry follows `count` entries: its offset is added if it begins a group
+-- of 16
 abbrev pub with_place : List ℕ → ℕ → ℕ → List ℕ
 with_place places count place = if nat_eq (count / 16) (length places) then places ++ place ∷ []
     else places

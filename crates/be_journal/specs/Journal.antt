@@ -47,7 +47,8 @@ abbrev pub Grows : {X : Type 0} → Log → Log → Result X Refusal → Log →
 Grows old grown (Ok x) new = (new ≡ grown) × (length old.entries < old.limit)
 Grows old grown (Err e) new = (new ≡ old) × IsRefused old e
 
--- The volume after the entries, in order. If the volume refuses an entry, no part of that entry takes effect.
+-- The volume after the entries, in order. If the volume refuses an entry, no part of that entry
+-- takes effect.
 abbrev pub replay : List Entry → State
 replay entries = fold (λ s entry. state_after s entry.ops) empty entries
 

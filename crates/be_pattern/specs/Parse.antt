@@ -8,7 +8,8 @@ use Rattle.be_value.specs.declared.refusals.Refusal.{Refusal}
 use Rattle.be_value.specs.declared.refusals.Refusal.TheVariants.{OutOfMemory, BadPattern}
 use Rattle.be_pattern.specs.Match.{Part, Run, One, Among, Only}
 
--- A character of the text: the position at which it begins, including its backslash, and whether it has a backslash.
+-- A character of the text: the position at which it begins, including its backslash, and whether it
+-- has a backslash.
 pub record Letter : Type 0 where
   pub at : ℕ
   pub escaped : Bool

@@ -32,7 +32,8 @@ abbrev pub direction_in : List ℕ → Bool × List ℕ
 direction_in text = option_map_or (λ rest. (true, rest)) (past (codes "descending") text)
     (false, text)
 
--- the value and node after which a page begins, or the value's error; for the first page there is neither a value nor a node
+-- the value and node after which a page begins, or the value's error; for the first page there is
+-- neither a value nor a node
 abbrev pub Position : Type 0
 Position = Result (Option (Value × ℕ)) Refusal
 
@@ -98,7 +99,8 @@ may_begin None (Some pair) = false
 may_begin (Some kind) (Some pair) = is_indexable (kind_of pair.0)
     && nat_eq (kind_number (kind_of pair.0)) (kind_number kind)
 
--- What a line finds: nodes in the index's order, whether more nodes follow, and the value and number of the last node.
+-- What a line finds: nodes in the index's order, whether more nodes follow, and the value and
+-- number of the last node.
 pub record PageFound : Type 0 where
   pub nodes : List ℕ
   pub more : Bool

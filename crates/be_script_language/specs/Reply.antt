@@ -53,13 +53,15 @@ kind_and_value v = kind_name (kind_of v) ++ (codes " " ++ value_text v)
 abbrev pub more_word : Bool → List ℕ
 more_word more = if more then codes "more" else codes "end"
 
--- ` after KIND VALUE NODE`, the position at which the next page begins; the empty text if the page is empty
+-- ` after KIND VALUE NODE`, the position at which the next page begins; the empty text if the page
+-- is empty
 abbrev pub after_text : Option (Value × ℕ) → List ℕ
 after_text None = []
 after_text (Some pair) = codes " after "
     ++ (kind_and_value pair.0 ++ (codes " " ++ decimal pair.1))
 
--- a line with the nodes, then a line that says whether more nodes follow and where the next page begins
+-- a line with the nodes, then a line that says whether more nodes follow and where the next page
+-- begins
 abbrev pub page_text : PageFound → List ℕ
 page_text p = ((numbers_line (codes "nodes") p.nodes ++ more_word p.more) ++ after_text p.last)
     ++ codes "\n"

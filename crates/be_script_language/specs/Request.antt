@@ -23,7 +23,8 @@ use Rattle.be_script_language.specs.Values.{same, kind_in, value_in}
 use Rattle.be_script_language.specs.Words.{is_blank, is_empty, skip, end_of_word, bytes_of}
 use Rattle.be_script_language.specs.Words.{first_word, one_word, two_words, text_in}
 
--- What a line requests. If no store accepts the name or value, the request contains the error instead.
+-- What a line requests. If no store accepts the name or value, the request contains the error
+-- instead.
 pub data Request : Type 0 where
   silent : Request
   malformed : Request

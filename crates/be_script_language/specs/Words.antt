@@ -44,7 +44,8 @@ meaning_of c =
 abbrev pub beyond : List ℕ → Option (List ℕ × List ℕ) → Option (List ℕ × List ℕ)
 beyond bytes parts = option_map (λ p. (bytes ++ p.0, p.1)) parts
 
--- after an opening quote: the text that the quoted word stands for, and the text after the closing quote
+-- after an opening quote: the text that the quoted word stands for, and the text after the closing
+-- quote
 abbrev pub quoted_in : List ℕ → Option (List ℕ × List ℕ)
 quoted_in [] = None
 quoted_in (c ∷ []) = if nat_eq c 34 then Some ([], []) else None
@@ -62,7 +63,8 @@ ends_word (c ∷ text) = is_blank c
 abbrev pub if_ended : List ℕ × List ℕ → Option (List ℕ × List ℕ)
 if_ended parts = if ends_word parts.1 then Some parts else None
 
--- the word at the start of a text, and the text after it; None if there is no word, or if it is malformed
+-- the word at the start of a text, and the text after it; None if there is no word, or if it is
+-- malformed
 abbrev pub word_at : List ℕ → Option (List ℕ × List ℕ)
 word_at [] = None
 word_at (c ∷ text) =

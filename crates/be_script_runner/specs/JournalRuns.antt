@@ -61,7 +61,8 @@ made limit entries = record {
   pin = None;
 }
 
--- the replies to the lines of the write with this number: the reply to its only operation, or the replies for a batch of several
+-- the replies to the lines of the write with this number: the reply to its only operation, or the
+-- replies for a batch of several
 abbrev pub write_output : ℕ → Entry → List ℕ
 write_output number entry =
     if nat_lt 1 (length entry.ops) then text_of ok

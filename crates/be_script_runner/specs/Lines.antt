@@ -35,7 +35,8 @@ AreAnsweredBy a s (line ∷ lines) z last out =
     × IsAnsweredBy a s line c after reply × AreAnsweredBy c after lines z last rest
     × (out ≡ reply ++ rest)
 
--- The script gets these replies, line by line, from a pass that knew `a` at first and knows `z` at the end.
+-- The script gets these replies, line by line, from a pass that knew `a` at first and knows `z` at
+-- the end.
 pub record IsServedBy (a : Knowledge) (script : List ℕ) (z : Knowledge) (out : List ℕ) : Type 0
   where
     pub last : Session

@@ -35,7 +35,8 @@ pub record AreInOneOrder (limits : StoreLimits) (journal : List Entry) (passes :
   pub writes : All (HasWrites journal) passes
   pub moves : AreInOneTrace limits passes
 
--- `c` is what one of these passes knew after some of its calls: further calls led from there to what it knows at the end
+-- `c` is what one of these passes knew after some of its calls: further calls led from there to
+-- what it knows at the end
 abbrev pub IsMoment : List Knowledge → Knowledge → Type 0
 IsMoment [] c = ⊥
 IsMoment (z ∷ passes) c = LeadTo c z ⊎ IsMoment passes c

@@ -32,7 +32,8 @@ use Rattle.be_script_runner.specs.Store.{PinnedVolume, Store, Meanwhile, IsLowes
 use Rattle.be_script_runner.specs.Store.{viewed}
 use Rattle.be_script_runner.specs.Store.{pinned, unpinned, written}
 
--- a running script: its store, the operations of its batch if one is open, and its live query if there is one
+-- a running script: its store, the operations of its batch if one is open, and its live query if
+-- there is one
 pub record Session : Type 0 where
   pub store : Store
   pub batch : Option (List Op)
@@ -104,7 +105,8 @@ abbrev pub watching : Session → Result Formula Refusal → Reply × Session
 watching s (Ok f) = (ok, with_live s (record { query = f; last = []; table = None }))
 watching s (Err e) = (refused e, s)
 
--- the nodes that have joined the answer and those that have left it since the last answer, which this answer replaces
+-- the nodes that have joined the answer and those that have left it since the last answer, which
+-- this answer replaces
 abbrev pub updating : Session → LiveQuery → Result (List ℕ) Refusal → Reply × Session
 updating s l (Ok now) = (
   updates (without now l.last) (without l.last now),
@@ -131,7 +133,8 @@ abbrev pub turned : State → Paging → Result Formula Refusal → Reply
 turned volume paging (Ok f) = replied paged (page_read volume paging f)
 turned volume paging (Err e) = refused e
 
--- the reply to a request for a query's plan: what is looked up in the volume's indices, and the cost
+-- the reply to a request for a query's plan: what is looked up in the volume's indices, and the
+-- cost
 abbrev pub explained : State → Result Formula Refusal → Reply
 explained volume (Ok f) = replied (λ c. cover (explanation f c)) (chosen (has_index volume) f)
 explained volume (Err e) = refused e
@@ -177,7 +180,8 @@ IsHeldUpAt s None (write (Ok op)) reply = IsHeldUp s.store (op ∷ []) reply
 IsHeldUpAt s (Some (op ∷ ops)) commit reply = IsHeldUp s.store (op ∷ ops) reply
 IsHeldUpAt s batch request reply = ⊥
 
--- An operation takes memory if it is written and the store accepts it, or if it is queued in a batch that has room for it.
+-- An operation takes memory if it is written and the store accepts it, or if it is queued in a
+-- batch that has room for it.
 abbrev pub OpTakesMemory : Session → Option (List Op) → Op → Type 0
 OpTakesMemory s None op = IsOk (written s.store (op ∷ []))
 OpTakesMemory s (Some ops) op = length ops < 64
@@ -188,7 +192,8 @@ CommitTakesMemory s None = ⊥
 CommitTakesMemory s (Some []) = ⊥
 CommitTakesMemory s (Some (op ∷ ops)) = IsOk (written s.store (op ∷ ops))
 
--- a line takes memory if its operation or commit does, or if it parses a query or lists what it finds
+-- a line takes memory if its operation or commit does, or if it parses a query or lists what it
+-- finds
 abbrev pub TakesMemory : Session → Request → Type 0
 TakesMemory s silent = ⊥
 TakesMemory s malformed = ⊥
@@ -218,7 +223,8 @@ IsWanting s request reply after = (after ≡ unwritten s request)
 abbrev pub Gives : Reply × Session → Reply → Session → Type 0
 Gives answer reply after = answer ≡ (reply, after)
 
--- the intended reply and session, or the error of a line that ran out of memory or whose write was held up
+-- the intended reply and session, or the error of a line that ran out of memory or whose write was
+-- held up
 abbrev pub MayReply : Session → Request → Reply × Session → Reply → Session → Type 0
 MayReply s request answer reply after = Gives answer reply after ⊎ IsWanting s request reply after
 

@@ -44,7 +44,8 @@ start_of limits k = record {
   pin = None;
 }
 
--- The pass has number k, and its own writes are some of those that the script requests, in their order.
+-- The pass has number k, and its own writes are some of those that the script requests, in their
+-- order.
 pub record HasServed (store : Opened) (k : ℕ) (script : List ℕ) (p : SeatFacts) : Type 0 where
   pub pass : IsPassOf store p
   pub number : p.knows.number ≡ k
@@ -87,7 +88,8 @@ HaveReplied limits journal k (script ∷ scripts) [] = ⊥
 HaveReplied limits journal k (script ∷ scripts) (text ∷ texts) = IsReplied limits journal k script
     text × HaveReplied limits journal (k + 1) scripts texts
 
--- The replies come from the store with these passes, for every journal that contains what they have seen and written.
+-- The replies come from the store with these passes, for every journal that contains what they have
+-- seen and written.
 abbrev pub AreRepliesOf : StoreLimits → ℕ → List (List ℕ) → List SeatFacts → List (List ℕ) → Type 0
 AreRepliesOf limits k scripts passes texts = (journal : List Entry)
     → KeepsSeen journal (map knows_of passes) → HaveReplied limits journal k scripts texts
@@ -133,7 +135,8 @@ pub record IsRace (limits : StoreLimits) (scripts : List (List ℕ)) (out : List
 abbrev pub IsRaceInPart : StoreLimits → List (List ℕ) → List ℕ → Type 0
 IsRaceInPart limits scripts front = (rest : List ℕ) × IsRace limits scripts (front ++ rest)
 
--- the text is empty, or consists of the lines and whole replies of the first passes in a race of these scripts
+-- the text is empty, or consists of the lines and whole replies of the first passes in a race of
+-- these scripts
 abbrev pub AreFirstPasses : StoreLimits → List (List ℕ) → List ℕ → Type 0
 AreFirstPasses limits scripts out = (out ≡ [])
     ⊎ ((whole : List ℕ) × (race : IsRace limits scripts whole) × AreFirstTexts race.replies out)

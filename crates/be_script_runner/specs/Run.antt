@@ -53,7 +53,8 @@ ReadsFew old new = (bytes : List ℕ) × Consumes old new bytes × (length bytes
 abbrev pub ReadsMany : Option (List ℕ) → Option (List ℕ) → Type 0
 ReadsMany old new = (bytes : List ℕ) × Consumes old new bytes × (2 ^ 20 < length bytes)
 
--- What was read if reading the script failed. Too many bytes were read if and only if the script is too long.
+-- What was read if reading the script failed. Too many bytes were read if and only if the script is
+-- too long.
 abbrev pub ReadFault : RunFault → Option (List ℕ) → Option (List ℕ) → Type 0
 ReadFault Limits old new = ⊥
 ReadFault Read old new = ReadsFew old new
@@ -61,7 +62,8 @@ ReadFault TooLong old new = ReadsMany old new
 ReadFault Write old new = ⊥
 ReadFault Memory old new = ReadsFew old new
 
--- What was read if a run ended with an error. Too many bytes were read if and only if the script is too long.
+-- What was read if a run ended with an error. Too many bytes were read if and only if the script is
+-- too long.
 abbrev pub HasReadScript : RunFault → Option (List ℕ) → Option (List ℕ) → Type 0
 HasReadScript TooLong old new = ReadsMany old new
 HasReadScript e old new = ReadsFew old new

@@ -65,7 +65,8 @@ start limit = record {
 abbrev pub IsOther : Store → ℕ → Type 0
 IsOther s k = (k < s.passes) × (k ≢ s.pass)
 
--- What the other passes may have done to the store: they append entries, and the volume is the one after those entries.
+-- What the other passes may have done to the store: they append entries, and the volume is the one
+-- after those entries.
 pub record Joins (old new : Store) : Type 0 where
   pub others : List Entry
   pub theirs : All (λ e. IsOther old e.by) others
@@ -93,7 +94,8 @@ pinned s = record s { pin = Some (record { number = length s.journal; volume = s
 abbrev pub unpinned : Store → Store
 unpinned s = record s { pin = None }
 
--- the store after this pass's write, which the volume accepts with these outcomes; a pin is left in place
+-- the store after this pass's write, which the volume accepts with these outcomes; a pin is left in
+-- place
 abbrev pub entered : Store → List Op → State → List Done → Store
 entered s ops volume dones = record s {
   journal = s.journal ++ record { by = s.pass; ops = ops; dones = dones }
@@ -111,7 +113,8 @@ written_by s ops (Err e) = Err e
 abbrev pub written : Store → List Op → Result (Store × List Done) Refusal
 written s ops = written_by s ops (steps s.volume ops)
 
--- the version that reads see, as the number of writes that it includes: the pinned version, or the version after all writes
+-- the version that reads see, as the number of writes that it includes: the pinned version, or the
+-- version after all writes
 abbrev pub viewed_number : Store → ℕ
 viewed_number s = option_map_or (λ (p : PinnedVolume). p.number) s.pin (length s.journal)
 

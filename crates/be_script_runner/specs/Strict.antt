@@ -51,19 +51,22 @@ abbrev pub numbered : ℕ → Option (List ℕ) → Option (ℕ × List ℕ)
 numbered number None = None
 numbered number (Some text) = Some (number, text)
 
--- A line's possible reply as text, the session after the line, and the text again if it says that the line was refused.
+-- A line's possible reply as text, the session after the line, and the text again if it says that
+-- the line was refused.
 abbrev pub Judged : Session → List ℕ → Session → Option (List ℕ) → List ℕ → Type 0
 Judged s line after found out = (reply : Reply) × Serves s (asked line) reply after
     × (out ≡ text_of reply) × (found ≡ (if is_refusal reply then Some out else None))
 
--- possible replies to several lines, as text, none of which says that its line was refused, and the session after them
+-- possible replies to several lines, as text, none of which says that its line was refused, and the
+-- session after them
 abbrev pub Accepts : Session → List (List ℕ) → Session → List ℕ → Type 0
 Accepts s [] last out = (last ≡ s) × (out ≡ [])
 Accepts s (line ∷ lines) last out =
     (after : Session) × (reply : List ℕ) × (rest : List ℕ) × Judged s line after None reply
     × Accepts after lines last rest × (out ≡ reply ++ rest)
 
--- the script's first lines were accepted, and the next line, which has this number, was refused with this text
+-- the script's first lines were accepted, and the next line, which has this number, was refused
+-- with this text
 pub record StopsAt (store : Store) (script : List ℕ) (number : ℕ) (text : List ℕ) (new : Store)
     (out : List ℕ) : Type 0 where
   pub lines : List (List ℕ)

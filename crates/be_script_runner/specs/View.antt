@@ -21,7 +21,8 @@ queued_ops client = unwrap_or (queue client) []
 abbrev pub session : Store → Client → Session
 session store client = record { store = store; batch = queue client; live = client.live }
 
--- whatever the script keeps besides its store, this request gets this reply, which depends only on the store, and changes nothing
+-- whatever the script keeps besides its store, this request gets this reply, which depends only on
+-- the store, and changes nothing
 abbrev pub RepliesToAny : Store → Request → Reply → Type 0
 RepliesToAny store request reply = (client : Client)
     → Replies (session store client) request reply (session store client)

@@ -26,7 +26,7 @@ fn read_file<R: Files + Input>(rt: &R, alloc: Global, file: &str) -> Result<Vec<
 }
 
 /// The error to return if the file at this position is too long: the error of the first later file
-/// that can't be read, or else TooLong for this file.
+/// that can't be read, or TooLong for this file if all of them can.
 fn stop_at<R: Files + Input>(
     rt: &R,
     alloc: Global,

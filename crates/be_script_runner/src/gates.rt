@@ -1,7 +1,8 @@
 //! The hooks that a race calls around each line of its scripts.
 //!
-//! A gate tells a test which line each script has reached. It can also hold a script back, so that
-//! the test can see the scripts run at the same time. Outside tests, a race uses the open gate.
+//! A gate reports to a test which line each script has reached. It can also hold a script back, so
+//! that the test can see the scripts run at the same time. Outside tests, a race uses the open
+//! gate.
 ghost use Rattle.std.specs.Prelude.{ℕ};
 ghost use Rattle.be_script_runner.specs.Gates.{IsNext};
 

@@ -35,7 +35,7 @@ pub fn nobody_joins()
     ensures { (old new : Store) → old.passes ≡ 1 → old.pass ≡ 0 → Joins old new → new ≡ old }
 {}
 
-/// In a store with one pass, a line is answered from the store as it stands, and leaves a store
+/// In a store with one pass, a line is answered from the store as it is, and leaves a store
 /// with one pass. So what `run` writes depends on a single pass.
 pub fn answered_alone()
     ensures { (s after : Session) (request : Request) (reply : Reply) → s.store.passes ≡ 1

@@ -17,7 +17,8 @@ use Rattle.be_store.specs.Views.{Nodes, volume}
 abbrev pub IsNew : Knowledge → ℕ → Type 0
 IsNew a k = (limits : Limits) × (steps : ℕ) × (a ≡ newcomer limits steps k)
 
--- Pass k writes these operations. The write is accepted, with the commit number n and these outcomes.
+-- Pass k writes these operations. The write is accepted, with the commit number n and these
+-- outcomes.
 abbrev pub writes : ℕ → List Op → ℕ → List Done → List (Step volume)
 writes k ops n dones = Apply (record { by = k; ops = ops; dones = dones }) n ∷ []
 

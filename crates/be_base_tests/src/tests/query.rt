@@ -195,7 +195,8 @@ leaf name==\"x.\\*\" x.c => no";
     replies(rt.alloc(), lines)
 }
 
-/// The item that a word stands for: a string after a `'`, a number, an operator, or else a name.
+/// The item that a word stands for: a string after a `'`, a number, an operator, or otherwise a
+/// name.
 fn item_of(alloc: Global, word: &str) -> Result<Item, Refusal> {
     if let Some(text) = word.strip_prefix("'") {
         return Ok(Item::Text(String::from_str(alloc, text)?));
