@@ -265,7 +265,8 @@ Replies s commit reply after = MayReply s commit (committing s s.batch) reply af
 Replies s abort reply after = MayReply s abort (aborting s s.batch) reply after
 
 -- The replies that a request may get if the store has other passes, and the session after each: the
--- reply is about the store as those passes left it. A store with one pass is left as it was.
+-- reply is about the store as those passes left it. A store with one pass has no others, so there
+-- the reply is about the store as it was.
 abbrev pub Serves : Session → Request → Reply → Session → Type 0
 Serves s request reply after = Meanwhile s.store
     (λ now. Replies (with_store s now) request reply after)
@@ -282,15 +283,15 @@ Outputs s (line ∷ lines) last out =
     (after : Session) × (reply : List ℕ) × (rest : List ℕ) × Answered s line after reply
     × Outputs after lines last rest × (out ≡ reply ++ rest)
 
--- the text is an output of the script, which begins with the first store and leaves the second
+-- the text is an output of the script, run from the first store and leaving the second
 abbrev pub IsOutputTo : Store → List ℕ → Store → List ℕ → Type 0
 IsOutputTo store script new out = (last : Session)
     × Outputs (opening store) (lines_of script) last out × (last.store ≡ new)
 
--- the text is an output of the script, which begins with this store
+-- the text is an output of the script, run from this store
 abbrev pub IsOutputFrom : Store → List ℕ → List ℕ → Type 0
 IsOutputFrom store script out = (new : Store) × IsOutputTo store script new out
 
--- the text is a prefix of an output of the script, which begins with this store
+-- the text is a prefix of an output of the script, run from this store
 abbrev pub IsFrontOfOutput : Store → List ℕ → List ℕ → Type 0
 IsFrontOfOutput store script front = (rest : List ℕ) × IsOutputFrom store script (front ++ rest)

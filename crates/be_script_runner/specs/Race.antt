@@ -70,9 +70,10 @@ pub record IsOutcome (limits : StoreLimits) (k : ℕ) (script : List ℕ) (a : K
   pub output : IsOutputTo (start_of limits k) script (known a) text
   pub served : IsServedBy (newcomer limits (k + 1) k) script a text
 
--- Script k got this text from the store that has this journal. The text is an output of the script,
--- beginning with an empty store, while the other passes may write. The journal begins with what the
--- script's pass saw at the end, and that beginning contains all of this pass's entries.
+-- Script k got this text from the store that has this journal. The text is an output of the script
+-- on a store that is empty at first and in which the other passes may write. The journal begins
+-- with what the script's pass saw at the end, and that beginning contains all of this pass's
+-- entries.
 pub record IsReplied (limits : StoreLimits) (journal : List Entry) (k : ℕ) (script text : List ℕ) :
     Type 0 where
   pub last : Store

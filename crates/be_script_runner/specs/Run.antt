@@ -18,8 +18,8 @@ pub record Wrote (old new : Option (List ℕ)) (P : List ℕ → Type 0) : Type 
   pub appended : Appends old new out
   pub is : P out
 
--- What a run writes: an output of the script, which begins with an empty store that has one pass.
--- After each of its writes, the volume fits into the number of pages that the limits allow.
+-- What a run writes: an output of the script on an empty store with one pass. After each of its
+-- writes, the volume fits into the number of pages that the limits allow.
 pub record IsRun (limits : StoreLimits) (script out : List ℕ) : Type 0 where
   pub last : Store
   pub output : IsOutputTo (start limits.commits) script last out
@@ -41,7 +41,7 @@ is_line_end c = c == 10
 abbrev pub ReadsAll : Option (List ℕ) → Option (List ℕ) → List ℕ → Type 0
 ReadsAll old new bytes = Consumes old new bytes × IsAtEnd new
 
--- the reader was read at most one time more than the number of bytes that a script may have
+-- the number of reads is at most one more than the maximum number of bytes in a script
 abbrev pub HasFewReads : (ℕ → Type 0) → (ℕ → Type 0) → Type 0
 HasFewReads old new = (before : ℕ) → old before → (times : ℕ) × (times ≤ 2 ^ 20 + 1)
     × new (before + times)

@@ -89,8 +89,8 @@ IsStrictOutput store script None new out = (last : Session)
     × Accepts (opening store) (lines_of script) last out × (last.store ≡ new)
 IsStrictOutput store script (Some found) new out = StopsAt store script found.0 found.1 new out
 
--- What such a run writes, beginning with an empty store that has one pass, and the journal that it
--- leaves. After each of its writes, the volume fits into the number of pages that the limits allow.
+-- What such a run writes on an empty store with one pass, and the journal that it leaves. After
+-- each of its writes, the volume fits into the number of pages that the limits allow.
 pub record IsStrictRun (limits : StoreLimits) (script : List ℕ) (found : Option (ℕ × List ℕ))
     (journal : List Entry) (out : List ℕ) : Type 0 where
   pub last : Store

@@ -1,8 +1,8 @@
 //! Serves a script from a pass of a shared store, line by line.
 //!
-//! Between two lines, the pass is the only state. So there is a separate fact for what it knows
-//! after each line: calls to the store led there from what it knew before, and the reply is about
-//! the store that it then shows.
+//! Between two lines, the pass is the only state. So each line has its own fact about what the pass
+//! knows after it: calls to the store led there from what the pass knew before, and the reply is
+//! about the store that the pass then shows.
 ghost use Rattle.std.specs.Prelude.{◌≡◌, ◌≤◌, OnOk, Some, length};
 ghost use Rattle.be_script_runner.specs.Gates.{AreReported, line_count};
 ghost use Rattle.be_script_runner.specs.Lines.{IsAnsweredBy, IsServedBy};

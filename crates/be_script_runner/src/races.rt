@@ -5,11 +5,12 @@
 //! one journal. When all threads have ended, the store is closed. Then the replies are written,
 //! script by script, followed by the journal and the result of its check.
 //!
-//! Each thread makes a promise about what it returns ([`Served`]), which is a pass and replies. The
-//! pass belongs to the store and has the script's number. The pass's own writes are some of those
-//! that the script requests. The replies are ones that the script may get from what the pass has
-//! seen if others write too. So all passes are back when the store is closed. A pass's entries in
-//! the journal are writes of its script, and the replies to each script agree with that journal.
+//! Each thread returns a pass and replies, and makes a promise about them ([`Served`]). The pass
+//! belongs to the store and has the script's number. The pass's own writes are some of those that
+//! the script requests. The replies are ones that the script may get from what the pass has seen if
+//! others write too. So all passes have been returned by the time the store is closed. A pass's
+//! entries in the journal are writes of its script, and the replies to each script agree with that
+//! journal.
 ghost use Rattle.std.specs.Prelude.{◌≡◌, ◌≤◌, ◌<◌, ℕ, ◌^◌, ◌++◌, ◌↔◌, true, false, length, vec_len};
 ghost use Rattle.std.specs.Prelude.{map, IfOk, IfErr, OnOk, OnErr, Ok, Err, get_or, nat_lt};
 ghost use Rattle.std.specs.Io.KnownBytes.{Appends};
@@ -220,7 +221,7 @@ fn line_of(alloc: Global, pass: usize) -> Result<String, AllocError>
 }
 
 /// Writes each pass's line and its replies. If a write fails, a prefix of the whole text was
-/// written; if memory runs out, only the lines and whole replies of the first passes.
+/// written. If memory runs out, only the lines and whole replies of the first passes were written.
 fn put_replies<W: Write>(alloc: Global, writer: &mut W, replies: &[Vec<u8>]) -> Result<(), RunFault>
     ensures ok { OnOk result (Appends (W.contents writer.old) (W.contents writer.new)
         (replies_text 0 (map (λ t. t.items) replies.now))) }
@@ -262,7 +263,7 @@ fn put_parts<W: Write>(
 
 /// Writes the journal's length, its text, and the result of its check. Returns that result, which
 /// is always true because the journal is legal. If memory runs out, nothing was written; if a write
-/// fails, a prefix was.
+/// fails, a prefix of the text was written.
 pub fn put_result<W: Write>(
     alloc: Global,
     writer: &mut W,
@@ -292,8 +293,8 @@ pub fn put_result<W: Write>(
 }
 
 /// Writes each pass's line and its replies, and then the journal. Returns the result of the
-/// journal's check. If a write fails, a prefix of the whole text was written; if memory runs out,
-/// only the lines and whole replies of the first passes.
+/// journal's check. If a write fails, a prefix of the whole text was written. If memory runs out,
+/// only the lines and whole replies of the first passes were written.
 fn put_race<W: Write>(
     alloc: Global,
     writer: &mut W,

@@ -105,9 +105,8 @@ pub(crate) fn split_line(script: &[u8]) -> Option<(&[u8], &[u8])>
     }
 }
 
-/// Runs a script's lines in order, with a call to the gate before and after each line, which gets
-/// the numbers of the pass and the line. The text after the last LF is a line only if it isn't
-/// empty.
+/// Runs a script's lines in order, and calls the gate before and after each line with the numbers
+/// of the pass and the line. The text after the last LF is a line only if it isn't empty.
 pub(crate) fn run_lines<S: Server, G: Gate, W: Write>(
     alloc: Global,
     server: &mut S,
@@ -149,9 +148,9 @@ pub(crate) fn run_lines<S: Server, G: Gate, W: Write>(
 }
 
 /// Serves a script from a pass that has seen nothing, while the store's other passes may write.
-/// Calls the gate before and after each line with the numbers of the pass and the line. Every line
-/// is numbered, from 1. The replies are kept in memory, so the only error is Memory. Returns the
-/// pass even after an error.
+/// Calls the gate before and after each line with the numbers of the pass and the line. Lines are
+/// numbered from 1, including blank lines and comments. The replies are kept in memory, so the only
+/// error is Memory. Returns the pass even after an error.
 pub fn serve_pass<G: Gate>(
     alloc: Global,
     store: &Store,
@@ -251,7 +250,8 @@ pub fn serve<S: Server, R: ScriptReader, W: Write>(
 ///
 /// If the reader's and the writer's bytes are known, as they are for a slice and a vector, it
 /// writes an output of the script. After `Write`, a prefix of an output was written; after
-/// `Memory`, whole replies to the script's first lines; after any other error, nothing.
+/// `Memory`, only whole replies to the script's first lines were; after any other error, nothing
+/// was.
 pub fn run<R: ScriptReader, W: Write>(
     alloc: Global,
     reader: &mut R,

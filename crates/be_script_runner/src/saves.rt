@@ -16,8 +16,9 @@ use std::io::Write;
 /// after all writes. It is the text that `bestore dump --state` prints for a journal that leaves
 /// this version. The script doesn't include an open batch.
 ///
-/// Returns `Memory` if memory runs out for the script; then nothing was written. Returns `Write` if
-/// a write fails or accepts no bytes; then a prefix of the script was written. It doesn't flush.
+/// Returns `Memory` if there isn't enough memory for the script; then nothing was written. Returns
+/// `Write` if a write fails or accepts no bytes; then a prefix of the script was written. It
+/// doesn't flush.
 pub fn save_state<S: Server, W: Write>(server: &mut S, writer: &mut W) -> Result<(), RunFault>
     ensures saved { OnOk result (Appends (W.contents writer.old) (W.contents writer.new)
         (state_dump (viewed (S.shows server.new)))) }

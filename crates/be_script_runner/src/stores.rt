@@ -1,4 +1,4 @@
-//! Servers, which scripts run on.
+//! The servers that scripts run on.
 //!
 //! A script's lines need only the calls of the trait [`Server`]. A ghost member describes the store
 //! that the calls work on: a journal, the volume after it, the limit on its entries, and the pinned
@@ -43,7 +43,7 @@ use std::alloc::{AllocError, Global};
 use std::marker::Model;
 use std::snapshot::Snapshot;
 
-/// The maximum number of tries of a write while another pass is writing.
+/// The maximum number of times that a write is tried while another pass is writing.
 const MAX_TRIES: u64 = 10_000_000;
 
 /// The store that a script runs on. Reads see the pinned version, or the version after all writes
@@ -60,8 +60,9 @@ pub trait Server {
     ghost refuses: { Self → List AnyOp → AnyRefusal → Self → Type 0 };
 
     /// Writes all the operations or none of them. Returns the commit number and the operations'
-    /// outcomes. Returns Busy if another pass is writing; otherwise the volume's error, then
-    /// CommitsSpent, then OutOfMemory, then Full. A pin is left in place.
+    /// outcomes. Returns Busy if another pass is writing. Otherwise the errors, in order of
+    /// precedence, are the volume's error, CommitsSpent, OutOfMemory and Full. A pin is left in
+    /// place.
     fn apply(&mut self, ops: &[Op]) -> Result<(u64, ArrayVec<Done, 64>), Refusal>
         requires some { 1 ≤ length ops.now }
         requires few { length ops.now ≤ 64 }
@@ -96,7 +97,7 @@ pub trait Server {
 
     /// A page of a query's answer, in the order of an index. Returns NoSuchIndex if there is no
     /// index with that name, or if the value after which the page begins is of another kind than
-    /// the index. The next error is NotCovered. It may also return OutOfMemory.
+    /// the index. NoSuchIndex takes precedence over NotCovered. OutOfMemory is possible too.
     fn page(&mut self, query: Query, paging: &Paging) -> Result<Page, Refusal>
         ensures stays { kept self.new ≡ kept self.old }
         ensures joins { Joins (shows self.old) (shows self.new) }
@@ -162,8 +163,8 @@ pub fn open_for_one(alloc: Global, limits: Limits) -> Result<(be_store::Store, P
     Ok((store, pass))
 }
 
-/// Writes, and retries while another pass is writing, up to 10,000,000 tries in all. Another thread
-/// may run before each retry.
+/// Writes, retrying while another pass is writing, for up to 10,000,000 tries in all. Another
+/// thread may run before each retry.
 fn apply_at_last(
     store: &be_store::Store,
     pass: &mut Pass,
@@ -186,8 +187,7 @@ fn apply_at_last(
 }
 
 /// A shared store, served from one of its passes. The other passes may write at any time; a script
-/// sees what this pass has seen. Only calls to the store led from what the pass knew at first to
-/// what it knows now.
+/// sees what this pass has seen. What the pass knows has changed only through calls to the store.
 #[derive(Drop)]
 pub struct PassServer<'a> {
     alloc: Global,
@@ -245,7 +245,7 @@ impl<'a> PassServer<'a> {
         pass
     }
 
-    /// Returns the pass, and says that calls to the store led to what it knows.
+    /// Returns the pass, and says that what it knows changed only through calls to the store.
     pub(crate) fn at_last(self) -> Pass
         ensures pass { IsPassOf self.entry.store result }
         ensures knows { result.knows ≡ self.entry.knows }

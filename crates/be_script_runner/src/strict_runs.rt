@@ -174,8 +174,7 @@ fn run_on_new<W: Write>(
 ///
 /// Such replies are a refusal, `bad line`, `already begun`, `not begun`, `full batch`, `empty
 /// batch`, `already pinned`, `not pinned` and `no live query`. The text that it writes is an output
-/// of the lines up to and including that one. The errors are those of `run`, and each leaves what
-/// it leaves there.
+/// of the lines up to and including that one. The errors are those of `run`, with the same effects.
 pub fn run_strictly<R: ScriptReader, W: Write>(
     alloc: Global,
     reader: &mut R,
