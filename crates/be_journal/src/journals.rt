@@ -56,7 +56,7 @@ impl Model for Journal {
 }
 
 impl Journal {
-    /// A journal without entries, which holds at most `limit` entries. The limit is at most 2^32 -
+    /// A journal without entries that can hold up to `limit` entries. The limit is at most 2^32 -
     /// 1.
     pub fn new(alloc: Global, limit: u64) -> Journal
         requires { limit < 2 ^ 32 }

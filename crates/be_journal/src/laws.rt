@@ -7,7 +7,7 @@ ghost use Rattle.be_volume.specs.Sound.{IsSound};
 ghost use Rattle.be_journal.specs.Journal.{replay, by_pass, Agrees, IsLegal, HasOperations};
 ghost use Rattle.be_journal.specs.declared.entries.Entry.{Entry as AnyEntry};
 
-/// A law: replaying one more entry amounts to one more write after the entries before it.
+/// A law: replaying one more entry is the same as making one more write after the earlier entries.
 pub fn replay_push()
     ensures { (entries : List AnyEntry) (entry : AnyEntry) → replay (entries ++ entry ∷ [])
         ≡ state_after (replay entries) entry.ops }

@@ -15,7 +15,7 @@ use be_value::Value;
 use be_volume::{Done, Op};
 use std::alloc::{AllocError, Global};
 
-/// The line of an entry that has this number.
+/// The line for the entry with this number.
 pub fn entry_line(alloc: Global, number: u64, entry: &Entry) -> Result<String, AllocError>
     ensures { IfOk result (λ text. string_bytes text ≡ spec.entry_line number entry.now) }
 {

@@ -27,7 +27,7 @@ past expected text = option_and_then
 abbrev pub name_in : List ℕ → Option (List ℕ × List ℕ)
 name_in text = option_and_then first_word (past (codes "by") text)
 
--- whether `descending` comes first, and the text after it if it does
+-- whether `descending` comes first, and the text left to read
 abbrev pub direction_in : List ℕ → Bool × List ℕ
 direction_in text = option_map_or (λ rest. (true, rest)) (past (codes "descending") text)
     (false, text)
@@ -52,7 +52,7 @@ pair_in text = option_and_then
     (λ node. option_map (λ pair. (pair, node.1)) (pair_from kind.0 value.0 node.0))
     (first_word value.1)) (first_word kind.1)) (first_word text)
 
--- `after KIND VALUE NODE`, if `after` comes first, and the text after it
+-- `after KIND VALUE NODE`, if `after` comes first, and the text left to read
 abbrev pub after_in : List ℕ → Option (Position × List ℕ)
 after_in text = option_map_or pair_in (past (codes "after") text) (Some (Ok None, text))
 

@@ -42,7 +42,7 @@ pub data Reply : Type 0 where
 abbrev pub numbers : List ℕ → List ℕ
 numbers ns = flat_map (λ n. 32 ∷ decimal n) ns
 
--- a line with a word, followed by a space and a number for each of the numbers
+-- a line with the word, and then each of the numbers after a space
 abbrev pub numbers_line : List ℕ → List ℕ → List ℕ
 numbers_line word ns = (word ++ numbers ns) ++ codes "\n"
 

@@ -96,7 +96,7 @@ fn name_part(alloc: Global, text: &[char]) -> Result<Option<(String, &[char])>, 
     }
 }
 
-/// Whether `descending` comes first, and the text after it if it does.
+/// Whether `descending` comes first, and the text left to read.
 fn direction_part(alloc: Global, text: &[char]) -> Result<(bool, &[char]), AllocError>
     ensures { IfOk result (λ direction. (direction.0, direction.1.now)
         ≡ spec.direction_in text.now) }
@@ -155,8 +155,8 @@ fn pair_part(
     }
 }
 
-/// If `after` comes first, reads `after KIND VALUE NODE`. Returns the value and node, if any, with
-/// the text after them.
+/// If `after` comes first, reads `after KIND VALUE NODE`. Returns the value and node, if there are
+/// any, with the text left to read.
 fn after_part(
     alloc: Global,
     text: &[char],

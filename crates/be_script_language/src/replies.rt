@@ -1,7 +1,7 @@
 //! Replies and their text.
 //!
 //! A reply has one or more lines, each ending with LF. Its whole text is built before any of it is
-//! written, so if memory runs out, half a reply is never written.
+//! written, so a reply is never half written when memory runs out.
 ghost use Rattle.std.specs.Prelude.{◌≡◌, ◌++◌, ◌∷◌, IfOk, OnOk, codes, decimal, flat_map};
 ghost use Rattle.std.specs.String.{string_bytes};
 ghost use Rattle.be_script_language.specs.Page.{page_found};
@@ -81,7 +81,7 @@ pub fn reply_text(alloc: Global, reply: &Reply) -> Result<String, AllocError>
     }
 }
 
-/// A line with a word, followed by a space and a number for each of the numbers.
+/// A line with the word, and then each of the numbers after a space.
 fn numbers_line(alloc: Global, word: &str, numbers: &[u64]) -> Result<String, AllocError>
     ensures { IfOk result (λ text. string_bytes text ≡ spec.numbers_line word.now numbers.now) }
 {

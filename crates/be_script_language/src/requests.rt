@@ -1,9 +1,8 @@
 //! What a line requests.
 //!
 //! The checks come in a fixed order: whether the line is valid UTF-8, whether it has a reply at
-//! all, its command word, and the words after that. If any of these fails, the line is a bad line.
-//! If the line is well-formed but no store accepts its name or value, the request contains the
-//! error.
+//! all, its command word, and the words after that. A line that isn't well-formed is a bad line. If
+//! it is well-formed but no store accepts its name or value, the request contains the error.
 ghost use Rattle.std.specs.List.{list_all};
 ghost use Rattle.std.specs.Option.{option_map};
 ghost use Rattle.std.specs.Prelude.{◌≡◌, IfOk, string_bytes};

@@ -42,7 +42,7 @@ fn file_ten(store: &Store, mut pass: Pass, from: &str) -> (Pass, Result<(), Refu
     (pass, Ok(()))
 }
 
-/// Files ten letters from Ada and ten from Bob, each set on its own thread.
+/// Files ten letters from Ada and ten from Bob, with a thread for each sender.
 fn file_both<R: Threads + Sync>(
     rt: &R,
     store: &Store,
