@@ -26,7 +26,7 @@ abbrev pub first_at : List ℕ → Option (ℕ × List ℕ)
 first_at [] = None
 first_at (first ∷ rest) = Some (first, rest)
 
--- a number whose number of bytes is the width
+-- a number with this width in bytes
 abbrev pub fixed_at : Width → List ℕ → Option (ℕ × List ℕ)
 fixed_at w bytes = if nat_lt (length bytes) (byte_len w) then None
     else Some (from_be_bytes w (take (byte_len w) bytes), drop (byte_len w) bytes)

@@ -1,11 +1,10 @@
 //! Writes a journal's entry as bytes, and reads it back.
 //!
-//! An entry takes few bytes. A small number takes one byte, a name or a string takes its own length
-//! and a number for that length, and an outcome takes bytes only if it is a node. `set 1 "size"
-//! LONG 5`, written by pass 0, takes eleven bytes.
+//! An entry takes few bytes. A small number takes one byte, a name or string takes its own bytes
+//! and a number that gives their count, and an outcome takes bytes only if it is a node. `set 1
+//! "size" LONG 5`, written by pass 0, takes eleven bytes.
 //!
-//! # What is proved
-//! The bytes that are appended are `entry_bytes`, which depends only on the entry
+//! # What is proved The bytes that are appended are `entry_bytes`, which depends only on the entry
 //! (`specs/Encoding.antt`). An entry that was written is read back unchanged, whatever follows it
 //! (`entry_is_read`). An entry takes at most 18 bytes plus 356 per operation (`entry_is_short`), so
 //! a writer can reserve memory beforehand.

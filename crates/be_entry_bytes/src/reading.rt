@@ -161,9 +161,9 @@ fn negative64(n: u64) -> i64
     -1 - n as i64
 }
 
-/// The value whose number follows this byte, which gives the kind and sign, with the bytes after
-/// the value. Returns `None` if no number follows such a byte, or if the number is too large for
-/// its kind.
+/// Reads the number after the byte that gives a value's kind and sign. Returns the value and the
+/// bytes after it, or `None` if no number has such a byte or if the number is too large for its
+/// kind.
 #[tactic(auto, unfolding(crate::specs::Decoding::number_value_at))]
 fn number_value_of(first: u8, rest: &[u8]) -> Option<(Value, &[u8])>
     ensures { option_map (λ x. (x.0, x.1.now)) result ≡ spec.number_value_at first rest.now }

@@ -16,7 +16,7 @@ fn write_bytes(bytes: &mut Vec<u8>, part: &[u8])
     ensures len { vec_len bytes.new ≡ vec_len bytes.old + length part.now }
     ensures room { vec_capacity bytes.old ≤ vec_capacity bytes.new }
 {
-    // The vector has the capacity.
+    // The vector has enough capacity.
     let _ = bytes.extend_from_slice(part);
 }
 

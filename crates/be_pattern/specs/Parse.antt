@@ -35,7 +35,8 @@ ending_backslash false at (c ∷ cs) = if c == 92 then ending_backslash true at 
 abbrev pub is_bare : ℕ → Letter → Bool
 is_bare c l = (l.char == c) && not l.escaped
 
--- The members of a set: `c-d` goes from c to d, and any other letter is a range of itself.
+-- The members of a set: `c-d` is the range from c to d, and any other letter is a range of one
+-- character.
 abbrev pub members : List Letter → List (ℕ × ℕ)
 members [] = []
 members (c ∷ []) = (c.char, c.char) ∷ []

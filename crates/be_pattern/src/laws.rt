@@ -15,7 +15,8 @@ pub fn canonical()
     ensures read { (ps : List Part) → are_formed ps ≡ true → pattern (canonical ps) ≡ Ok ps }
 {}
 
-/// A law: the characters that a pattern and its canonical text contain, for any test of characters.
+/// A law about the characters that a pattern and its canonical text contain, for any test of
+/// characters.
 pub fn characters()
     // The tokens that a text encodes contain only characters of that text.
     ensures named { (test : ℕ → Bool) (cs : List ℕ) (ps : List Part) → pattern cs ≡ Ok ps

@@ -53,7 +53,7 @@ impl Pattern {
     pub fn parse(alloc: Global, text: &str) -> Result<Pattern, Refusal>
         // The tokens are those that the text encodes.
         ensures ok { IfOk result (λ p. pattern (chars text.now) ≡ Ok p) }
-        // The error is that memory ran out, or gives the offset at which the text is invalid.
+        // The error is OutOfMemory, or gives the offset at which the text is invalid.
         ensures err { IfErr result (IsFault (pattern (chars text.now)) (length text.now)) }
     {
         if parsing::is_literal(text) {

@@ -87,7 +87,7 @@ asked_in text = option_and_then
       text_in limit.1,
     )) (limit_in after.1)) (after_in (direction_in name.1).1)) (name_in text)
 
--- the key of a pair of a value and a node
+-- the key of this value and node
 abbrev pub key_at : Value × ℕ → List ℕ
 key_at pair = key pair.0 pair.1
 

@@ -257,7 +257,7 @@ fn commented(alloc: Global, len: usize) -> Result<Vec<u8>, AllocError> {
     Ok(bytes)
 }
 
-/// A reply is said as a whole, however long it is.
+/// A reply is said in one piece, however long it is.
 #[test]
 fn longest_replies(rt: HostRuntime) -> Result<(), Fail> {
     let (script, replies) = longest_list(rt.alloc())?;

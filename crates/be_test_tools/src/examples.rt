@@ -1,7 +1,8 @@
 //! Worked examples, as text in the script language. Every form of a volume gives these replies: the
 //! plain volume, the volume in pages, and the shared store.
 
-/// An index has only what is set after it was created, and a set moves a pair.
+/// An index contains only attributes that are set after it was created, and setting an attribute
+/// again moves its pair.
 const INDEX_MADE_LATER: &str = "new / set 1 size LONG 5 / mkindex size LONG => node 1 / ok / ok
 query size==5 => nodes
 set 1 size LONG 5 / query size==5 => ok / nodes 1

@@ -6,8 +6,8 @@ use std::test::Fail;
 
 /// Anything that can reply to requests.
 pub trait Answers {
-    /// The reply to a request, with an LF after each line. The only error is `OutOfMemory`; after
-    /// it, nothing has changed.
+    /// The reply to a request, with an LF after each line. The only error is `OutOfMemory`, which
+    /// leaves everything unchanged.
     fn reply(&mut self, alloc: Global, request: &str) -> Result<String, Refusal>;
 }
 

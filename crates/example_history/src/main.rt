@@ -20,7 +20,7 @@ use std::process::ExitCode;
 use std::thread::Threads;
 use std::{io, thread};
 
-/// The maximum number of tries of a write while another pass is writing.
+/// The maximum number of times that a write is tried while another pass is writing.
 const TRIES: u64 = 10_000_000;
 
 /// The result of an accepted write: its commit number, and the outcomes of its operations.

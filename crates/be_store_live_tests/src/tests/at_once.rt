@@ -9,7 +9,8 @@ use std::alloc::{AllocGlobal, Global};
 use std::thread;
 use std::thread::Threads;
 
-/// Enough nodes for an answer to have more than 96. Above that, a refresh reads only the changes.
+/// Enough nodes for an answer with more than 96 nodes. Above that size, a refresh reads only the
+/// changes.
 const NODES: u32 = 400;
 
 /// Writes random operations.

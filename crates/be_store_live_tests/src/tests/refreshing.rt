@@ -9,7 +9,7 @@ use be_store::{Kind, Limits, Live, Name, Op, Pass, Query, Refusal, Store, Update
 use be_test_tools::both_of;
 use std::alloc::Global;
 
-/// The maximum number of tries of a write while another pass holds the lock.
+/// The maximum number of times that a write is tried while another pass holds the lock.
 const TRIES: u64 = 10_000_000;
 
 /// A query that about four in ten nodes satisfy.
@@ -20,7 +20,7 @@ fn next_number(number: u32) -> u32 {
     number.wrapping_mul(1_664_525).wrapping_add(1_013_904_223)
 }
 
-/// An operation that a random number determines, on one of these nodes.
+/// An operation on one of these nodes, chosen by a random number.
 fn random_op(nodes: u32, number: u32) -> Result<Op, Refusal>
     requires { 0 < nodes }
 {
@@ -77,8 +77,8 @@ pub(crate) fn write_some(
     Ok(number)
 }
 
-/// Removes the nodes that left the answer from a list, and adds those that joined. Returns false if
-/// a node that left isn't in the list, or a node that joined is.
+/// Removes from a list the nodes that left the answer, and adds those that joined it. Returns false
+/// if a node that left isn't in the list, or if a node that joined is already in it.
 fn follow(list: &mut Vec<u64>, updates: &Updates) -> Result<bool, Refusal> {
     for node in updates.removed.as_slice() {
         let Some(at) = list.iter().position(|kept| kept == node) else {
