@@ -1,4 +1,4 @@
--- Patterns of literal characters and `*`, over bytes.
+-- Patterns that consist of literal characters and `*`, as patterns over bytes.
 use Rattle.std.specs.Prelude.{◌≡◌, ℕ, Bool, true, false, List, [], ◌∷◌, ◌++◌, map, ◌||◌, ◌==◌}
 use Rattle.std.specs.Prelude.{encode_utf8, encode_utf8_all, string_bytes}
 use Rattle.std.specs.List.{flat_map, list_all}

@@ -1,4 +1,4 @@
--- What a pass knows before and after a call, and the store that it shows accordingly.
+-- What a pass knows before and after a call, and the store that it then shows.
 use Rattle.std.proofs.Common.{◌≡◌, ◌≢◌, ◌⊎◌, ◌<◌, ◌≤◌, ◌+◌, ℕ, Bool, true, false, cond, eqb, nat_lt, List, [], ◌∷◌, ◌++◌, All, length, take, Option, Some, None, IsOk, inl, inr, refl, sym, ap, ◌∙◌, subst, append_assoc, arith, length-append}
 use Rattle.std.specs.Prelude.{Result, Ok, Err, IfOk, IfErr, IsSome}
 use Rattle.std.specs.Option.{option_map, option_map_or}
@@ -33,14 +33,14 @@ use Rattle.be_store.proofs.Applied.{entries_append, nothing_more}
 use Rattle.be_script_runner.specs.Served.{known, pin_at}
 use Rattle.be_script_runner.specs.Store.{PinnedVolume, Store, Joins, Meanwhile, IsBusy, IsWant, MayWrite, pinned, entered, written, written_by}
 
--- the pin of a pass, by the entries that it has seen and its phase
+-- the pin of a pass, from the entries that it has seen and its phase
 abbrev pin_of : List Entry → Phase → Option PinnedVolume
 pin_of es phase = option_map {T = ℕ} {U = PinnedVolume} (λ n. record { number = n; volume = replay (take n es) }) (pinned_number phase)
 
 abbrev some_pin : PinnedVolume → Option PinnedVolume
 some_pin p = Some p
 
--- a pin stays when the pass sees more
+-- a pin is unchanged when the pass sees more
 pin_stays : (es more : List Entry) (phase : Phase) → InTime (length es) phase → pin_of (es ++ more) phase ≡ pin_of es phase
 pin_stays es more Idle h = refl
 pin_stays es more (Looked x) h = refl
@@ -50,7 +50,7 @@ pin_stays es more (Pinned x n) h = ap (λ (l : List Entry). some_pin (record { n
 seen_count : (seen : List Commit) → length (entries seen) ≡ length seen
 seen_count seen = length-map seen (λ (c : Commit). c.entry)
 
--- what a pass that has seen this shows, with the pin of the pass a
+-- what pass a shows, with its pin, once it has seen this journal
 abbrev seen_by : Knowledge → List Entry → Store
 seen_by a log = record (known a) { journal = log; volume = replay log }
 
@@ -59,7 +59,7 @@ unfolding AreOfPasses
 below_after passes [] more b = b
 below_after passes (e ∷ log) more b = below_after passes log more b.1
 
--- if all entries are by passes of the store, and none by pass k, they are by others
+-- if all entries were made by passes of the store, and none by pass k, they were made by others
 all_theirs : (passes k : ℕ) (es : List Entry) → AreOfPasses passes es → by_pass k es ≡ [] → All (λ (e : Entry). (e.by < passes) × (e.by ≢ k)) es
 unfolding AreOfPasses
 all_theirs passes k [] b none = All-nil (λ (e : Entry). (e.by < passes) × (e.by ≢ k))
@@ -73,7 +73,7 @@ all_theirs passes k (e ∷ es) b none = by (eqb e.by k) refl none (all_theirs pa
         differs : eqb e.by k ≡ false → e.by ≢ k
         differs h = λ same. absurd (let t : eqb e.by k ≡ true = grind (arith, nat_tests, same) in cc)
 
--- if the pass has seen more, and none of it is its own, others have joined
+-- if the pass has seen more, and none of it is its own, others have written
 joins_more : (a : Knowledge) (more : List Entry) → by_pass a.number more ≡ [] → AreOfPasses a.limits.passes (entries a.seen ++ more) → Joins (known a) (seen_by a (entries a.seen ++ more))
 joins_more a more none below = record {
   others = more;

@@ -45,7 +45,7 @@ struct Visit {
 }
 
 /// The results of all calls on a store: those of a write before the threads start and of both
-/// threads' calls, and the journal from when the store was closed.
+/// threads' calls, and the journal returned when the store was closed.
 #[derive(Drop)]
 struct Outcome {
     begun: Accepted,

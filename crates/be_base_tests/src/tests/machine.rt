@@ -80,8 +80,8 @@ fn gives(alloc: Global, state: &mut State, lines: &str) -> Result<bool, Refusal>
     Ok(true)
 }
 
-/// A run of a writer and a reader. A page that the reader has pinned isn't filled again until it is
-/// unpinned.
+/// A run with a writer and a reader. A page that the reader has pinned isn't filled again until it
+/// is unpinned.
 #[test]
 fn machine_run(rt: HostRuntime) -> Result<(), Fail> {
     let alloc = rt.alloc();
