@@ -95,7 +95,8 @@ is_pinned_to a b e h = by (pinned_number a.phase) refl (subst (λ (k : Knowledge
         never e = cc
     by (Some n) g k = (n, g)
 
--- a list that the volume accepts, if the journal has room, and if it has none
+-- operations that the volume accepts are written if the journal has room, and refused if it has
+-- none
 accepted_with_room : (s : Store) (ops : List Op) (r : Result (State × List Done) Refusal) → IsOk r → length s.journal < s.limit → IsOk (written_by s ops r)
 accepted_with_room s ops (Ok answer) ok h = let t : nat_lt (length s.journal) s.limit ≡ true = grind (arith, nat_tests) in rw t refl
 accepted_with_room s ops (Err e) ok h = cc
@@ -107,7 +108,8 @@ refused_at_limit s ops (Err e) ok h = cc
 written_with_room : (s : Store) (ops : List Op) (volume : State) (dones : List Done) → length s.journal < s.limit → written_by s ops (Ok (volume, dones)) ≡ Ok (entered s ops volume dones, dones)
 written_with_room s ops volume dones h = let t : nat_lt (length s.journal) s.limit ≡ true = grind (arith, nat_tests) in rw t refl
 
--- the lowest version that a pass finds is at most the one that reads see; it is that one if the pass is the only one
+-- the lowest version that a pass finds is at most the version that reads see, and equals it if
+-- there is only one pass
 lowest_shown : (passes : ℕ) (seen : List Commit) (phase : Phase) (least : ℕ) → IsBetweenCalls passes phase → InTime (length seen) phase
     → (least ≤ lowest_found (length seen) (announce_word phase)) × (passes ≡ 1 → least ≡ lowest_found (length seen) (announce_word phase))
     → let shown = option_map_or (λ (p : PinnedVolume). p.number) (pin_of (entries seen) phase) (length (entries seen)) in (least ≤ shown) × (passes ≡ 1 → least ≡ shown)
@@ -129,14 +131,14 @@ module _ (a c : Knowledge) (before : IsPass a) (beyond : IsPass c) (limits : c.l
       ∙ (ap (by_pass a.number) (sym (ap entries seen ∙ entries_append a.seen more))
       ∙ (ap (λ k. by_pass k (entries c.seen)) (sym number) ∙ (beyond.mine ∙ mine)))))
 
-  -- others have joined what it now sees, except for its pin
+  -- others have written what it now sees, except for its pin
   joins_seen : (more : List Commit) → c.seen ≡ a.seen ++ more → c.mine ≡ a.mine → c.number ≡ a.number → Joins (known a) (seen_by a (entries c.seen))
   joins_seen more seen mine number =
       let log : entries c.seen ≡ entries a.seen ++ entries more = ap entries seen ∙ entries_append a.seen more in
       subst (λ l. Joins (known a) (seen_by a l)) (sym log) (joins_more a (entries more) (none_new more seen mine number)
       (subst (λ l. AreOfPasses a.limits.passes l) log (subst (λ k. AreOfPasses k (entries c.seen)) (ap (λ l. l.passes) limits) beyond.by_passes)))
 
-  -- what the pass shows depends only on its journal, if its phase is the same
+  -- what the pass shows depends only on its journal, if its phase is unchanged
   shown : (more : List Entry) → entries c.seen ≡ entries a.seen ++ more → c.number ≡ a.number → c.phase ≡ a.phase → known c ≡ seen_by a (entries c.seen)
   shown more log number phase =
       let pin : pin_of (entries c.seen) c.phase ≡ pin_of (entries a.seen) a.phase =
@@ -230,7 +232,7 @@ module _ (a c : Knowledge) (before : IsPass a) (beyond : IsPass c) (limits : c.l
   writes_meanwhile tries outcomes_of ops (Ok x) settled ok err = accepts_meanwhile outcomes_of ops x.0 x.1 ok
   writes_meanwhile tries outcomes_of ops (Err e) settled ok err = record { now = known c; joins = learns_joins err.0; is = (refl, refused_as tries ops e settled err.0.pass err.1) }
 
--- after a write the pass has the same number, and an error has a reason
+-- after a write, the pass has the same number, and an error has a reason
 pub same_number : {X : Type 0} (a c : Knowledge) (tries : ℕ) (outcomes_of : X → List Done) (ops : List Op) (r : Result (ℕ × X) Refusal) → IfOk r (λ x. Accepts a c ops x.0 (outcomes_of x.1)) →
     IfErr r (λ e. Learns a c × IsLastReason tries a c ops e) → c.number ≡ a.number
 same_number a c tries outcomes_of ops (Ok x) ok err = ok.pass
