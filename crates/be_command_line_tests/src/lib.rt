@@ -1,7 +1,7 @@
-//! Command lines and the tasks that they request, through the public call.
+//! Command lines and the tasks that they request, tested through the public call.
 //!
-//! The tests are in a separate crate, so that be_command_line isn't proved a second time along with
-//! them.
+//! The tests are in a separate crate, so that checking them doesn't prove be_command_line a second
+//! time.
 #![tactic(auto)]
 
 #[cfg(test)]

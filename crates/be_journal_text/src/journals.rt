@@ -21,8 +21,8 @@ use std::alloc::{AllocError, Global};
 /// The maximum number of entries in a journal.
 const MAX_ENTRIES: usize = (1 << 32) - 1;
 
-/// The entry with these lists, if they have the same length and that length is valid for a write: 1
-/// to 64.
+/// The entry with these lists, if both have the same length and that length is valid for a write (1
+/// to 64).
 fn entry_of(by: u64, ops: Vec<Op>, dones: Vec<Done>) -> Option<Entry>
     ensures { result ≡ history.entry_of by ops.items dones.items }
 {

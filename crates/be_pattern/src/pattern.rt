@@ -75,8 +75,8 @@ impl Pattern {
     }
 
     /// Whether the pattern matches the whole text. It allocates nothing, and usually takes one step
-    /// per character. In the worst case it takes as many steps as the number of characters times
-    /// the number of tokens after the last `*`.
+    /// per character. In the worst case, the number of steps is the number of characters times the
+    /// number of tokens after the last `*`.
     pub fn matches(&self, text: &str) -> bool
         ensures { result ≡ matches self.now (chars text.now) }
     {

@@ -1,7 +1,7 @@
-//! Races of scripts, through public calls.
+//! Races of scripts, tested through public calls.
 //!
-//! The tests are in a separate crate, so that be_script_runner isn't proved a second time along
-//! with them.
+//! The tests are in a separate crate, so that checking them doesn't prove be_script_runner a second
+//! time.
 #![tactic(auto)]
 
 #[cfg(test)]

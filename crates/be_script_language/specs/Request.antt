@@ -149,7 +149,7 @@ command_in commands.Begin rest = bare begin rest
 command_in commands.Commit rest = bare commit rest
 command_in commands.Abort rest = bare abort rest
 
--- what a line with a command requests, given from its first word on
+-- what a line with a command requests; the line is given from its first word onward
 abbrev pub command_of : List ℕ → Request
 command_of line =
     unwrap_or (option_and_then (λ command. command_in command (drop (end_of_word line) line))

@@ -253,7 +253,7 @@ fn command_request(
     }
 }
 
-/// What a line with a command requests, given from its first word on.
+/// What a line with a command requests. The line is given from its first word onward.
 fn command_of(alloc: Global, line: &[char]) -> Result<Request, AllocError>
     ensures { IfOk result (λ request. request_of request ≡ spec.command_of line.now) }
 {

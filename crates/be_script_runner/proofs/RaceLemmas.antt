@@ -98,7 +98,7 @@ module _ {V E : Type 0} (store : Opened) (items : V → List ℕ) (Reported : �
   EndsAs k script o =
       IsPassOf store o.0 × (o.0.knows.number ≡ k) × IfOk o.1 (λ text. IsOutcome store.limits k (items script) o.0.knows (items text)) × OnOk o.1 (Reported k (items script))
 
-  -- the outcomes from number k on, if none of them is an error
+  -- the outcomes from number k onward, if none of them is an error
   pub served_from : (k : ℕ) (scripts : List V) (outcomes : List (SeatFacts × Result V E)) (texts : List V) → length outcomes ≡ length scripts →
       ((i : ℕ) (o : SeatFacts × Result V E) (s : V) → i < length scripts → EndsAs (k + i) (get_or scripts i s) (get_or outcomes i o)) →
       map Ok texts ≡ map (λ (o : SeatFacts × Result V E). o.1) outcomes →
@@ -145,8 +145,8 @@ next_in_part a b c first next rest whole is written w = record {
   is = (w.is.0 ++ rest, is ∙ (ap (λ l. first ++ (l ++ rest)) w.is.1 ∙ (ap (λ l. first ++ l) (append_assoc w.out w.is.0 rest) ∙ sym (append_assoc first w.out (w.is.0 ++ rest)))));
 }
 
--- the text of the replies from a position on is that of the replies there, followed by that of the
--- rest
+-- the text of the replies from a position onward is that of the reply there, followed by that of
+-- the rest
 next_at : {V : Type 0} (items : V → List ℕ) (n k : ℕ) (texts : List V) (t : V) → k < length texts → t ≡ get_or texts k t →
     replies_text n (drop k (map items texts)) ≡ (pass_line n ++ items t) ++ replies_text (n + 1) (drop (suc k) (map items texts))
 next_at items n k [] t below is = absurd (omega (arith, below))

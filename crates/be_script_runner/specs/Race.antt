@@ -51,7 +51,7 @@ pub record HasServed (store : Opened) (k : ℕ) (script : List ℕ) (p : SeatFac
   pub number : p.knows.number ≡ k
   pub own : IsPartOf (operations p.knows.mine) (write_ops script)
 
--- one pass for each script, numbered from k on
+-- one pass for each script, with passes numbered from k
 abbrev pub HaveServed : Opened → ℕ → List (List ℕ) → List SeatFacts → Type 0
 HaveServed store k [] [] = Unit {0}
 HaveServed store k [] (pass ∷ passes) = ⊥
@@ -81,7 +81,7 @@ pub record IsReplied (limits : StoreLimits) (journal : List Entry) (k : ℕ) (sc
   pub seen : StartsWith journal last.journal
   pub own : by_pass k journal ≡ by_pass k last.journal
 
--- these are the replies to each script; the scripts are numbered from k on
+-- these are the replies to each script, with scripts numbered from k
 abbrev pub HaveReplied : StoreLimits → List Entry → ℕ → List (List ℕ) → List (List ℕ) → Type 0
 HaveReplied limits journal k [] [] = Unit {0}
 HaveReplied limits journal k [] (text ∷ texts) = ⊥

@@ -16,7 +16,7 @@ use Rattle.be_volume.specs.declared.ops.Op.{Op}
 use Rattle.be_journal.specs.declared.entries.Entry.{Entry}
 use Rattle.be_journal.specs.Journal.{coded_entry}
 
--- a pinned version: how many writes it includes, and its volume
+-- a pinned version: the number of writes that it includes, and its volume
 pub record PinnedVolume : Type 0 where
   pub number : ℕ
   pub volume : State

@@ -24,7 +24,7 @@ use be_value::{Name, Refusal};
 use be_volume::{Done, Op};
 use std::alloc::Global;
 
-/// The largest number of operations in a batch.
+/// The maximum number of operations in a batch.
 const MAX_BATCH: usize = 64;
 
 fn begin(alloc: Global, client: &mut Client) -> Reply

@@ -74,7 +74,7 @@ pub fn strict_output_is_output()
 
 /// The calls of a race's passes follow one order, that of the moves in `IsRace`. So a query's
 /// answer is the scan of the volume after a prefix of the journal, the reply to an accepted write
-/// is what the volume gives at that write's place in the journal, and a pin sees all writes that
+/// is what the volume gives at that write's position in the journal, and a pin sees all writes that
 /// come before it.
 pub fn race_follows_one_order()
     ensures { (limits : Limits) (scripts : List (List ℕ)) (out : List ℕ)
@@ -93,9 +93,8 @@ pub fn served_is_output()
 {}
 
 /// The value and number of a page's last node determine the cursor that the page leaves. So if each
-/// page of one version begins after the position that the page before it printed, these pages are
-/// those of be_order's `pages_are_the_whole`: together they are the whole list, with each node
-/// once.
+/// page of a version begins after the position that the previous page printed, the pages are those
+/// of be_order's `pages_are_the_whole`: together they make up the whole list, with each node once.
 pub fn position_is_the_cursor()
     ensures { (s : State) (f : Formula) (by : List ℕ) (kind : Kind) (descending : Bool)
         (cursor : Option (List ℕ)) (most : ℕ) (p : Page) → IsSound s → index_kind s by ≡ Some kind

@@ -7,10 +7,10 @@
 //!
 //! Each thread returns a pass and replies, and makes a promise about them ([`Served`]). The pass
 //! belongs to the store and has the script's number. The pass's own writes are some of those that
-//! the script requests. The replies are ones that the script may get from what the pass has seen if
-//! others write too. So all passes have been returned by the time the store is closed. A pass's
-//! entries in the journal are writes of its script, and the replies to each script agree with that
-//! journal.
+//! the script requests. The replies are possible replies to the script, given what the pass has
+//! seen and that others write too. So all passes have been returned by the time the store is
+//! closed. A pass's entries in the journal are writes of its script, and the replies to each script
+//! agree with that journal.
 ghost use Rattle.std.specs.Prelude.{◌≡◌, ◌≤◌, ◌<◌, ℕ, ◌^◌, ◌++◌, ◌↔◌, true, false, length, vec_len};
 ghost use Rattle.std.specs.Prelude.{map, IfOk, IfErr, OnOk, OnErr, Ok, Err, get_or, nat_lt};
 ghost use Rattle.std.specs.Io.KnownBytes.{Appends};
@@ -242,7 +242,7 @@ fn put_replies<W: Write>(alloc: Global, writer: &mut W, replies: &[Vec<u8>]) -> 
     Ok(())
 }
 
-/// Writes three byte strings, one after another. After an error, a prefix of the whole was written.
+/// Writes three byte strings in order. After an error, a prefix of the whole was written.
 fn put_parts<W: Write>(
     writer: &mut W,
     first: &[u8],

@@ -31,10 +31,10 @@ use be_store::{Pass, Store};
 use std::alloc::Global;
 use std::io::Write;
 
-/// The largest number of bytes in a script.
+/// The maximum number of bytes in a script.
 pub(crate) const MAX_SCRIPT: usize = 1 << 20;
 
-/// The largest number of reads for a script. Each read returns at least one byte, the end, or an
+/// The maximum number of reads for a script. Each read returns at least one byte, the end, or an
 /// error.
 const MAX_READS: u64 = (1 << 20) + 1;
 

@@ -221,7 +221,7 @@ impl<'a> PassServer<'a> {
         PassServer::at_first(alloc, store, pass)
     }
 
-    /// Does what `new` does, and also records what the pass knew at first.
+    /// Like `new`, but also records what the pass knew at first.
     pub(crate) fn at_first(alloc: Global, store: &'a be_store::Store, pass: Pass) -> PassServer<'a>
         requires { IsPassOf store.now pass }
         ensures store { result.store ≡ store.now }

@@ -1,6 +1,6 @@
-//! Conversations with a shell, through public calls.
+//! Conversations with a shell, tested through public calls.
 //!
-//! The tests are in a separate crate, so that be_shell isn't proved a second time along with them.
+//! The tests are in a separate crate, so that checking them doesn't prove be_shell a second time.
 #![tactic(auto)]
 
 #[cfg(test)]

@@ -1,6 +1,6 @@
-//! A live query during random writes, through the store's public calls.
+//! A live query during random writes, tested through the store's public calls.
 //!
-//! The tests are in a separate crate, so that be_store isn't proved a second time along with them.
+//! The tests are in a separate crate, so that checking them doesn't prove be_store a second time.
 #![tactic(auto)]
 
 #[cfg(test)]

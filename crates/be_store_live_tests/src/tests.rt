@@ -1,4 +1,4 @@
-//! A live query during random writes, through the store's public calls.
+//! A live query during random writes, tested through the store's public calls.
 
 mod at_once;
 mod refreshing;

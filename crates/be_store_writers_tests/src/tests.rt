@@ -1,4 +1,4 @@
-//! Threads whose writes depend on what they have read, through the store's public calls.
+//! Threads whose writes depend on what they have read, tested through the store's public calls.
 
 mod writers;
 

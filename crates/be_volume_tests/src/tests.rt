@@ -1,5 +1,5 @@
-//! Worked examples, through public calls. Most are lines `REQUEST => REPLY` in the script language,
-//! with `;` between the operations of a list.
+//! Worked examples, tested through public calls. Most are lines `REQUEST => REPLY` in the script
+//! language, with `;` between the operations of a list.
 
 use be_query::parse;
 use be_script_language::{Reply, Request, read_line};

@@ -4,8 +4,8 @@
 //! `OPERATIONS -> OUTCOMES`, in the words of scripts, with `;` between operations and between
 //! outcomes.
 //!
-//! The reply has the journal's text, whether it is legal, and whether it has room, followed by the
-//! next node of its volume and the attributes of node 1 there.
+//! The reply gives the journal's text, says whether it is legal and whether it has room, and then
+//! gives the next node of its volume and the attributes of node 1 there.
 
 use super::lines::{first_number, replies};
 use be_journal::{Entry, Items, Journal};
@@ -108,8 +108,8 @@ fn long_list(alloc: Global) -> Result<Vec<Op>, Refusal> {
     list_of(alloc, format!(in alloc; "{set}{sets}")?.as_str())
 }
 
-/// A journal of `count` long lists; the pass of each has the same number as the list. A block of
-/// the journal has room for 15 of them.
+/// A journal of `count` long lists. Each list was written by the pass with the list's number. A
+/// block of the journal has room for 15 of them.
 fn long_lists(alloc: Global, count: u64) -> Result<Journal, Refusal> {
     let ops = long_list(alloc)?;
     let dones = vec![in alloc; Done::Unit; 64]?;
@@ -120,7 +120,8 @@ fn long_lists(alloc: Global, count: u64) -> Result<Journal, Refusal> {
     Ok(journal)
 }
 
-/// The number of entries that have 64 operations and whose pass has the same number as the entry.
+/// The number of entries that have 64 operations and were written by the pass with the entry's
+/// number.
 fn found_lists(journal: &Journal) -> u64 {
     let mut found: u64 = 0;
     for i in 0..journal.len() {

@@ -108,7 +108,7 @@ impl Answers for Crates {
     }
 }
 
-/// Fails unless each request has its reply.
+/// Fails unless each request gets the expected reply.
 pub(crate) fn replies(alloc: Global, lines: &str) -> Result<(), Fail> {
     check_lines(alloc, &mut Crates, lines)
 }

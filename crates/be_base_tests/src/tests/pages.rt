@@ -1,7 +1,7 @@
 //! Counts the pages of a room.
 //!
-//! After `OutOfMemory`, the room is created once more. So the tests also pass if any single request
-//! for memory is refused (`rt try --test --fail-alloc N`).
+//! After `OutOfMemory`, the room is created again. So the tests also pass if any single request for
+//! memory is refused (`rt try --test --fail-alloc N`).
 
 use super::counting_look::room_of;
 use be_pages::{Look, Room, VecRoom};

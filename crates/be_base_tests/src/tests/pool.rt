@@ -1,5 +1,5 @@
 //! A pool's pages, some of which are spared for the copy of another page. After a refused request
-//! for memory, the pool is created once more.
+//! for memory, the pool is created again.
 ghost use Rattle.std.specs.Prelude.{◌≤◌};
 
 use be_pages::{PagePool, Place};

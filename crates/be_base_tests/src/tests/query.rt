@@ -11,7 +11,8 @@ pub(crate) fn printed(alloc: Global, text: &str) -> Result<String, Refusal> {
     print(alloc, &parse(alloc, text)?)
 }
 
-/// The canonical text of the query that a text encodes, if it is its own canonical text.
+/// The canonical text of the query that a text encodes. Returns `NotCovered` if that text's own
+/// canonical text differs from it.
 pub(crate) fn printed_twice(alloc: Global, text: &str) -> Result<String, Refusal> {
     let once = printed(alloc, text)?;
     let twice = printed(alloc, once.as_str())?;
@@ -57,7 +58,7 @@ pub(crate) fn leaf_matches(alloc: Global, request: &str) -> Result<String, Refus
     }
 }
 
-/// Does what `printed_twice` does for a text in which `|` stands for a line feed.
+/// Like `printed_twice`, for a text in which `|` stands for a line feed.
 pub(crate) fn printed_with_feeds(alloc: Global, text: &str) -> Result<String, Refusal> {
     printed_twice(alloc, text.replace(alloc, "|", "\n")?.as_str())
 }

@@ -1,5 +1,5 @@
 //! Trees in a room of few pages: the number of pages that they take, and what is left when a room
-//! is full. Also, equal values in one index.
+//! is full. There is also a test of equal values in one index.
 ghost use Rattle.std.specs.Prelude.{◌≡◌, ◌<◌, ◌≤◌, IfOk, OnErr};
 ghost use Rattle.be_pages.specs.declared.room.PageState.TheVariants.{Free};
 ghost use Rattle.be_pages.specs.Pages.{IsUnchanged};

@@ -147,7 +147,8 @@ impl Calls {
         }
     }
 
-    /// Whether the calls were exactly one before and then one after each of this many lines.
+    /// Whether there was exactly one call before and one call after each of this many lines, in
+    /// order.
     fn are_of(&self, lines: u64) -> bool {
         self.strays.load(SeqCst) == 0
             && self.begun.load(SeqCst) == lines
@@ -298,7 +299,7 @@ fn lines_at_the_gate(rt: HostRuntime) -> Result<(), Fail> {
     Ok(())
 }
 
-/// Lines that write, read, pin and fail, and a batch.
+/// Lines that write, read, pin and fail, with a batch among them.
 const MIXED: &str =
     "new\nmkindex k LONG\nset 1 k LONG 5\nset 2 k LONG 6\nquery k>4\nbegin\nnew\nset 3 k LONG \
      7\nnew\ncommit\npin\ndrop 1\nquery k>4\n\
@@ -498,8 +499,8 @@ fn pages_of_a_race(rt: HostRuntime) -> Result<(), Fail> {
     check_fulls(&rt, rt.alloc(), script.as_str(), 64, false)
 }
 
-/// Whether a race writes as many bytes as the writer accepts, and then ends with `Write`, or with
-/// success if the writer accepts all of them. It may return false if memory ran out, which isn't
+/// Whether a race writes all the bytes that the writer accepts, and then ends with `Write`, or with
+/// success if the writer accepts the whole text. It may return false if memory ran out, which isn't
 /// reported as `Write`.
 fn fills<R: Threads + Wait>(rt: &R, alloc: Global, room: usize) -> bool {
     let Ok(scripts) = scripts_of(alloc, &["new\n", ""]) else {
