@@ -100,7 +100,7 @@ no_text (Only d ∷ ps) e = ⊎_elim
     (λ h. absurd (nil_first _ _ (sym e ∙ plain_text d ps h)))
     (cases_Bool (is_special d))
 
--- These statements for the text's bytes.
+-- The same statements for the text's bytes.
 
 pub plain_begins : (text rest : List ℕ) (c : ℕ) → text ≡ encode_utf8 c ++ rest → begins_wildcard c ≡ false → (c ≡ 92 → ⊥)
     → (ps : List Part) → text ≡ encode_utf8_all (canonical ps) → BeginsWith ps c rest

@@ -146,7 +146,7 @@ last_serves r cs = both_ways _ _ there back
         let whole : drop (length cs - length r) cs ≡ r ++ [] = sym e ∙ sym (append-nil r) in
         tail_at (matches (map Only r ++ [])) cs (length cs - length r) (ap (matches (map Only r ++ [])) whole ∙ run_taken r [] [])
 
--- The loop over the runs that follow a star: each way in which it continues or ends.
+-- The loop over the runs after stars, with each way in which it continues or ends.
 
 pub run_ends : (left after : List (List ℕ)) (r last rest : List ℕ) (b whole : Bool) → left ≡ r ∷ after → after ≡ [] → last ≡ r
     → b ≡ ends_with nat_eq rest last → matches (after_stars left) rest ≡ whole → b ≡ whole

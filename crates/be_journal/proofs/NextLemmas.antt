@@ -20,7 +20,7 @@ none_at = refl
 pub are_none : AreEntries 0 []
 are_none = record { whole = ap (flat_map bytes_of) (sym none_at); counted = ap length none_at; stored = subst (All IsStored) (sym none_at) (All-nil IsStored) }
 
--- the entry that is read of several, and the rest
+-- the entry that is read, and the entries that are left
 record Next (left : ℕ) (bytes : List ℕ) : Type 0 where
   e : Entry
   rest : List ℕ

@@ -9,7 +9,7 @@ use Rattle.be_volume.specs.declared.ops.Op.{Op}
 use Rattle.be_journal_text.specs.Dump.{cut, cut_lines, cut_within, write_lines}
 use Rattle.be_journal_text.specs.History.{CanBeOp}
 
--- if the maximum allows enough lists, it doesn't matter
+-- the maximum number of lists doesn't matter if it is large enough
 same_cut : (j k : ℕ) (ops : List Op) → length ops ≤ j → length ops ≤ k → cut_within j ops ≡ cut_within k ops
 same_cut zero zero ops a b = refl
 same_cut zero (suc k) [] a b = refl

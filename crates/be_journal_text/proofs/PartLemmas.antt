@@ -274,7 +274,7 @@ pub hex_part : (end : ℕ) (digits : List ℕ) → nat_eq 34 end ≡ false → l
 hex_part end digits other h =
     subst (λ (l : List ℕ). IsLinePart end (34 ∷ (l ++ 34 ∷ []))) (words_escaped digits h) (one_piece end (in_quotes digits) (other_byte 34 end other))
 
--- A part that an LF ends is within a line.
+-- A part that ends at an LF contains no LF itself.
 
 piece_line : (piece : Piece) → IsApart 10 piece → list_all in_line (piece_text piece) ≡ true
 piece_line (byte c) h = rw (differ c 10 h.0) refl

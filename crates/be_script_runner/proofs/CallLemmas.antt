@@ -27,7 +27,7 @@ use Rattle.be_script_runner.proofs.EndLemmas.{nothing_asked}
 use Rattle.be_script_runner.proofs.ReplyLemmas.{serves_at_once}
 use Rattle.be_script_runner.proofs.RunLemmas.{none_written, written_both}
 
--- one more call, and no call
+-- one more call; and no call at all
 pub leads_more : (a b : Knowledge) (s : Step volume) (c : Knowledge) → LeadTo a b → Call b s c → LeadTo a c
 leads_more a b s c h k = (h.0 ++ s ∷ [], calls_more a h.0 b s c h.1 k)
 
@@ -37,7 +37,7 @@ leads_both a b c h k = (h.0 ++ k.0, calls_both a h.0 b k.0 c h.1 k.1)
 pub leads_nowhere : (a : Knowledge) → LeadTo a a
 leads_nowhere a = ([], refl)
 
--- a read is a call, whatever its answer is
+-- a read is a call, whatever it answers
 pub leads_read : (a b c : Knowledge) → LeadTo a b → HasRead b c → LeadTo a c
 leads_read a b c h k = leads_more a b (Learn (entries c.seen)) c h (read_learns b c k)
 

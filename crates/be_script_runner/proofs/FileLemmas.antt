@@ -2,8 +2,8 @@
 use Rattle.std.proofs.Common.{◌≡◌, Bool, true, false, ◌||◌, List, [], ◌∷◌, ◌++◌, refl}
 use Rattle.std.specs.List.{list_any}
 
--- a predicate that holds for no element of a list, nor for another element, holds for none of them
--- together
+-- if a predicate holds for no element of a list, nor for one more element, it holds for no element
+-- of the longer list
 pub none_pushed : {X : Type 0} (P : X → Bool) (xs : List X) (x : X) → list_any P xs ≡ false → P x ≡ false → list_any P (xs ++ x ∷ []) ≡ false
 none_pushed P [] x h g = by (P x) g
   where

@@ -29,7 +29,7 @@ nobody_joins old new one first h = by h.others h.theirs h.store
     by [] t e = e ∙ (λ i. record old { journal = append-nil old.journal i })
     by (x ∷ es) t e = absurd (let other = All-head (λ (e : Entry). IsOther old e.by) x es t in other.1 (omega (arith, other.0, one, first)))
 
--- entries made by others aren't this pass's
+-- none of the entries that others made is this pass's
 pub none_own : (k : ℕ) (es : List Entry) → All (λ (e : Entry). e.by ≢ k) es → by_pass k es ≡ []
 none_own k [] t = refl
 none_own k (e ∷ es) t =

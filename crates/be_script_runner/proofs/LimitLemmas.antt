@@ -1,4 +1,4 @@
--- The errors that limits out of range cause.
+-- The errors caused by limits that are out of range.
 use Rattle.std.proofs.Common.{◌≡◌, ℕ, List, inl, inr, refl, ap, ◌∙◌, subst, arith}
 use Rattle.std.specs.Prelude.{◌↔◌, Result, Ok, Err, IfErr, OnErr}
 use Rattle.std.specs.declared.option.Option.{Option}
@@ -25,7 +25,7 @@ not_by {A} r P e never all is = never (subst (λ (x : Result A RunFault). IfErr 
 pub no_fault : {A : Type 0} (limits : StoreLimits) (r : Result A RunFault) → IsWithin limits → (r ≡ Err Limits → ⊥) → (r ≡ Err Limits) ↔ AreBad limits
 no_fault limits r within never = (λ is. absurd (never is), λ bad. absurd (bad within))
 
--- limits that are within their ranges still are with a single pass
+-- limits within their ranges are still within them if the number of passes is one
 pub for_one : (limits : StoreLimits) → IsWithin limits → IsWithin (record limits { passes = 1 })
 for_one limits w = record {
   some_pages = w.some_pages;

@@ -71,7 +71,7 @@ abbrev store_in : Store → Result (Store × List Done) Refusal → Store
 store_in d (Ok x) = x.0
 store_in d (Err e) = d
 
--- the operations of a pass's write become the pass's
+-- the operations of a pass's write are added to the pass's operations
 own_entered : (s : Store) (ops : List Op) (volume : State) (dones : List Done) → own_ops (entered s ops volume dones) ≡ own_ops s ++ ops
 own_entered s ops volume dones =
     let e : Entry = record { by = s.pass; ops = ops; dones = dones } in
@@ -223,7 +223,7 @@ replies_add s begin reply after h = may_reply_adds s begin _ reply after [] (beg
 replies_add s commit reply after h = may_reply_adds s commit _ reply after [] (committing_adds s s.batch refl) h
 replies_add s abort reply after h = may_reply_adds s abort _ reply after [] (aborting_adds s s.batch) h
 
--- the writes of others aren't the pass's
+-- the writes of other passes aren't among this pass's
 joined_own : (a b : Store) → Joins a b → (b.pass ≡ a.pass) × (own_ops b ≡ own_ops a)
 joined_own a b h =
     let theirs : by_pass a.pass h.others ≡ [] = none_own a.pass h.others (λ k d lt. (h.theirs k d lt).1) in (

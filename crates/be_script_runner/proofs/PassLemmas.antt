@@ -33,7 +33,7 @@ use Rattle.be_store.proofs.Applied.{entries_append, nothing_more}
 use Rattle.be_script_runner.specs.Served.{known, pin_at}
 use Rattle.be_script_runner.specs.Store.{PinnedVolume, Store, Joins, Meanwhile, IsBusy, IsWant, MayWrite, pinned, entered, written, written_by}
 
--- the pin of a pass, from the entries that it has seen and its phase
+-- a pass's pin, given the entries that it has seen and its phase
 abbrev pin_of : List Entry → Phase → Option PinnedVolume
 pin_of es phase = option_map {T = ℕ} {U = PinnedVolume} (λ n. record { number = n; volume = replay (take n es) }) (pinned_number phase)
 
@@ -123,7 +123,7 @@ module _ (a c : Knowledge) (before : IsPass a) (beyond : IsPass c) (limits : c.l
   in_time : InTime (length (entries a.seen)) a.phase
   in_time = subst (λ m. InTime m a.phase) (sym (seen_count a.seen)) before.pin
 
-  -- none of what it newly sees is its own
+  -- none of the entries that it newly sees is its own
   none_new : (more : List Commit) → c.seen ≡ a.seen ++ more → c.mine ≡ a.mine → c.number ≡ a.number → by_pass a.number (entries more) ≡ []
   none_new more seen mine number = nothing_more a.mine (by_pass a.number (entries more))
       (ap (λ l. l ++ by_pass a.number (entries more)) (sym before.mine)
@@ -131,7 +131,7 @@ module _ (a c : Knowledge) (before : IsPass a) (beyond : IsPass c) (limits : c.l
       ∙ (ap (by_pass a.number) (sym (ap entries seen ∙ entries_append a.seen more))
       ∙ (ap (λ k. by_pass k (entries c.seen)) (sym number) ∙ (beyond.mine ∙ mine)))))
 
-  -- others have written what it now sees, except for its pin
+  -- only others have written what it newly sees, if its pin is unchanged
   joins_seen : (more : List Commit) → c.seen ≡ a.seen ++ more → c.mine ≡ a.mine → c.number ≡ a.number → Joins (known a) (seen_by a (entries c.seen))
   joins_seen more seen mine number =
       let log : entries c.seen ≡ entries a.seen ++ entries more = ap entries seen ∙ entries_append a.seen more in

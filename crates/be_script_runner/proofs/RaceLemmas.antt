@@ -30,7 +30,8 @@ use Rattle.be_script_runner.proofs.CallLemmas.{served_output}
 use Rattle.be_script_runner.proofs.RunLemmas.{none_written, written_both}
 use Rattle.be_script_runner.specs.Race.{HaveServed, AreRepliesOf, IsOutcome, IsRace, IsRaceInPart, IsReplied, AreFirstPasses, AreFirstTexts, pass_line, replies_text}
 
--- a predicate that holds for each element, and for one more at its position, holds for all of them
+-- if a predicate holds for each element, and for one more at its position, it holds for each
+-- element of the longer list
 pub each_pushed : {X : Type 0} (P : ℕ → X → Type 0) (xs : List X) (x : X) → ((k : ℕ) (d : X) → k < length xs → P k (get_or xs k d)) → P (length xs) x →
     (k : ℕ) (d : X) → k < length (xs ++ x ∷ []) → P k (get_or (xs ++ x ∷ []) k d)
 each_pushed P [] x each last zero d h = last

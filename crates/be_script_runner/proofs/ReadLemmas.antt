@@ -28,11 +28,11 @@ not_read P before h = subst P (omega arith) h
 pub no_reads : (P : ℕ → Type 0) → HasFewReads P P
 no_reads P = λ before h. (0, omega arith, not_read P before h)
 
--- one read more
+-- one more read
 read_more : (P : ℕ → Type 0) (before times : ℕ) → P ((before + times) + 1) → P (before + (times + 1))
 read_more P before times h = subst P (omega arith) h
 
--- one read more, after reads whose bytes a script may have
+-- one more read, after reads that returned no more bytes than a script may have
 pub few_reads : (old mid new : ℕ → Type 0) (times bytes : ℕ) → times ≤ bytes → bytes ≤ 2 ^ 20 → ((before : ℕ) → old before → mid (before + times)) → ((n : ℕ) → mid n → new (n + 1)) → HasFewReads old new
 few_reads old mid new times bytes each few so_far once = λ before h. (times + 1, omega (arith, each, few), read_more new before times (once (before + times) (so_far before h)))
 

@@ -112,7 +112,7 @@ some_output s (line ∷ lines) =
     let text = some_text s line in
     (next.0, text ++ next.1, (after, text, next.1, some_answer s line, next.2, refl))
 
--- several lines, followed by those after them
+-- several lines, followed by further lines
 outputs_both : (s mid last : Session) (lines beyond : List (List ℕ)) (out more : List ℕ) → Outputs s lines mid out → Outputs mid beyond last more → Outputs s (lines ++ beyond) last (out ++ more)
 outputs_both s mid last [] beyond out more h g =
     subst (λ (text : List ℕ). Outputs s beyond last (text ++ more)) (sym h.1) (subst (λ (z : Session). Outputs z beyond last more) h.0 g)

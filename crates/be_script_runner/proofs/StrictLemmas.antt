@@ -30,7 +30,7 @@ accepts_outputs s last [] out h = h
 accepts_outputs s last (line ∷ lines) out h =
     (h.0, h.1, h.2, judged_answered s h.0 line None h.1 h.3, accepts_outputs h.0 last lines h.2 h.4, h.5)
 
--- several lines, followed by those after them
+-- several lines, followed by further lines
 pub accepts_both : (s mid last : Session) (lines beyond : List (List ℕ)) (out more : List ℕ) → Accepts s lines mid out → Accepts mid beyond last more → Accepts s (lines ++ beyond) last (out ++ more)
 accepts_both s mid last [] beyond out more h g =
     subst (λ (text : List ℕ). Accepts s beyond last (text ++ more)) (sym h.1) (subst (λ (z : Session). Accepts z beyond last more) h.0 g)
