@@ -9,7 +9,8 @@ use crate::blocks::Block;
 use std::alloc::{AllocError, Global};
 use std::marker::Model;
 
-/// A reader of several blocks' entries. A contract sees the entries that haven't been read yet.
+/// A reader of the entries of several blocks. A contract sees the entries that haven't been read
+/// yet.
 #[derive(Drop)]
 pub(crate) struct Reader<'a> {
     alloc: Global,

@@ -103,7 +103,7 @@ module _ (end : ℕ) (g : is_word_byte end ≡ false) (other : nat_eq 34 end ≡
   done_part (Node node) h = both_parts end (codes "node ") (decimal node) (words_part end (codes "node ") g refl) (decimal_part node h)
   done_part Nothing h = words_part end (codes "ok") g refl
 
-  -- Texts joined by `; ` are a part if another byte ends it.
+  -- Strings joined by `; ` are a part if another byte ends it.
   pub joined_part : {X : Type 0} (P : X → Type 0) (text_of : X → List ℕ) → ((x : X) → P x → IsLinePart end (text_of x)) → IsLinePart end (codes "; ") →
       (xs : List X) → All P xs →
       IsLinePart end (flat_map (λ y. codes "; " ++ text_of y) xs)
@@ -164,7 +164,7 @@ before_none end xs h = ap (λ n. take n xs) (part_whole end xs h) ∙ take_lengt
 pub after_none : (end : ℕ) (xs : List ℕ) → IsLinePart end xs → after end xs ≡ []
 after_none end xs h = ap (λ n. drop (n + 1) xs) (part_whole end xs h) ∙ drop_past xs
 
--- the first of several texts joined by `; `
+-- the first of several strings joined by `; `
 pub first_joined : {X : Type 0} (text_of : X → List ℕ) (x : X) (xs : List X) → IsLinePart 59 (text_of x) →
     before 59 (join_by text_of (codes "; ") (x ∷ xs)) ≡ text_of x
 first_joined text_of x [] h = ap (before 59) (append-nil (text_of x)) ∙ before_none 59 (text_of x) h
@@ -181,7 +181,7 @@ rest_joined text_of x (y ∷ ys) h =
     ap (λ l. drop 1 (after 59 (text_of x ++ l))) (flat_map-cons (λ z. codes "; " ++ text_of z) y ys)
     ∙ ap (drop 1) (after_end 59 (text_of x) (32 ∷ (text_of y ++ more)) h)
 
--- texts joined by `; ` are a part if another byte ends it
+-- strings joined by `; ` are a part if another byte ends it
 pub list_part : {X : Type 0} (end : ℕ) (P : X → Type 0) (text_of : X → List ℕ) → is_word_byte end ≡ false → nat_eq 34 end ≡ false →
     ((x : X) → P x → IsLinePart end (text_of x)) → IsLinePart end (codes "; ") → (xs : List X) → All P xs →
     IsLinePart end (join_by text_of (codes "; ") xs)

@@ -1,5 +1,5 @@
-//! Journals as text, in the form that docs/SCRIPTS.md shows: which texts are read and which aren't,
-//! what a check finds, and the script of a journal.
+//! Journals as text, in the form that docs/SCRIPTS.md shows: which of them can be read, what a
+//! check finds, and the script of a journal.
 //!
 //! Every test passes even if any single request for memory is refused, because a call that runs out
 //! of memory is repeated.
@@ -125,7 +125,7 @@ fn texts_are_read(rt: HostRuntime) -> Result<(), Fail> {
     Ok(())
 }
 
-/// Texts that aren't any journal's text, though each is close to one.
+/// Strings that aren't the text of any journal, though each is close to one.
 #[test]
 fn other_texts_are_not(rt: HostRuntime) -> Result<(), Fail> {
     let alloc = rt.alloc();

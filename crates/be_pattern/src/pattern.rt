@@ -167,7 +167,7 @@ fn push_run(mut tokens: Vec<Token>, is_there: bool) -> Result<Vec<Token>, AllocE
     Ok(tokens)
 }
 
-/// The tokens followed by the characters of a text.
+/// The tokens, followed by the characters of a text.
 fn push_literals(mut tokens: Vec<Token>, text: &str) -> Result<Vec<Token>, AllocError>
     ensures { IfOk result (λ v. parts_of v.items ≡ parts_of tokens.items
         ++ map Only (chars text.now)) }

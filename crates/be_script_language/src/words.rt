@@ -1,11 +1,11 @@
 //! The words of a line.
 //!
 //! Here a line is a list of characters. Its words are separated by blanks (spaces and tabs). A word
-//! that begins with a quote ends at the next quote that isn't preceded by a backslash. A blank or
-//! the end of the line must follow. Inside the quotes, a backslash may come only before `"`, `\`,
-//! `n` (LF) and `r` (CR). Any other word stands for itself. A word is returned as the text that it
-//! stands for, so the code that reads numbers, names and values doesn't see how the word was
-//! written.
+//! that begins with a quote ends at the next quote that isn't preceded by a backslash. The closing
+//! quote must be followed by a blank or the end of the line. Inside the quotes, a backslash may
+//! come only before `"`, `\`, `n` (LF) and `r` (CR). Any other word stands for itself. A word is
+//! returned as the text that it stands for, so the code that reads numbers, names and values
+//! doesn't see how the word was written.
 ghost use Rattle.std.specs.Option.{option_map};
 ghost use Rattle.std.specs.Prelude.{◌≡◌, IfOk, position, take, drop};
 ghost use Rattle.std.specs.String.{string_bytes};

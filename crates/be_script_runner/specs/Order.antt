@@ -18,7 +18,7 @@ use Rattle.be_script_runner.specs.Lines.{IsServedBy, LeadTo}
 use Rattle.be_script_runner.specs.Served.{known}
 use Rattle.be_script_runner.specs.Store.{viewed}
 
--- The scripts got these texts from the passes with numbers from k upward, and this is what each
+-- The scripts got these replies from the passes with numbers from k upward, and this is what each
 -- pass knows at the end. At first, each pass had seen and written nothing.
 abbrev pub AreServedBy : StoreLimits → ℕ → List (List ℕ) → List Knowledge → List (List ℕ) → Type 0
 AreServedBy limits k [] [] [] = Unit {0}

@@ -2,8 +2,8 @@
 //!
 //! The whole script is read before its first line runs, so nothing is written for a script that
 //! can't be read or is too long. Then, for each line in turn, the line runs, the text of its reply
-//! is built, and the text is written. After an error, a prefix of an output was written, which ends
-//! after a whole reply unless a write failed.
+//! is built, and the text is written. After an error, a prefix of an output was written. Unless a
+//! write failed, it ends after a whole reply.
 ghost use Rattle.std.specs.Prelude.{◌≡◌, ◌<◌, ◌≤◌, ◌^◌, ◌↔◌, ◌∷◌, [], length, vec_len, position};
 ghost use Rattle.std.specs.Prelude.{IfOk, OnOk, IfErr, IfSome, OnErr, IfNone, Err};
 ghost use Rattle.std.specs.Io.KnownBytes.{Appends};

@@ -28,7 +28,7 @@ use be_script_language::{Reply, read_line, reply_text};
 use std::alloc::Global;
 use std::io::Write;
 
-/// A line of a script that was refused.
+/// A refused line of a script.
 #[derive(Debug, Drop)]
 pub struct RefusedLine {
     /// The line's number, counting from 1.

@@ -20,8 +20,8 @@ fn live_query_beside_writes(rt: HostRuntime) -> Result<(), Fail> {
     Ok(())
 }
 
-/// While another thread writes, refreshes that read only the writes since the last refresh return
-/// what running the whole query at their pins would give.
+/// While another thread writes, a refresh that reads only the writes since the last refresh gives
+/// the same result as running the whole query at its pin.
 #[test]
 fn live_query_while_another_thread_writes(rt: HostRuntime) -> Result<(), Fail> {
     let follows = again!(follows_another_thread(&rt));

@@ -77,8 +77,7 @@ fn count_by(journal: &Journal, pass: u64) -> u64 {
     count
 }
 
-/// Whether the journal is legal, and exactly a hundred new nodes in it were created by each of the
-/// passes 0 and 1.
+/// Whether the journal is legal, and passes 0 and 1 each created exactly a hundred nodes in it.
 pub fn has_hundred_by_each(journal: &Journal) -> Result<bool, Refusal> {
     let is_whole = journal.len() == 200
         && count_by(journal, 0) == 100

@@ -63,7 +63,7 @@ impl Write for Narrow<'_> {
     }
 }
 
-/// Whether this may have been written: one of the two texts, or a prefix of one of them if memory
+/// Whether this may have been written: one of the two strings, or a prefix of one of them if memory
 /// ran out.
 pub fn may_write(written: &str, well: bool, by_memory: bool, texts: [&str; 2]) -> bool {
     let [one, other] = texts;

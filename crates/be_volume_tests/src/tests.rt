@@ -113,7 +113,7 @@ fn runs(alloc: Global, volume: Volume, lines: &str) -> Result<Volume, Fail> {
     Ok(plain.volume)
 }
 
-/// Runs requests on an empty volume, as `runs` does.
+/// Like `runs`, beginning with an empty volume.
 fn after(alloc: Global, lines: &str) -> Result<Volume, Fail> {
     runs(alloc, Volume::new(alloc), lines)
 }

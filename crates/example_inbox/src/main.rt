@@ -132,7 +132,7 @@ fn count_letters<R: AllocGlobal + Threads + Sync>(rt: &R) -> Result<(usize, usiz
     Ok((before?, since?))
 }
 
-/// Prints both numbers of letters, or prints the store's error to standard error.
+/// Prints both numbers, or prints the store's error to standard error.
 fn main(rt: HostRuntime) -> io::Result<ExitCode> {
     match count_letters(&rt) {
         Ok((before, since)) => {

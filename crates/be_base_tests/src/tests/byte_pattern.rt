@@ -65,7 +65,7 @@ bytes *😀* 😁 => no";
     replies(rt.alloc(), lines)
 }
 
-/// Characters with a backslash, then `?` and sets.
+/// Characters with a backslash, and patterns with `?` and sets.
 #[test]
 fn matches_marked_characters(rt: HostRuntime) -> Result<(), Fail> {
     let lines = "bytes \\** *a => yes

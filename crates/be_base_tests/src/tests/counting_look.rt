@@ -35,7 +35,7 @@ fn filled<R: Room>(room: &mut R, count: u64) -> Result<u64, Refusal>
     Ok(root)
 }
 
-/// Whether each number below `count` is found with its payload, and the next one isn't.
+/// Whether each number below `count` is found with its payload, and `count` itself isn't found.
 pub(crate) fn finds<L: Look>(look: &mut L, root: u64, count: u64) -> bool
     requires { IsTree (L.page_state look.old) (L.words look.old) root }
     ensures { IsUnchanged L.kept L.page_state L.words look.old look.new }

@@ -106,7 +106,7 @@ pattern [a-] => [a\\-]";
     replies(rt.alloc(), lines)
 }
 
-/// Prefixes, patterns that are determined by their prefix, and literal texts with `*` before or
+/// Prefixes, patterns that are determined by their prefix, and literal strings with `*` before or
 /// after them.
 #[test]
 fn prefixes(rt: HostRuntime) -> Result<(), Fail> {

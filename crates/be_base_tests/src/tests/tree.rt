@@ -98,9 +98,9 @@ pub(crate) fn free_without(alloc: Global, line: &str) -> Result<String, Refusal>
     Ok(format!(in alloc; "{accepted} taken, root {root}, {free} free")?)
 }
 
-/// Twelve pairs fit into one page. The thirteenth pair makes it two leaves and an inner page.
-/// Ascending keys fill their pages: 600 pairs take 50 leaves with 12 pairs each, five pages above
-/// them, and the root.
+/// Twelve pairs fit into one page. Adding the thirteenth splits it into two leaves below an inner
+/// page. Ascending keys fill their pages: 600 pairs take 50 leaves with 12 pairs each, five pages
+/// above them, and the root.
 #[test]
 fn tree_pages(rt: HostRuntime) -> Result<(), Fail> {
     let lines = "free 16 1 => 15

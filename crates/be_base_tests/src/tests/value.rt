@@ -86,8 +86,8 @@ pub(crate) fn encoded_number(alloc: Global, text: &str) -> Result<String, Refusa
     }
 }
 
-/// Texts that encode a number, up to the limits of 64 bits and of 20 digits, and texts that encode
-/// no number.
+/// Strings that encode a number, up to the limits of 64 bits and of 20 digits, and strings that
+/// encode no number.
 #[test]
 fn texts_encode_numbers(rt: HostRuntime) -> Result<(), Fail> {
     let lines = "number 0 => 0
