@@ -14,7 +14,7 @@ use Rattle.be_volume.specs.declared.ops.Op.{Op}
 use Rattle.be_volume.specs.declared.ops.Op.TheVariants.{New, Drop, Set, Unset, MkIndex, RmIndex}
 
 -- A number below 253 is one byte. Any other number is the byte 253, 254 or 255, followed by two,
--- four or eight bytes in big-endian order, using the shortest form that can hold it.
+-- four or eight bytes in big-endian order, whichever is the shortest form that can hold it.
 unfoldable pub number_bytes : ℕ → List ℕ
 number_bytes n =
     if nat_lt n 253 then n ∷ []

@@ -38,7 +38,7 @@ pub(crate) fn is_plain(tokens: &[Token]) -> bool
     true
 }
 
-/// Whether the token is literal, or is a `*` at the end.
+/// Whether the token, which must not be literal, is a `*` at the end.
 fn is_last_run(token: &Token, after: &[Token]) -> bool
     requires { is_literal (part_of token.now) ≡ false }
     ensures { result ≡ is_prefix (part_of token.now ∷ parts_of after.now) }
