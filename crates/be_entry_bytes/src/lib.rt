@@ -1,8 +1,8 @@
 //! Writes a journal's entry as bytes, and reads it back.
 //!
-//! An entry takes few bytes. A small number takes one byte, a name or string takes its own bytes
-//! and a number that gives their count, and an outcome takes bytes only if it is a node. `set 1
-//! "size" LONG 5`, written by pass 0, takes eleven bytes.
+//! The encoding is compact. A small number takes one byte, a name or string takes its own bytes and
+//! a number that gives their count, and an outcome takes bytes only if it is a node. `set 1 "size"
+//! LONG 5`, written by pass 0, takes eleven bytes.
 //!
 //! # What is proved The bytes that are appended are `entry_bytes`, which depends only on the entry
 //! (`specs/Encoding.antt`). An entry that was written is read back unchanged, whatever follows it

@@ -388,8 +388,8 @@ fn after_steps(count: u64, bytes: &[u8]) -> Option<&[u8]>
     Some(rest)
 }
 
-/// The bytes after the entry at their start. Returns `None` if there is no entry. It allocates
-/// nothing, and its cost grows with the entry's length.
+/// The bytes after the entry that they begin with. Returns `None` if there is no entry. It
+/// allocates nothing, and its cost grows with the entry's length.
 #[tactic(auto, unfolding(crate::specs::Decoding::entry_at))]
 pub fn skip_entry(bytes: &[u8]) -> Option<&[u8]>
     ensures { option_map (λ x. x.now) result ≡ option_map (λ x. x.3) (spec.entry_at bytes.now) }

@@ -19,8 +19,8 @@ pub fn replay_sound()
         < 2 ^ 64 → IsSound (replay entries) }
 {}
 
-/// A law: a legal journal remains legal when an entry is added that has the outcomes that the
-/// volume gives after the journal.
+/// A law: a legal journal followed by another entry is legal if that entry has the outcomes that
+/// the volume gives after the journal.
 pub fn legal_push()
     ensures { (entries : List AnyEntry) (entry : AnyEntry) → IsLegal entries
         → Agrees (replay entries) entry → IsLegal (entries ++ entry ∷ []) }

@@ -29,8 +29,8 @@ begin\nset 1 \"é\" MIMS \"text/plain\"\nset 1 \"r\" RAWT \"00ff\"\nnew\ncommit\
 mkindex \"l\" LONG\n\
 begin\nunset 1 \"l\"\ndrop 2\nrmindex \"l\"\ncommit\n";
 
-/// The script that rebuilds their final state, with attributes in order of their names' bytes, and
-/// no index.
+/// The script that rebuilds their final state, with attributes ordered by the bytes of their names,
+/// and no index.
 const EACH_STATE: &str = "\
 begin\n\
 new\n\
@@ -111,7 +111,7 @@ fn printed(alloc: Global, entries: &[Entry]) -> Result<String, AllocError> {
     }
 }
 
-/// A journal that is read is printed again unchanged.
+/// Printing a journal that was read gives the same text.
 #[test]
 fn texts_are_read(rt: HostRuntime) -> Result<(), Fail> {
     let alloc = rt.alloc();

@@ -29,8 +29,8 @@ pub struct Paging {
 
 impl Paging {
     /// The key after which the page begins in an index of this kind, or `None` for the first page.
-    /// For any other page, the error is `NoSuchIndex` if there is no index, or if the value is of
-    /// another kind.
+    /// For any other page, the error is `NoSuchIndex` if there is no index, or if the value is of a
+    /// different kind.
     pub fn cursor(&self, kind: Option<Kind>) -> Result<Option<ArrayVec<u8, 264>>, Refusal>
         ensures begins { IfOk result (λ _. spec.may_begin kind self.now.after ≡ true) }
         ensures key { IfOk result (λ cursor. option_map (λ key. key.items) cursor

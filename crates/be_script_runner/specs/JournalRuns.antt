@@ -36,7 +36,7 @@ abbrev pub IsReportedInPart : StoreLimits → List ℕ → List ℕ → Type 0
 IsReportedInPart limits script front = IsFrontOfOutput (start limits.commits) script front
     ⊎ ((rest : List ℕ) × IsReportedRun limits script (front ++ rest))
 
--- What an error leaves. If the limits or the script are invalid, nothing was written. If a write
+-- What an error leaves. If a limit or the script is invalid, nothing was written. If a write
 -- failed, a prefix of the whole text was written. If memory ran out, whole replies to the first
 -- lines were written, and nothing of the journal.
 abbrev pub JournalRunLeaves : StoreLimits → RunFault → Option (List ℕ) → Option (List ℕ)

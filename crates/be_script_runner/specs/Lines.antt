@@ -14,7 +14,7 @@ use Rattle.be_script_runner.specs.Served.{known}
 abbrev pub LeadTo : Knowledge → Knowledge → Type 0
 LeadTo a c = (steps : List (Step volume)) × Calls a steps c
 
--- calls led from the first pass to this one, which belongs to this store
+-- the pass belongs to the store, and calls led from what it knew at first to what it knows
 abbrev pub IsLedFrom : SeatFacts → Opened → SeatFacts → Type 0
 IsLedFrom first store pass = IsPassOf store pass × LeadTo first.knows pass.knows
 

@@ -35,7 +35,7 @@ page_after volume asked cursor f = result_map_both (found_at volume asked.by) (�
     (page volume f asked.by asked.descending cursor asked.most)
 
 -- The page that a line requests. The error is NoSuchIndex if there is no index with that name, or
--- if the value after which the page begins is of another kind.
+-- if the value after which the page begins isn't of the index's kind.
 abbrev pub page_read : State → Paging → Formula → Result PageFound Refusal
 page_read volume asked f = if may_begin (index_kind volume asked.by) asked.after
     then page_after volume asked (option_map key_at asked.after) f else Err NoSuchIndex

@@ -116,8 +116,8 @@ AreFirstTexts replies out = (k : ℕ) × (out ≡ replies_text 0 (take k replies
 -- What a race writes: the replies to its scripts, and a legal journal of the store that gave them.
 -- Each entry was written by one of the scripts. A script's operations are some of those that its
 -- lines request, in their order. After each entry, the volume fits into the number of pages that
--- the limits allow. For each script, there is what its pass knew after each line, and the calls
--- that led there. The calls of all passes are in one order.
+-- the limits allow. For each script, the record contains what its pass knew after each line, and
+-- the calls that led there. The calls of all passes are in one order.
 pub record IsRace (limits : StoreLimits) (scripts : List (List ℕ)) (out : List ℕ) : Type 0 where
   pub replies : List (List ℕ)
   pub journal : List Entry
@@ -142,9 +142,9 @@ abbrev pub AreFirstPasses : StoreLimits → List (List ℕ) → List ℕ → Typ
 AreFirstPasses limits scripts out = (out ≡ [])
     ⊎ ((whole : List ℕ) × (race : IsRace limits scripts whole) × AreFirstTexts race.replies out)
 
--- What an error leaves. If the limits or a script's length are invalid, nothing was written. If a
--- write failed, a prefix of what a race writes was written. If memory ran out, nothing was written,
--- or only whole replies of the first passes.
+-- What an error leaves. If a limit or a script's length is invalid, nothing was written. If a write
+-- failed, a prefix of what a race writes was written. If memory ran out, nothing was written, or
+-- only whole replies of the first passes.
 abbrev pub RaceLeaves : StoreLimits → List (List ℕ) → RunFault → Option (List ℕ) → Option (List ℕ)
     → Type 0
 RaceLeaves limits scripts Limits old new = Keeps old new

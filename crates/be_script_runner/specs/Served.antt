@@ -12,7 +12,7 @@ use Rattle.be_script_runner.specs.Store.{PinnedVolume, Store}
 use Rattle.be_value.specs.declared.refusals.Refusal.{Refusal}
 use Rattle.be_volume.specs.declared.ops.Op.{Op}
 
--- a store, what one of its passes knows, and what this pass knew at first
+-- a store, what one of its passes knows now, and what this pass knew at first
 pub record Seated : Type 0 where
   pub store : Opened
   pub knows : Knowledge

@@ -8,7 +8,7 @@
 //! Each thread returns a pass and replies, and makes a promise about them ([`Served`]). The pass
 //! belongs to the store and has the script's number. The pass's own writes are some of those that
 //! the script requests. The replies are possible replies to the script, given what the pass has
-//! seen and that others write too. So all passes have been returned by the time the store is
+//! seen and that others may write too. So all passes have been returned by the time the store is
 //! closed. A pass's entries in the journal are writes of its script, and the replies to each script
 //! agree with that journal.
 ghost use Rattle.std.specs.Prelude.{◌≡◌, ◌≤◌, ◌<◌, ℕ, ◌^◌, ◌++◌, ◌↔◌, true, false, length, vec_len};
@@ -347,8 +347,8 @@ fn serve_on_new<R: Threads + Wait, G: Gate + Sync>(
 ///
 /// The limits are checked first, and then the length of each script, which is at most 1,048,576
 /// bytes. If any of these is invalid, nothing is written. Script k runs from pass k, on its own
-/// thread. A write that finds another pass writing is retried, up to 10,000,000 tries in all. If
-/// the last try fails too, the reply is its error. When all threads have ended, the replies are
+/// thread. A write that finds another pass writing is retried, for up to 10,000,000 tries in all.
+/// If the last try fails too, the reply is its error. When all threads have ended, the replies are
 /// written, each pass's after a line `pass K`. They are followed by `journal N`, the journal's
 /// text, and `replay ok`. The journal is that of the store that gave the replies: it begins with
 /// what each pass has seen, and contains the pass's writes with the outcomes that the replies

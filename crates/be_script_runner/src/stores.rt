@@ -96,8 +96,8 @@ pub trait Server {
             (scan (viewed (shows self.new)) query.now) };
 
     /// A page of a query's answer, in the order of an index. Returns NoSuchIndex if there is no
-    /// index with that name, or if the value after which the page begins is of another kind than
-    /// the index. NoSuchIndex takes precedence over NotCovered. OutOfMemory is possible too.
+    /// index with that name, or if the value after which the page begins isn't of the index's kind.
+    /// NoSuchIndex takes precedence over NotCovered. OutOfMemory is possible too.
     fn page(&mut self, query: Query, paging: &Paging) -> Result<Page, Refusal>
         ensures stays { kept self.new ≡ kept self.old }
         ensures joins { Joins (shows self.old) (shows self.new) }

@@ -284,8 +284,8 @@ pub(crate) fn reread(alloc: Global, line: &str) -> Result<String, Refusal> {
 }
 
 /// The examples `predicates` and `unsigned_keys`, and each way to read a predicate that can be
-/// built. A query with a single comparison has the text of that comparison. An order operator takes
-/// its string literally, and a pattern operator takes it as a pattern.
+/// built. If a query has only one comparison, that comparison's text is the query's text. An order
+/// operator takes its string literally, and a pattern operator takes it as a pattern.
 #[test]
 fn predicates(rt: HostRuntime) -> Result<(), Fail> {
     let lines = "items size 5 < ! => \"size\">=\"5\"

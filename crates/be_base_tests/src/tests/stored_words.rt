@@ -116,9 +116,9 @@ pub(crate) fn stored_by(alloc: Global, line: &str) -> Result<String, Refusal> {
 }
 
 /// A page that a write has taken is edited in place. If a list of operations changes the same
-/// leaves repeatedly, most of the words are already there. The lines insert one key, and remove one
-/// key and insert another next to it. Then they insert or remove 64 keys, either adjacent or far
-/// apart.
+/// leaves repeatedly, most of the words are already there. The first line inserts one key; the
+/// second removes one key and inserts another next to it. The others insert or remove 64 keys,
+/// either adjacent or far apart.
 #[test]
 fn stored_words(rt: HostRuntime) -> Result<(), Fail> {
     let lines = "stored put 1 1 => 65
