@@ -6,10 +6,10 @@
         letter = store.new_node()
         store.set(letter, "MAIL:from", "ann")
 
-The store is in memory, and each accepted write is saved in the file before its call returns. The write survives `kill -9`, and
-also a power failure if the disk keeps what it has confirmed. Opening the file rebuilds the store by replaying each write. If an
-outcome differs, the file is refused. Only one store at a time can have a file open. docs/KEPT.md describes the promises and the
-format, which is the same as the Rust crate's.
+The store is in memory, and each accepted write is saved in the file before its call returns. The write survives `kill -9`.
+It also survives a power failure, provided that the disk stores data before confirming it. Opening the file rebuilds the store by
+replaying each write. If an outcome differs, the file is refused. Only one store at a time can have a file open. docs/KEPT.md
+describes the promises and the format, which is the same as the Rust crate's.
 
 Concurrent writers share a commit: one writer saves what all of them have written, in the journal's order. While a write's call
 waits, a snapshot may already show the write, although the write isn't in the file yet. Call `flush` before you pass a

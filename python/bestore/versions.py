@@ -255,10 +255,9 @@ class Version(ABC):
         error, the query is unchanged. Runs the whole query and takes no lock, so it never makes another pass's write `Busy`."""
 
     def refresh_changed(self, prepared: Prepared) -> Tuple[List[int], List[int]]:
-        """Returns the same as `refresh`. In a store in this process, it reads what was written since the last refresh and
-        checks only the nodes that were written, so it takes less time if the answer has 96 nodes or more and few nodes were
-        written. In the meantime, other passes' writes raise `Busy`. Otherwise, and in a shelf or a server's store, it runs the
-        whole query."""
+        """Returns the same as `refresh`. In an in-process store, it checks only the nodes that were written since the last
+        refresh. This takes less time if the answer has 96 nodes or more and few nodes were written. Other passes' writes raise
+        `Busy` during the call. Otherwise, and in a shelf or a server's store, it runs the whole query."""
         return self.refresh(prepared)
 
     @abstractmethod

@@ -151,7 +151,7 @@ pub enum Error {
 }
 
 impl Error {
-    /// Creates an error of the program's own, which a change's closure can return to abandon the change.
+    /// Creates an application error. A closure passed to `change` returns it to abandon the change.
     pub fn other(error: impl Into<Box<dyn std::error::Error + Send + Sync>>) -> Self {
         Error::Other(error.into())
     }

@@ -313,11 +313,11 @@ fn a_wrong_outcome_is_named_with_its_entry() {
     for (change, why) in [
         (
             "UPDATE bestore_entry SET batch = 'BEC' WHERE number = 5",
-            "entry 5 of the log: it has",
+            "entry 5 of the log: it contains something that no store wrote",
         ),
         (
             "UPDATE bestore_entry SET batch = set_byte(batch, 5, 1) WHERE number = 4",
-            "entry 4 of the log: it has",
+            "entry 4 of the log: it contains something that no store wrote",
         ),
         (
             "DELETE FROM bestore_entry WHERE number = 3",

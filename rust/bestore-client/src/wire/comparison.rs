@@ -31,7 +31,7 @@ pub struct Comparison {
     pub offset: u64,
     /// The length of the comparison in bytes.
     pub length: u64,
-    /// Whether the comparison is negated, being inside an odd number of `!` operators.
+    /// Whether the comparison is negated: whether it is inside an odd number of `!` operators.
     #[serde(default, skip_serializing_if = "std::ops::Not::not")]
     pub negated: bool,
     /// The names of the index kinds for which the comparison is never true.
