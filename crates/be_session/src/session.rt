@@ -216,7 +216,7 @@ impl Session {
     /// Creates another session of the same store, in a box. The new session gets the last pass that
     /// waits here. If none waits, it gets one that was given back by `close` in any thread. The two
     /// passes then meet, so that the new session has seen everything that this one has seen,
-    /// including its writes. A pin of this session is unaffected. Returns `NoPass` if there is no
+    /// including its writes. A pin of the caller is unaffected. Returns `NoPass` if there is no
     /// such pass, or `OutOfMemory`, in which case the pass remains where it was.
     ///
     /// The passes that have never been used wait with the session that opened the store. A pass

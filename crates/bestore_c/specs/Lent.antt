@@ -22,7 +22,7 @@ use Rattle.bestore_c.specs.declared.owned_place.OwnedPlace.{OwnedPlace}
 use Rattle.bestore_c.specs.declared.owned_query.OwnedQuery.{OwnedQuery}
 use Rattle.bestore_c.specs.declared.owned_witness.OwnedWitness.{OwnedWitness}
 
--- The owner with this session as its content.
+-- The owner, with the given session as its content.
 abbrev pub with_session : Owned → Sitting → Owned
 with_session o s = record o { value = Some s }
 
