@@ -383,7 +383,7 @@ static void meet_while_locked(void)
     CHECK(met > 0 && bes_close(&first) == BES_OK && bes_close(&second) == BES_OK);
 }
 
-/* As long as there is no memory for the journal's text, the last handle stays open and its store works. */
+/* If memory for the journal's text runs out, the last handle remains open and its store remains usable. */
 static void finish_later(void)
 {
     bes_pass pass = BES_PASS_INIT, other = BES_PASS_INIT;
@@ -429,7 +429,7 @@ int main(void)
     finish_later();
     CHECK(bes_release(&kept) == BES_OK && bes_release(&by_text) == BES_OK && bes_release(&by_items) == BES_OK);
     CHECK(bes_dismiss(&witness) == BES_OK);
-    /* A returned pass can still be taken later if there is no memory for its handle now. */
+    /* If allocating a handle fails, the returned pass can be taken later. */
     CHECK(bes_close(&theirs) == BES_OK && refuse_each(call_another) > 0);
     CHECK(bes_close(&mine) == BES_OK && bes_close(&theirs) == BES_OK);
     puts("ok");

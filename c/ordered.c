@@ -290,7 +290,7 @@ static int compare_numbers(const void *left, const void *right)
     return (*a > *b) - (*a < *b);
 }
 
-/* Reads the first nodes by number, then continues until there are no more. Also reads any few nodes. */
+/* Reads all nodes by number, a page at a time. Also reads a few arbitrary nodes. */
 static void first_and_any(bes_pass *pass, const char *text)
 {
     bes_prepared prepared = BES_PREPARED_INIT;

@@ -598,7 +598,7 @@ static void nodes_by_number(void)
 
 enum { MOST_BYTES = 64 * (63 + 255) };
 
-/* Reads the operations that recreate a snapshot. If there is no room for a list, the next call returns it. */
+/* Reads the operations that recreate a snapshot. If a list doesn't fit, the next call returns it. */
 static void states(void)
 {
     static const uint8_t expected[] = "nameannsizesize";

@@ -34,7 +34,7 @@ static inline bool is_as_it_was(bes_pass *pass, const view *before)
     return memcmp(before, &after, sizeof after) == 0;
 }
 
-/* Takes passes until there are no more. Returns how many were taken. */
+/* Takes passes until none is left. Returns the number taken. */
 static inline int take_passes(bes_pass *pass, bes_pass *taken)
 {
     for (int i = 0;; i++) {

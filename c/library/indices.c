@@ -46,7 +46,7 @@ typedef struct reindexing {
     const char *name;
     uint32_t code;
     uint64_t from;
-    uint64_t after; /* where to continue, or 0 if there are no more nodes */
+    uint64_t after; /* the node to continue after, or 0 after the last node */
     uint64_t count;
 } reindexing;
 

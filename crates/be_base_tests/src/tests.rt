@@ -1,4 +1,4 @@
-//! A file for each crate that is tested, or for each part of one.
+//! One file for each tested crate, or for each part of a crate.
 
 mod byte_pattern;
 mod counting_look;

@@ -1,4 +1,4 @@
--- A pattern matches the bytes of characters exactly if it matches the characters.
+-- A pattern matches the bytes of characters if and only if it matches the characters.
 use Rattle.std.proofs.Common.{◌≡◌, ℕ, ◌+◌, ◌/◌, ◌%◌, ◌<◌, ◌≤◌, Bool, true, false, List, [], ◌∷◌, ◌++◌, map, length, ◌&&◌, ◌||◌, refl, sym, ap, ◌∙◌, subst, arith}
 use Rattle.std.specs.Cmp.{both_ways}
 use Rattle.std.specs.Char.{encode_utf8}
@@ -13,7 +13,7 @@ use Rattle.be_byte_pattern.specs.Runs.{byte_parts, has_runs_alone, IsOfRuns, par
 use Rattle.be_byte_pattern.specs.declared.runs.Runs.{Runs}
 use Rattle.be_byte_pattern.proofs.LiteralRuns.{tail_further, tail_whole, run_taken, takes_run}
 
--- a byte inside a character, after its first
+-- a byte inside a character, after its first byte
 abbrev pub IsInside : ℕ → Type 0
 IsInside b = (128 ≤ b) × (b < 192)
 
@@ -21,7 +21,7 @@ abbrev pub AreInside : List ℕ → Type 0
 AreInside [] = Unit {0}
 AreInside (b ∷ bs) = IsInside b × AreInside bs
 
--- a character's bytes: the first, which never occurs inside a character, and the others
+-- a character's bytes: the first byte, which never occurs inside a character, and the others
 record Encoded (c : ℕ) : Type 0 where
   pub lead : ℕ
   pub more : List ℕ
@@ -45,7 +45,7 @@ encoded c = ⊎_elim
     (cases_Bool (nat_lt c 2048)))
     (cases_Bool (nat_lt c 128))
 
--- What matches from inside a character also matches from its end.
+-- Anything that matches from inside a character also matches from its end.
 
 tails_in : (p : List ℕ → Bool) → ((b : ℕ) (k ds : List ℕ) → AreInside (b ∷ k) → p (b ∷ (k ++ ds)) ≡ true → p ds ≡ true)
     → (k ds : List ℕ) → AreInside k → some_tail p (k ++ ds) ≡ true → some_tail p ds ≡ true

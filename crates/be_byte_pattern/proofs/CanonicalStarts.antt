@@ -1,4 +1,4 @@
--- How a canonical text begins.
+-- The beginning of a canonical text.
 use Rattle.std.proofs.Common.{◌≡◌, ℕ, true, false, List, [], ◌∷◌, ◌++◌, map, ◌||◌, ◌==◌, refl, sym, ap, ◌∙◌, arith, append_assoc, append-nil}
 use Rattle.std.specs.Prelude.{encode_utf8, encode_utf8_all}
 use Rattle.std.proofs.Math.Logic.{⊎_elim}
@@ -26,7 +26,8 @@ plain_text d ps h = ap (λ l. l ++ canonical ps) (cond-false (is_special d) (92 
 not_special : (d e : ℕ) → d ≡ e → is_special e ≡ true → is_special d ≡ false → ⊥
 not_special d e same h k = both_ways (is_special d) k (ap is_special same ∙ h)
 
--- a canonical text that begins with no character of the notation begins with a literal character
+-- a canonical text that doesn't begin with a character of the notation begins with a literal
+-- character
 plain_first : (ps : List Part) (c : ℕ) (es : List ℕ) → canonical ps ≡ c ∷ es → (c ≡ 42 → ⊥) → (c ≡ 63 → ⊥) → (c ≡ 91 → ⊥) → (c ≡ 92 → ⊥)
     → (qs : List Part) × ((ps ≡ Only c ∷ qs) × (es ≡ canonical qs))
 plain_first [] c es e star one set mark = absurd (nil_first c es e)
@@ -63,7 +64,7 @@ marked_first (Only d ∷ ps) c es e = ⊎_elim
     (λ h. absurd (not_special d 92 (same_first d 92 _ _ (sym (plain_text d ps h) ∙ e)) refl h))
     (cases_Bool (is_special d))
 
--- a canonical text that begins with `*` begins with any run
+-- a canonical text that begins with `*` begins with the token `*`
 star_first : (ps : List Part) (es : List ℕ) → canonical ps ≡ 42 ∷ es → (qs : List Part) × ((ps ≡ Run ∷ qs) × (es ≡ canonical qs))
 star_first [] es e = absurd (nil_first 42 es e)
 star_first (Run ∷ ps) es e = (ps, (refl, sym (same_rest 42 42 _ es e)))
@@ -99,7 +100,7 @@ no_text (Only d ∷ ps) e = ⊎_elim
     (λ h. absurd (nil_first _ _ (sym e ∙ plain_text d ps h)))
     (cases_Bool (is_special d))
 
--- The same for the text's bytes.
+-- The same statements for the text's bytes.
 
 pub plain_begins : (text rest : List ℕ) (c : ℕ) → text ≡ encode_utf8 c ++ rest → begins_wildcard c ≡ false → (c ≡ 92 → ⊥)
     → (ps : List Part) → text ≡ encode_utf8_all (canonical ps) → BeginsWith ps c rest
@@ -134,7 +135,7 @@ map_append : (xs ys : List ℕ) → map Only (xs ++ ys) ≡ map Only xs ++ map O
 map_append [] ys = refl
 map_append (x ∷ xs) ys = ap (λ l. Only x ∷ l) (map_append xs ys)
 
--- one more character is read
+-- one more character has been read
 pub leaves_further : (ps : List Part) (old new rest shorter : List ℕ) (c : ℕ) → new ≡ old ++ encode_utf8 c
     → ((qs : List Part) → rest ≡ encode_utf8_all (canonical qs) → BeginsWith qs c shorter)
     → Leaves ps (map Only old) rest → Leaves ps (map Only new) shorter
@@ -152,7 +153,7 @@ stars_append : (rs : List (List ℕ)) (r : List ℕ) → after_stars (rs ++ r �
 stars_append [] r = ap (λ l. Run ∷ l) (append-nil (map Only r))
 stars_append (s ∷ rs) r = ap (λ l. Run ∷ (map Only s ++ l)) (stars_append rs r) ∙ ap (λ l. Run ∷ l) (sym (append_assoc (map Only s) (after_stars rs) (Run ∷ map Only r)))
 
--- one more run is read
+-- one more run has been read
 pub leaves_run : (ps front : List Part) (rs new : List (List ℕ)) (rest middle shorter r : List ℕ) → new ≡ rs ++ r ∷ []
     → ((qs : List Part) → rest ≡ encode_utf8_all (canonical qs) → Leaves qs (Run ∷ []) middle)
     → ((qs : List Part) → middle ≡ encode_utf8_all (canonical qs) → Leaves qs (map Only r) shorter)
@@ -171,7 +172,7 @@ leaves_run ps front rs new rest middle shorter r grown star run leaves =
       text = t.text;
     }
 
--- everything is read
+-- the whole text has been read
 pub leaves_none : (ps read : List Part) (rest : List ℕ) → rest ≡ [] → Leaves ps read rest → (byte_parts ps ≡ read) × (has_runs_alone ps ≡ true)
 leaves_none ps read rest none leaves =
     let e : leaves.after ≡ [] = no_text leaves.after (encodes_same (canonical leaves.after) [] (sym leaves.text ∙ none)) in

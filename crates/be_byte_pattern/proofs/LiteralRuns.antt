@@ -1,4 +1,4 @@
--- Runs of literal parts in a list, with anything between each two.
+-- Runs of literal parts in a list, with anything in between.
 use Rattle.std.proofs.Common.{◌≡◌, ℕ, ◌+◌, ◌-◌, ◌<◌, ◌≤◌, Bool, true, false, List, [], ◌∷◌, ◌++◌, map, length, drop, ◌&&◌, ◌||◌, get_or, refl, sym, ap, ◌∙◌, subst, arith, zero, suc, take, length-append, length-drop}
 use Rattle.std.specs.Bool.{Decides}
 use Rattle.std.specs.Cmp.{both_ways}
@@ -36,7 +36,7 @@ pub run_taken : (r rest : List ℕ) (ps : List Part) → matches (map Only r ++ 
 run_taken [] rest ps = refl
 run_taken (d ∷ r) rest ps = ap (λ b. b && matches (map Only r ++ ps) (r ++ rest)) (eq-eqb d d refl) ∙ run_taken r rest ps
 
--- and only that
+-- literal parts match only their own run
 pub takes_run : (r cs : List ℕ) (ps : List Part) → matches (map Only r ++ ps) cs ≡ true → (rest : List ℕ) × ((cs ≡ r ++ rest) × (matches ps rest ≡ true))
 takes_run [] cs ps h = (cs, (refl, h))
 takes_run (d ∷ r) [] ps h = absurd (true≢false (sym h))
@@ -48,7 +48,7 @@ takes_run (d ∷ r) (c ∷ cs) ps h =
 pub run_missing : (r cs : List ℕ) (ps : List Part) → ((rest : List ℕ) → cs ≡ r ++ rest → ⊥) → matches (map Only r ++ ps) cs ≡ false
 run_missing r cs ps h = false_from_ne_true (matches (map Only r ++ ps) cs) (λ k. let w = takes_run r cs ps k in h w.0 w.1.0)
 
--- The first place serves as well as any later one.
+-- The first occurrence of a run serves as well as any later one.
 pub first_serves : (r after : List ℕ) (ps : List Part) → some_tail (matches (map Only r ++ (Run ∷ ps))) (r ++ after) ≡ some_tail (matches ps) after
 first_serves r after ps = both_ways _ _ there back
   where
@@ -65,11 +65,11 @@ first_serves r after ps = both_ways _ _ there back
     back : some_tail (matches ps) after ≡ true → some_tail (matches (map Only r ++ (Run ∷ ps))) (r ++ after) ≡ true
     back h = tail_whole (matches (map Only r ++ (Run ∷ ps))) (r ++ after) (run_taken r after (Run ∷ ps) ∙ h)
 
--- if the run isn't here, the next place is tried
+-- if the run doesn't begin here, the next position is tried
 pub next_place : (p : List ℕ → Bool) (c : ℕ) (cs : List ℕ) → p (c ∷ cs) ≡ false → some_tail p (c ∷ cs) ≡ some_tail p cs
 next_place p c cs h = ap (λ b. b || some_tail p cs) h
 
--- a run doesn't begin where its first byte isn't
+-- a run doesn't begin at a position that doesn't hold its first byte
 other_first : (first : ℕ) (others cs : List ℕ) (k : ℕ) (ps : List Part) → k < length cs → (get_or cs k 0 ≡ first → ⊥) → matches (map Only (first ∷ others) ++ ps) (drop k cs) ≡ false
 other_first first others [] k ps lt differs = absurd (omega (arith, lt))
 other_first first others (c ∷ cs) zero ps lt differs = run_missing (first ∷ others) (c ∷ cs) ps (λ rest e. differs (head (others ++ rest) e))
@@ -78,7 +78,7 @@ other_first first others (c ∷ cs) zero ps lt differs = run_missing (first ∷ 
     head rest e = cc
 other_first first others (c ∷ cs) (suc k) ps lt differs = other_first first others cs k ps (omega (arith, lt)) differs
 
--- such places can be skipped
+-- positions at which there is no match can be skipped
 places_passed : (p : List ℕ → Bool) (n : ℕ) (cs : List ℕ) → ((k : ℕ) → k < n → p (drop k cs) ≡ false) → some_tail p (drop n cs) ≡ some_tail p cs
 places_passed p zero cs h = refl
 places_passed p (suc n) [] h = refl
@@ -90,12 +90,12 @@ passed_to run cs first others n ps e le differs =
     places_passed (matches (map Only run ++ ps)) n cs
     (λ k lt. ap (λ (r : List ℕ). matches (map Only r ++ ps) (drop k cs)) e ∙ other_first first others cs k ps (omega (arith, lt, le)) (differs k lt))
 
--- and so can a place where the run isn't
+-- a position at which there is no match can be skipped
 pub one_passed : (p : List ℕ → Bool) (cs : List ℕ) → p cs ≡ false → some_tail p (drop 1 cs) ≡ some_tail p cs
 one_passed p [] h = refl
 one_passed p (c ∷ cs) h = sym (next_place p c cs h)
 
--- an empty run is found at the first place
+-- an empty run is found at the first position
 pub nothing_sought : (run cs : List ℕ) (ps : List Part) → length run ≡ 0 → some_tail (matches (map Only run ++ (Run ∷ ps))) cs ≡ some_tail (matches ps) cs
 nothing_sought [] cs ps e = first_serves [] cs ps
 nothing_sought (d ∷ run) cs ps e = absurd (omega (arith, e))
@@ -109,13 +109,13 @@ run_too_long r cs ps short = false_from_ne_true (some_tail (matches (map Only r 
     let f : length (drop w.0 cs) ≡ length cs - w.0 = length-drop w.0 cs in
     omega (arith, e, f, short))
 
--- The last run has to be at the end.
+-- The last run must be at the end.
 
 nothing_left : (cs : List ℕ) → matches [] cs ≡ true → cs ≡ []
 nothing_left [] h = refl
 nothing_left (c ∷ cs) h = absurd (true≢false (sym h))
 
--- if a tail is the run, it is the tail of the run's length
+-- if a tail is equal to the run, it is the tail of the run's length
 end_place : (r cs : List ℕ) (n : ℕ) → drop n cs ≡ r → drop (length cs - length r) cs ≡ r
 end_place r cs n e =
     let f : length r ≡ length cs - n = ap length (sym e) ∙ length-drop n cs in
@@ -146,7 +146,7 @@ last_serves r cs = both_ways _ _ there back
         let whole : drop (length cs - length r) cs ≡ r ++ [] = sym e ∙ sym (append-nil r) in
         tail_at (matches (map Only r ++ [])) cs (length cs - length r) (ap (matches (map Only r ++ [])) whole ∙ run_taken r [] [])
 
--- The loop over the runs after stars: each way in which it continues or ends.
+-- The loop over the runs after stars, with each way in which it continues or ends.
 
 pub run_ends : (left after : List (List ℕ)) (r last rest : List ℕ) (b whole : Bool) → left ≡ r ∷ after → after ≡ [] → last ≡ r
     → b ≡ ends_with nat_eq rest last → matches (after_stars left) rest ≡ whole → b ≡ whole
@@ -177,7 +177,7 @@ pub some_mapped : {X : Type 0} (f : X → List ℕ) (xs : List X) → (length xs
 some_mapped f [] some e = some refl
 some_mapped f (x ∷ xs) some e = cc
 
--- Comparing the end of a list.
+-- Compares the end of a list.
 
 pub end_found : (run bytes end : List ℕ) (b : Bool) → end ≡ drop (length bytes - length run) bytes → length run ≤ length bytes
     → (b ≡ true → take (length run) end ≡ run) → (b ≡ false → (rest : List ℕ) → end ≡ run ++ rest → ⊥) → b ≡ ends_with nat_eq bytes run

@@ -1,4 +1,4 @@
--- Patterns of literal characters and `*`, over bytes.
+-- Patterns that consist of literal characters and `*`, as patterns over bytes.
 use Rattle.std.specs.Prelude.{◌≡◌, ℕ, Bool, true, false, List, [], ◌∷◌, ◌++◌, map, ◌||◌, ◌==◌}
 use Rattle.std.specs.Prelude.{encode_utf8, encode_utf8_all, string_bytes}
 use Rattle.std.specs.List.{flat_map, list_all}
@@ -17,11 +17,11 @@ is_run_or_literal One = false
 is_run_or_literal (Among negated ms) = false
 is_run_or_literal (Only c) = true
 
--- no `?` and no set
+-- the pattern has no `?` and no set
 abbrev pub has_runs_alone : List Part → Bool
 has_runs_alone = list_all is_run_or_literal
 
--- the bytes of a literal character's UTF-8, each as a part of its own
+-- a literal character as its UTF-8 bytes, each of which is a separate part
 abbrev pub part_bytes : Part → List Part
 part_bytes Run = Run ∷ []
 part_bytes One = One ∷ []
@@ -32,20 +32,19 @@ part_bytes (Only c) = map Only (encode_utf8 c)
 abbrev pub byte_parts : List Part → List Part
 byte_parts = flat_map part_bytes
 
--- each of the runs of literal bytes, with a `*` before it
+-- each of the runs of literal bytes, preceded by a `*`
 abbrev pub after_stars : List (List ℕ) → List Part
 after_stars [] = []
 after_stars (r ∷ rs) = Run ∷ (map Only r ++ after_stars rs)
 
--- A canonical text begins with this literal character, and the rest is the canonical text of the
--- parts after it.
+-- A canonical text begins with this literal character, and the rest of it is the canonical text of
+-- the remaining parts.
 pub record BeginsWith (parts : List Part) (char : ℕ) (rest : List ℕ) : Type 0 where
   pub after : List Part
   pub first : parts ≡ Only char ∷ after
   pub text : rest ≡ encode_utf8_all (canonical after)
 
--- What remains of the parts of a canonical text, once the bytes whose parts are `read` have been
--- read.
+-- The rest of a canonical text once the bytes with the parts `read` have been read.
 pub record Leaves (parts read : List Part) (rest : List ℕ) : Type 0 where
   pub after : List Part
   pub bytes : byte_parts parts ≡ read ++ byte_parts after

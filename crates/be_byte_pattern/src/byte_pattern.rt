@@ -12,12 +12,12 @@ use std::alloc::Global;
 use std::marker::Model;
 use std::str;
 
-/// A compiled pattern, ready to be matched against the bytes of many texts. Contracts see the
+/// A compiled pattern, ready to be matched against the bytes of many strings. Contracts see the
 /// pattern's parts.
 #[derive(Drop)]
 pub struct BytePattern<'p> {
     pattern: &'p Pattern,
-    /// The runs of a pattern without `?` and sets.
+    /// The runs of a pattern without `?` and sets, or `None` for any other pattern.
     runs: Option<Runs>,
 }
 
@@ -44,8 +44,8 @@ impl<'p> BytePattern<'p> {
         Ok(BytePattern { pattern, runs })
     }
 
-    /// Whether the pattern matches the whole text, given as bytes, as `Pattern::matches` does. It
-    /// takes no memory. If the bytes aren't valid UTF-8, the result may be either.
+    /// Whether the pattern matches the whole string, given as bytes, as `Pattern::matches` does. It
+    /// allocates nothing. If the bytes aren't valid UTF-8, the result is unspecified.
     #[inline(always)]
     pub fn matches(&self, text: &[u8]) -> bool
         ensures { IsUtf8 text.now → result ≡ matches self.now (chars text.now) }
@@ -57,7 +57,7 @@ impl<'p> BytePattern<'p> {
     }
 }
 
-/// Whether a pattern matches a text, character by character. It is a separate function, so that
+/// Whether a pattern matches a string, character by character. This is a separate function so that
 /// callers that compare bytes need no stack space for it.
 #[inline(never)]
 fn matches_chars(pattern: &Pattern, text: &[u8]) -> bool

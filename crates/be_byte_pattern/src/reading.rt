@@ -9,14 +9,14 @@ use crate::runs::Runs;
 use be_pattern::matching::split_first_char;
 use std::alloc::{AllocError, Global};
 
-/// Whether a character of a canonical text begins a wildcard, if no backslash comes before it.
+/// Whether this character begins a wildcard in a canonical text when no backslash precedes it.
 fn begins_wildcard(char: char) -> bool
     ensures { result ≡ begins_wildcard char }
 {
     char == '*' || char == '?' || char == '['
 }
 
-/// The literal character at the start of a canonical text, and the text after it.
+/// The literal character that a canonical text begins with, and the text after it.
 fn split_literal(text: &str) -> Option<(char, &str)>
     ensures literal { IfSome result (λ p. (ps : List Part) → text.now
         ≡ encode_utf8_all (canonical ps) → BeginsWith ps p.0 p.1.now) }
@@ -32,7 +32,7 @@ fn split_literal(text: &str) -> Option<(char, &str)>
     Some((char, rest))
 }
 
-/// The literal characters at the start of a canonical text, and the text after them.
+/// The literal characters that a canonical text begins with, and the text after them.
 fn read_run(alloc: Global, text: &str) -> Result<(String, &str), AllocError>
     ensures leaves { IfOk result (λ p. (ps : List Part) → text.now ≡ encode_utf8_all (canonical ps)
         →
@@ -48,7 +48,7 @@ fn read_run(alloc: Global, text: &str) -> Result<(String, &str), AllocError>
     Ok((run, rest))
 }
 
-/// The text after a `*`, if it begins with one.
+/// The text after a `*`, if the text begins with one.
 fn split_star(text: &str) -> Option<&str>
     ensures star { IfSome result (λ rest. (ps : List Part) → text.now
         ≡ encode_utf8_all (canonical ps) →
@@ -61,7 +61,7 @@ fn split_star(text: &str) -> Option<&str>
     }
 }
 
-/// A canonical text's runs, or `None` if it has a `?` or a set.
+/// The runs of a canonical text, or `None` if it has a `?` or a set.
 pub(crate) fn read_runs(alloc: Global, text: &str) -> Result<Option<Runs>, AllocError>
     ensures { IfOk result (λ read. IfSome read
         (λ runs. (ps : List Part) → text.now ≡ encode_utf8_all (canonical ps) → IsOfRuns ps runs)) }

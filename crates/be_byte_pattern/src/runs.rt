@@ -1,4 +1,4 @@
-//! Runs of literal bytes with a `*` between each two.
+//! Runs of literal bytes, separated by `*`.
 ghost use Rattle.std.specs.Prelude.{◌≡◌, ◌≢◌, ◌<◌, ◌≤◌, ◌++◌, ◌∷◌, List, ℕ, true, false, map};
 ghost use Rattle.std.specs.Prelude.{nat_eq, length, take, drop, IfNone, IfSome, slice_index};
 ghost use Rattle.std.specs.Prelude.{string_bytes};
@@ -9,15 +9,15 @@ ghost use Rattle.be_byte_pattern.specs.Runs.{after_stars, parts_of_runs};
 /// The runs of a pattern without `?` and sets.
 #[derive(Drop)]
 pub(crate) struct Runs {
-    /// What comes before the first `*`. A text has to begin with it.
+    /// The run before the first `*`. A string must begin with it.
     pub(crate) front: String,
-    /// What comes after each `*`.
+    /// The run after each `*`.
     pub(crate) later: Vec<String>,
 }
 
 impl Runs {
-    /// Whether the bytes begin with the first run, end with the last, and have the others between
-    /// them in order.
+    /// Whether the bytes begin with the first run, end with the last run, and contain the others
+    /// between them in order.
     pub(crate) fn are_in(&self, text: &[u8]) -> bool
         ensures { result ≡ matches (parts_of_runs self.now) text.now }
     {
@@ -28,7 +28,7 @@ impl Runs {
     }
 }
 
-/// Whether the bytes begin with a run, which is at most as long as they are. Most differ in the
+/// Whether the bytes begin with a run that is no longer than they are. Most comparisons fail at the
 /// first byte.
 #[inline(always)]
 fn begins_with(bytes: &[u8], run: &[u8]) -> bool
@@ -44,7 +44,7 @@ fn begins_with(bytes: &[u8], run: &[u8]) -> bool
     true
 }
 
-/// The bytes after a run, if they begin with it.
+/// The bytes after a run, if the bytes begin with that run.
 #[inline(always)]
 fn after_run<'a>(bytes: &'a [u8], run: &[u8]) -> Option<&'a [u8]>
     ensures some { IfSome result (λ rest. bytes.now ≡ run.now ++ rest.now) }
@@ -67,7 +67,7 @@ fn ends_with(bytes: &[u8], run: &[u8]) -> bool
     begins_with(end, run)
 }
 
-/// The first place before `end` that has this byte, or `end`.
+/// The first position before `end` that holds this byte, or `end` if there is none.
 #[inline(always)]
 fn place_of(byte: u8, bytes: &[u8], end: usize) -> usize
     requires { end ≤ length bytes.now }
@@ -82,7 +82,7 @@ fn place_of(byte: u8, bytes: &[u8], end: usize) -> usize
     end
 }
 
-/// The bytes after the first one, if there is one.
+/// The bytes after the first byte, if there is one.
 #[inline(always)]
 fn after_byte(bytes: &[u8]) -> &[u8]
     ensures { result.now ≡ drop 1 bytes.now }
@@ -93,8 +93,8 @@ fn after_byte(bytes: &[u8]) -> &[u8]
     }
 }
 
-/// The bytes after the first occurrence of a run. It looks for the run's first byte, and compares
-/// the run only where it finds that.
+/// The bytes after the first occurrence of a run. It searches for the run's first byte, and
+/// compares the run only where that byte is found.
 fn after_first<'a>(bytes: &'a [u8], run: &[u8]) -> Option<&'a [u8]>
     ensures some { IfSome result (λ rest. (ps : List Part) →
         some_tail (matches (map Only run.now ++ (Run ∷ ps))) bytes.now
@@ -121,7 +121,7 @@ fn after_first<'a>(bytes: &'a [u8], run: &[u8]) -> Option<&'a [u8]>
     None
 }
 
-/// Whether the runs, each after a `*`, occur one after another, with the last one at the end.
+/// Whether the runs, each after a `*`, occur one after another, with the last run at the end.
 fn follow(runs: &[String], bytes: &[u8]) -> bool
     ensures { result ≡ matches (after_stars (map string_bytes runs.now)) bytes.now }
 {

@@ -14,7 +14,7 @@ use Rattle.be_change.specs.Comparing.{ComparesKinds, HasRightKind, HaveRightKind
 pub none_compared : (base : State) (ops : List Op) (i : ℕ) (op : Op) → i < 0 → slice_get ops i ≡ Some op → HasRightKind base (take i ops) op
 none_compared base ops i op below at = absurd (omega (arith, below))
 
--- one more operation has the right kind
+-- One more operation has the right kind.
 pub one_compared : (base : State) (ops : List Op) (i : ℕ) (op : Op) → i < length ops → op ≡ get_or ops i op → HaveRightKinds base ops i → HasRightKind base (take i ops) op
     → (j : ℕ) (other : Op) → j < i + 1 → slice_get ops j ≡ Some other → HasRightKind base (take j ops) other
 one_compared base ops i op short at right is j other below there = by (nat_lt j i) refl
@@ -31,7 +31,7 @@ pub all_compared : (base : State) (ops : List Op) (i : ℕ) → length ops ≤ i
     → (j : ℕ) (other : Op) → j < length ops → slice_get ops j ≡ Some other → HasRightKind base (take j ops) other
 all_compared base ops i past right j other below there = right j other (omega (arith, below, past)) there
 
--- what a pass compares after it has read, it would also compare before
+-- What a pass compares after it has read, it would also have compared before.
 pub compared_before : (a b : Knowledge) (before : List Op) (op : Op) (found answer : Option Kind) → HasRead a b → found ≡ answer → ComparesKinds (volume_pinned b) before op found
     → ComparesKinds (volume_pinned a) before op answer
 compared_before a b before op found answer read is h =

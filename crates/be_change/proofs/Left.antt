@@ -53,7 +53,7 @@ taken : (b : Bool) (d : Attributes) (o : Option Attributes) → unwrap_or (cond 
 taken true d o = refl
 taken false d o = refl
 
--- the attributes of a node, after a node got some
+-- The attributes of a node after some node was given attributes.
 own : (m : Nodes) (node : ℕ) (a : Attributes) (q : ℕ) → attributes_of (fin.insert m node a) q ≡ cond (nat_eq q node) a (attributes_of m q)
 own m node a q = ap (λ found. unwrap_or found fin.empty) (get-insert nat_cmp_total m node a q ∙ ap (λ b. cond b (Some a) (fin.get m q)) (unsigned_tied q node)) ∙ put (nat_eq q node) a fin.empty (fin.get m q)
 
@@ -119,7 +119,7 @@ is_tied Less h = cc
 is_tied Equal h = refl
 is_tied Greater h = cc
 
--- an index is replaced with one of the same kind
+-- An index is replaced by one of the same kind.
 replaced : (m : Indices) (name : List ℕ) (old new : Index) (q : List ℕ) → fin.get m name ≡ Some old → kind_in (Some new) ≡ kind_in (Some old) → kind_in (fin.get (fin.insert m name new) q) ≡ kind_in (fin.get m q)
 replaced m name old new q h e = ap kind_in (get-insert names_total m name new q) ∙ by (eq_by_cmp name_cmp q name) refl
   where
@@ -165,7 +165,7 @@ kind_made s (RmIndex name) q = ap kind_in (get-remove names_total s.indices name
     ∙ ap (λ b. kind_in (cond b None (fin.get s.indices q))) (sym (texts_ties q name))
     ∙ removed_in (pointwise nat_eq q name) (fin.get s.indices q)
 
--- ## Lists of operations, from the last one back
+-- ## Lists of operations, from last to first
 
 module _ (s : State) (ops : List Op) (i : ℕ) (op : Op) (short : i < length ops) (at : op ≡ get_or ops i op) (ok : IsOk (steps s ops)) where
   after_is : state_after s (take (i + 1) ops) ≡ made (state_after s (take i ops)) op
@@ -177,7 +177,7 @@ module _ (s : State) (ops : List Op) (i : ℕ) (op : Op) (short : i < length ops
   pub kind_turn : (q : List ℕ) → index_kind (state_after s (take (i + 1) ops)) q ≡ unwrap_or (index_left_by op q) (index_kind (state_after s (take i ops)) q)
   kind_turn q = ap (λ t. index_kind t q) after_is ∙ kind_made (state_after s (take i ops)) op q
 
--- how many nodes a prefix of the operations makes
+-- How many nodes a prefix of the operations creates.
 pub news_turn : (ops : List Op) (i : ℕ) (op : Op) → i < length ops → op ≡ get_or ops i op → count_by is_new (take (i + 1) ops) ≡ next_after op (count_by is_new (take i ops))
 news_turn ops i op short at = by op at
   where
@@ -189,7 +189,7 @@ news_turn ops i op short at = by op at
     by (MkIndex name kind) e = count_by_more_no is_new ops i op short (sym (ap is_new e))
     by (RmIndex name) e = count_by_more_no is_new ops i op short (sym (ap is_new e))
 
--- the numbers add up before an operation as they do after it
+-- The numbers add up before an operation as they do after it.
 pub news_before : (op : Op) (number before all next made : ℕ) → number ≡ next_after op before → number + all ≡ next + next_after op made → before + all ≡ next + made
 news_before New number before all next made e h = omega (arith, e, h)
 news_before (Drop node) number before all next made e h = omega (arith, e, h)
@@ -198,7 +198,7 @@ news_before (Unset node name) number before all next made e h = omega (arith, e,
 news_before (MkIndex name kind) number before all next made e h = omega (arith, e, h)
 news_before (RmIndex name) number before all next made e h = omega (arith, e, h)
 
--- an operation that makes a node has a number for it
+-- There is a number for the node that an operation creates.
 pub new_fits : (op : Op) (number all next made : ℕ) → all ≤ next → number + all ≡ next + next_after op made → is_new op ≡ true → 1 ≤ number
 new_fits New number all next made few h is = omega (arith, few, h)
 new_fits (Drop node) number all next made few h is = cc
@@ -210,7 +210,7 @@ new_fits (RmIndex name) number all next made few h is = cc
 back : (i : ℕ) → 0 < i → i ≡ (i - 1) + 1
 back i h = omega (arith, h)
 
--- one operation more
+-- One more operation.
 kind_more : (s : State) (ops : List Op) (i : ℕ) (op : Op) (q : List ℕ) → i < length ops → op ≡ get_or ops i op → index_kind_left s (take (i + 1) ops) q ≡ unwrap_or (index_left_by op q) (index_kind_left s (take i ops) q)
 kind_more s ops i op q short at = ap (λ xs. index_kind_left s xs q) (take_more ops i op short ∙ ap (λ x. take i ops ++ x ∷ []) (sym at))
     ∙ fold-append (λ (kind : Option Kind) (x : Op). unwrap_or (index_left_by x q) kind) (index_kind s q) (take i ops) (op ∷ [])
@@ -221,7 +221,7 @@ pub kind_back : (s : State) (ops : List Op) (i : ℕ) (op : Op) (q : List ℕ) (
 kind_back s ops i op q found left by is some within at h = h ∙ ap (λ n. index_kind_left s (take n ops) q) (back i some) ∙ kind_more s ops (i - 1) op q (omega (arith, some, within)) at
     ∙ ap (λ l. unwrap_or l (index_kind_left s (take (i - 1) ops) q)) (sym by ∙ is)
 
--- what a front of accepted operations leaves of an index is its kind after them
+-- What a prefix of accepted operations leaves of an index is the kind of the index after them.
 kind_front : (s : State) (ops : List Op) (i : ℕ) → i ≤ length ops → IsOk (steps s ops) → (q : List ℕ) → index_kind (state_after s (take i ops)) q ≡ index_kind_left s (take i ops) q
 kind_front s ops zero within ok q = refl
 kind_front s ops (suc i) within ok q =
@@ -235,7 +235,8 @@ kind_front s ops (suc i) within ok q =
 pub kind_accepted : (s : State) (ops : List Op) (q : List ℕ) → IsOk (steps s ops) → index_kind (state_after s ops) q ≡ index_kind_left s ops q
 kind_accepted s ops q ok = subst (λ xs. index_kind (state_after s xs) q ≡ index_kind_left s xs q) (take_all (length ops) ops (omega arith)) (kind_front s ops (length ops) (omega arith) ok q)
 
--- If this is the kind that the operations leave, it is the kind after them where they are accepted.
+-- If this is the kind that the operations leave, it is the kind after them in every volume that
+-- accepts them.
 pub kind_after : (s : State) (ops : List Op) (q : List ℕ) (kind : Option Kind) → kind ≡ index_kind_left s ops q → IfOk (steps s ops) (λ r. kind ≡ index_kind r.0 q)
 kind_after s ops q kind is = by (steps s ops) refl
   where
@@ -243,7 +244,7 @@ kind_after s ops q kind is = by (steps s ops) refl
     by (Ok x) e = is ∙ sym (kind_accepted s ops q (ap is_ok e)) ∙ ap (λ r. index_kind (reached s r) q) e
     by (Err refusal) e = tt
 
--- before the last operations, which leave these numbers, the next node has this number
+-- The next node has this number before the last operations, which leave these numbers.
 pub numbered : (s : State) (ops : List Op) (i next number : ℕ) → IsOk (steps s ops) → next ≡ s.next + count_by is_new ops → number + count_by is_new ops ≡ next + count_by is_new (take i ops)
     → number ≡ (state_after s (take i ops)).next
 numbered s ops i next number ok first h = let e = next_front s (take i ops) (take_ok s ops i ok) in omega (arith, e, first, h)
@@ -257,7 +258,7 @@ attribute_back s ops i next number op q name found left by is some within at ok 
     ∙ ap (λ n. unwrap_or (left_by op n q name) (attribute (state_after s (take (i - 1) ops)) q name)) (sym (numbered s ops (i - 1) next number ok first numbers))
     ∙ ap (λ l. unwrap_or l (attribute (state_after s (take (i - 1) ops)) q name)) (sym by ∙ is)
 
--- the numbers before the operation at `i - 1`
+-- The numbers before the operation at `i - 1`.
 pub numbers_back : (ops : List Op) (i next number before : ℕ) (op : Op) → 0 < i → i ≤ length ops → op ≡ get_or ops (i - 1) op → number ≡ next_after op before
     → number + count_by is_new ops ≡ next + count_by is_new (take i ops) → before + count_by is_new ops ≡ next + count_by is_new (take (i - 1) ops)
 numbers_back ops i next number before op some within at e h =
@@ -290,7 +291,7 @@ listed_entries (e ∷ es) name =
 pub listed_is : (s : State) (name : List ℕ) → kind_listed (index_kinds s) name ≡ index_kind s name
 listed_is s name = listed_entries (fin.entries s.indices) name ∙ ap kind_in (sym (get-entries s.indices name))
 
--- the list from a place on
+-- The rest of the list, starting at a place.
 listed_drop : (list : List (List ℕ × Kind)) (i : ℕ) (e : List ℕ × Kind) (name : List ℕ) → i < length list → e ≡ get_or list i e
     → kind_listed (drop i list) name ≡ (if pointwise nat_eq name e.0 then Some e.1 else kind_listed (drop (i + 1) list) name)
 listed_drop list i e name short at = ap (λ l. kind_listed l name) (drop_more list i e short)

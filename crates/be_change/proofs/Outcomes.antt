@@ -19,12 +19,12 @@ use Rattle.be_volume.proofs.StepLemmas.{made, not_both, refused_stays}
 use Rattle.be_change.specs.Changing.{After, Changing, Reads, outcome, outcomes, with_op}
 use Rattle.be_change.specs.Left.{is_new}
 
--- if a test didn't refuse
+-- A test that didn't refuse.
 passed : {A : Type 0} (b : Bool) (e : Refusal) (r : Result A Refusal) → IsOk (if b then Err e else r) → (if b then Err e else r) ≡ r
 passed true e r h = cc
 passed false e r h = refl
 
--- an accepted operation returns its outcome
+-- An accepted operation returns its outcome.
 stepped : (s : State) (op : Op) → IsOk (step s op) → step s op ≡ Ok (made s op, outcome op s.next)
 stepped s New h = refl
 stepped s (Drop node) h = passed (not (map.contains_key s.nodes node)) NoNode _ h
@@ -103,14 +103,14 @@ next_front s ops h = by (steps s ops) refl h
     by (Ok x) e h = (returned s x.0 [] x.1 ops e).next
     by (Err f) e h = cc
 
--- the outcomes of a list end with the outcomes of its last part
+-- The outcomes of a list end with the outcomes of its last part.
 pub outcomes_append : (next : ℕ) (ops more : List Op) → outcomes next (ops ++ more) ≡ outcomes next ops ++ outcomes (next + count_by is_new ops) more
 outcomes_append next [] more = ap (λ n. outcomes n more) (omega arith)
 outcomes_append next (op ∷ ops) more = ap (λ l. outcome op next ∷ l)
     (outcomes_append (next_after op next) ops more
     ∙ ap (λ n. outcomes (next_after op next) ops ++ outcomes n more) (news_first op next ops))
 
--- what holds for the state that accepted operations reach
+-- What holds for the state that accepted operations reach.
 pub after_ok : (base : State) (ops : List Op) (P : State → Type 0) → (IsOk (steps base ops) → P (state_after base ops)) → IfOk (steps base ops) (λ r. P r.0)
 after_ok base ops P h = by (steps base ops) h
   where

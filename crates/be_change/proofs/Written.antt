@@ -25,7 +25,7 @@ use Rattle.be_change.specs.Changing.{Changing, Reads, outcomes}
 use Rattle.be_change.specs.Ending.{IsChangeOf, Wrote}
 use Rattle.be_change.proofs.Outcomes.{outcomes_are}
 
--- a pinned volume has numbers left for all nodes that a change may make
+-- A pinned volume has enough numbers left for all nodes that a change can create.
 pub first_fits : (a : Knowledge) (n : ℕ) → IsPass a → IsPinnedTo a n → (volume_pinned a).next + 64 < 2 ^ 64
 first_fits a n pass pin =
     let few : a.limits.commits < 4294967296 = pass.within.short in
@@ -39,15 +39,15 @@ first_fits a n pass pin =
 pub first_is : (a : Knowledge) (n first : ℕ) → IsPass a → IsPinnedTo a n → first ≡ (volume_pinned a).next → first + 64 < 2 ^ 64
 first_is a n first pass pin e = subst (λ m. m + 64 < 2 ^ 64) (sym e) (first_fits a n pass pin)
 
--- a pin stays at a read
+-- A read leaves the pin in place.
 pub read_pin : (a c : Knowledge) (n : ℕ) → HasRead a c → IsPinnedTo a n → IsPinnedTo c n
 read_pin a c n h pin = subst (λ (k : Knowledge). IsPinnedTo k n) (sym h) pin
 
--- two reads one after the other
+-- Two consecutive reads.
 pub read_on : (a b c : Knowledge) → HasRead a b → HasRead b c → HasRead a c
 read_on a b c h k = k ∙ ap (λ (x : Knowledge). record x { steps = c.steps }) h
 
--- a change still belongs to its pass after a read
+-- A change still belongs to its pass after a read.
 pub read_change : (change : Changing) (a c : Knowledge) → HasRead a c → IsChangeOf change a → IsChangeOf change c
 read_change change a c h of = subst (IsChangeOf change) (sym h) of
 
@@ -62,7 +62,7 @@ wrote_all change a c ops number n dones e f some h =
     let on : AcceptsAt a c change.number change.ops n dones = subst (λ (x : List Op × ℕ). AcceptsAt a c x.1 x.0 n dones) (λ i. (e i, f i)) h in
     inr (subst (λ (l : List Op). 1 ≤ length l) e some, dones, on, wrote change a c n dones on)
 
--- a pass whose pin stays reads the same volume, whatever it has seen since then
+-- A pass whose pin is unchanged reads the same volume, whatever it has seen since.
 same_volume : (a c : Knowledge) (n : ℕ) → IsPass a → c.phase ≡ a.phase → StartsWith c.seen a.seen → IsPinnedTo a n → volume_pinned c ≡ volume_pinned a
 same_volume a c n pass same more pin =
     let at = pinned_phase a.phase n pin in

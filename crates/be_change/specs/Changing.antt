@@ -9,9 +9,9 @@ use Rattle.be_volume.specs.declared.ops.Done.TheVariants.{Node, Unit as Nothing}
 use Rattle.be_volume.specs.declared.ops.Op.{Op}
 use Rattle.be_volume.specs.declared.ops.Op.TheVariants.{New, Drop, Set, Unset, MkIndex, RmIndex}
 
--- The snapshot's number; the number that the first new node gets; the kinds of the snapshot's
--- indices; the collected operations; whether a set must have the kind of its index; and whether the
--- change has pinned its pass itself.
+-- The snapshot's number, the number of the first new node, the kinds of the snapshot's indices, the
+-- collected operations, whether a set must have the kind of its index, and whether the change
+-- itself has pinned its pass.
 pub record Changing : Type 0 where
   pub number : ℕ
   pub first : ℕ
@@ -20,7 +20,7 @@ pub record Changing : Type 0 where
   pub checks : Bool
   pub pins : Bool
 
--- the change reads this volume, its base
+-- The change reads this volume, which is its base.
 pub record Reads (c : Changing) (base : State) : Type 0 where
   pub first : c.first ≡ base.next
   pub indices : c.indices ≡ index_kinds base
@@ -29,11 +29,11 @@ pub record Reads (c : Changing) (base : State) : Type 0 where
 abbrev pub After : Changing → State → (State → Type 0) → Type 0
 After c base P = IfOk (steps base c.ops) (λ r. P r.0)
 
--- the change with one more operation
+-- The change with one more operation.
 abbrev pub with_op : Changing → Op → Changing
 with_op c op = record c { ops = c.ops ++ op ∷ [] }
 
--- an operation's outcome, if the next node has this number
+-- The outcome of an operation, if the next node has this number.
 abbrev pub outcome : Op → ℕ → Done
 outcome New next = Node next
 outcome (Drop node) next = Nothing
@@ -42,7 +42,7 @@ outcome (Unset node name) next = Nothing
 outcome (MkIndex name kind) next = Nothing
 outcome (RmIndex name) next = Nothing
 
--- the outcomes of consecutive operations, if the first new node has this number
+-- The outcomes of consecutive operations, if the first new node has this number.
 abbrev pub outcomes : ℕ → List Op → List Done
 outcomes next [] = []
 outcomes next (op ∷ ops) = outcome op next ∷ outcomes (next_after op next) ops

@@ -14,17 +14,17 @@ abbrev pub HasNoRoom : Changing → CollectError → Type 0
 HasNoRoom c e = ((e ≡ TooMany) × (length c.ops ≡ 64))
     ⊎ ((e ≡ OutOfMemory) × (length c.ops < 64))
 
--- an index of this kind, or none, takes values of that kind
+-- If there is an index, its kind is that of the value.
 abbrev pub TakesKind : Option Kind → Kind → Type 0
 TakesKind index kind = (indexed : Kind) → index ≡ Some indexed → indexed ≡ kind
 
--- the index of this name, if there is one, has this kind, as the collected operations leave it
+-- The index of this name, as the collected operations leave it, has this kind if it exists.
 abbrev pub IsOfRightKind : Changing → List ℕ → Kind → Type 0
 IsOfRightKind c name kind = (base : State) → Reads c base
     → TakesKind (index_kind_left base c.ops name) kind
 
--- The change checks kinds, and the index of this name takes values of another kind, as the
--- collected operations leave it.
+-- The change checks kinds, and the index of this name, as the collected operations leave it, takes
+-- values of another kind.
 abbrev pub IsOfWrongKind : Changing → List ℕ → Kind → CollectError → Type 0
 IsOfWrongKind c name kind e = (indexed : Kind) × (e ≡ WrongKind indexed kind)
     × (indexed ≢ kind) × (c.checks ≡ true)

@@ -19,12 +19,12 @@ abbrev pub are_checked : Kinds → Bool
 are_checked Checked = true
 are_checked Unchecked = false
 
--- the pass is pinned to the change's snapshot, and the change reads what the pass reads
+-- The pass is pinned to the change's snapshot, and the change reads what the pass reads.
 abbrev pub IsChangeOf : Changing → Knowledge → Type 0
 IsChangeOf change a = IsPinnedTo a change.number × Reads change (volume_pinned a)
 
--- A change that has collected nothing, and that checks kinds or not, as stated. Either its pass has
--- read at the pin that it had; or the pass wasn't pinned, and is now.
+-- A change that has collected nothing and that checks kinds if `checks` is true. Either its pass
+-- was pinned before and has only read, or its pass wasn't pinned before and is pinned now.
 pub record Begins (change : Changing) (checks : Bool) (a c : Knowledge) : Type 0 where
   pub of : IsChangeOf change c
   pub empty : change.ops ≡ []
@@ -32,37 +32,38 @@ pub record Begins (change : Changing) (checks : Bool) (a c : Knowledge) : Type 0
   pub pass : ((change.pins ≡ false) × HasRead a c)
       ⊎ ((change.pins ≡ true) × (b : Knowledge) × Pins a b change.number × HasRead b c)
 
--- A change that wasn't begun leaves the pass pinned or not, as before. It may have pinned and
--- unpinned it.
+-- A change that wasn't begun leaves the pass pinned or unpinned as before. The pass may have been
+-- pinned and unpinned again.
 abbrev pub IsNotBegun : Knowledge → Knowledge → Type 0
 IsNotBegun a d = HasRead a d
     ⊎ ((n : ℕ) × (b c : Knowledge) × Pins a b n × HasRead b c × Unpins c d)
 
--- What was written, with this commit number. If nothing was collected, it is nothing. Otherwise it
--- is exactly the collected operations, on exactly what was read, as the next entry after the
--- snapshot. Their outcomes are those that the change had given, so new nodes have the numbers that
--- it gave.
+-- What was written with this commit number. If nothing was collected, nothing was written.
+-- Otherwise exactly the collected operations were written, on exactly what was read, as the next
+-- entry after the snapshot. Their outcomes are those that the change gave, so new nodes have the
+-- numbers that it returned.
 abbrev pub Wrote : Changing → (a c : Knowledge) → ℕ → Type 0
 Wrote change a c n = ((change.ops ≡ []) × (c ≡ a) × (n ≡ change.number))
     ⊎ ((1 ≤ length change.ops) × (dones : List Done)
     × AcceptsAt a c change.number change.ops n dones
     × (IsChangeOf change a → dones ≡ outcomes change.first change.ops))
 
--- How a change ends, before its pin is released, if it is tried up to `tries` times while another
--- pass holds the lock. If another write came in between, nothing is written, the journal's length
--- is returned, and the change has to be made again. If it is refused, nothing is written either.
+-- How a change ends, before its pin is released, if it is attempted up to `tries` times while
+-- another pass holds the lock. If another write was made in the meantime, nothing is written, the
+-- journal's length is returned, and the change must be made again. If the change is refused,
+-- nothing is written either.
 abbrev pub Ends : ℕ → Changing → (a c : Knowledge) → Result Ended Refusal → Type 0
 Ends tries change a c (Ok (Accepted n)) = Wrote change a c n
 Ends tries change a c (Ok (Again found)) = IsConflict a c change.number found
 Ends tries change a c (Err e) = IsLastUnapplied tries a c change.number change.ops (Refused e)
 
--- how a change ends with a single try, before its pin is released
+-- How a change ends with a single attempt, before its pin is released.
 abbrev pub EndsOnce : Changing → (a c : Knowledge) → Result Ended Refusal → Type 0
 EndsOnce change a c (Ok (Accepted n)) = Wrote change a c n
 EndsOnce change a c (Ok (Again found)) = IsConflict a c change.number found
 EndsOnce change a c (Err e) = IsUnapplied a c change.number change.ops (Refused e)
 
--- a pin that the change made is released, and any other stays
+-- If the change made the pin, the pin is released. Any other pin remains in place.
 abbrev pub Releases : Bool → Knowledge → Knowledge → Type 0
 Releases true c d = Unpins c d
 Releases false c d = d ≡ c

@@ -1,4 +1,4 @@
-//! A change: the snapshot on which it is based, and the operations that it collects.
+//! A change, which is the snapshot on which it is based and the operations that it collects.
 ghost use Rattle.std.specs.Prelude.{◌≡◌, ◌⊎◌, ◌≤◌, ◌<◌, ◌+◌, ◌^◌, [], ◌∷◌, ◌++◌, true, IfOk, IfErr};
 ghost use Rattle.std.specs.Prelude.{OnOk, false, length, unwrap_or};
 ghost use Rattle.be_value.specs.Value.{kind_of};
@@ -17,19 +17,19 @@ use be_volume::Op;
 use std::alloc::Global;
 use std::marker::Model;
 
-/// The most operations of a change, because it is written as one transaction.
+/// The maximum number of operations in a change, which is written as one transaction.
 pub const MOST_OPERATIONS: usize = 64;
 
 /// What a program has read and will write: the number of a snapshot, and up to 64 operations to be
-/// written on it. Collecting an operation writes nothing.
+/// written on that snapshot. Collecting an operation writes nothing.
 ///
-/// A contract sees a `Changing`. What the operations leave of the snapshot's volume is stated for
-/// all volumes that the change may read (`Reads`) and that accept the operations (`After`).
+/// Contracts see a `Changing`. What the operations leave of the snapshot's volume is stated for
+/// every volume that the change may read (`Reads`) and that accepts the operations (`After`).
 #[derive(Drop)]
 pub struct Change {
     number: u64,
     first: u64,
-    /// How many nodes the operations make.
+    /// How many nodes the operations create.
     made: u64,
     /// The snapshot's indices.
     indices: Vec<(Name, Kind)>,
@@ -59,7 +59,7 @@ impl Model for Change {
 }
 
 impl Change {
-    /// A change that has collected nothing. `first` is the number that its first new node gets.
+    /// Creates a change that has collected nothing. `first` is the number of its first new node.
     pub(crate) fn new(
         alloc: Global,
         number: u64,
@@ -89,35 +89,35 @@ impl Change {
         }
     }
 
-    /// The snapshot's number.
+    /// Returns the snapshot's number.
     pub fn number(&self) -> u64
         ensures { result ≡ self.now.number }
     {
         self.number
     }
 
-    /// The number that the first new node gets.
+    /// Returns the number of the first new node.
     pub fn first_node(&self) -> u64
         ensures { result ≡ self.now.first }
     {
         self.first
     }
 
-    /// From now on, sets may have values of any kind.
+    /// Lets sets take values of any kind from now on.
     pub fn take_any_kind(&mut self)
         ensures { self.new ≡ record self.old { checks = false } }
     {
         self.checks_kinds = false;
     }
 
-    /// Whether the change has pinned its pass itself.
+    /// Returns whether the change itself has pinned its pass.
     pub(crate) fn pins(&self) -> bool
         ensures { result ≡ self.now.pins }
     {
         self.pins
     }
 
-    /// The collected operations, in order.
+    /// Returns the collected operations, in order.
     pub fn operations(&self) -> &[Op]
         ensures list { result.now ≡ self.now.ops }
         ensures few { length result.now ≤ 64 }
@@ -125,7 +125,8 @@ impl Change {
         self.ops.as_slice()
     }
 
-    /// Makes a node, and returns the number that it will have. TooMany; OutOfMemory.
+    /// Creates a node, and returns the number that it will have. Returns `TooMany` or `OutOfMemory`
+    /// on failure.
     pub fn new_node(&mut self) -> Result<u64, CollectError>
         ensures ok { OnOk result (self.new ≡ with_op self.old ops.New) }
         ensures given { IfOk result (λ node. outcomes self.new.first self.new.ops
@@ -139,7 +140,7 @@ impl Change {
         Ok(node)
     }
 
-    /// Removes a node and all its attributes. TooMany; OutOfMemory.
+    /// Removes a node and all its attributes. Returns `TooMany` or `OutOfMemory` on failure.
     pub fn remove_node(&mut self, node: u64) -> Result<(), CollectError>
         ensures ok { OnOk result (self.new ≡ with_op self.old (ops.Drop node)) }
         ensures err { IfErr result (λ e. (self.new ≡ self.old) × HasNoRoom self.old e) }
@@ -147,11 +148,11 @@ impl Change {
         self.collect(Op::Drop(node))
     }
 
-    /// Sets an attribute of a node, and replaces any value that it has.
+    /// Sets an attribute of a node, replacing any existing value.
     ///
-    /// WrongKind if the change checks kinds, and the index of this name takes values of another
-    /// kind, as the collected operations leave it; a name without an index takes any kind. TooMany;
-    /// OutOfMemory.
+    /// Returns `WrongKind` if the change checks kinds and the index of this name, as the collected
+    /// operations leave it, takes values of another kind. A name without an index takes any kind.
+    /// The other errors are `TooMany` and `OutOfMemory`.
     pub fn set(&mut self, node: u64, name: Name, value: Value) -> Result<(), CollectError>
         ensures ok { OnOk result (self.new ≡ with_op self.old (ops.Set node name value)) }
         ensures kind { OnOk result (self.old.checks ≡ true
@@ -163,7 +164,7 @@ impl Change {
         self.collect(Op::Set(node, name, value))
     }
 
-    /// Removes an attribute of a node. TooMany; OutOfMemory.
+    /// Removes an attribute of a node. Returns `TooMany` or `OutOfMemory` on failure.
     pub fn unset(&mut self, node: u64, name: Name) -> Result<(), CollectError>
         ensures ok { OnOk result (self.new ≡ with_op self.old (ops.Unset node name)) }
         ensures err { IfErr result (λ e. (self.new ≡ self.old) × HasNoRoom self.old e) }
@@ -171,7 +172,7 @@ impl Change {
         self.collect(Op::Unset(node, name))
     }
 
-    /// Makes an index, which is empty at first. TooMany; OutOfMemory.
+    /// Creates an index, which is empty at first. Returns `TooMany` or `OutOfMemory` on failure.
     pub fn make_index(&mut self, name: Name, kind: Kind) -> Result<(), CollectError>
         ensures ok { OnOk result (self.new ≡ with_op self.old (ops.MkIndex name kind)) }
         ensures err { IfErr result (λ e. (self.new ≡ self.old) × HasNoRoom self.old e) }
@@ -179,7 +180,7 @@ impl Change {
         self.collect(Op::MkIndex(name, kind))
     }
 
-    /// Removes an index. TooMany; OutOfMemory.
+    /// Removes an index. Returns `TooMany` or `OutOfMemory` on failure.
     pub fn remove_index(&mut self, name: Name) -> Result<(), CollectError>
         ensures ok { OnOk result (self.new ≡ with_op self.old (ops.RmIndex name)) }
         ensures err { IfErr result (λ e. (self.new ≡ self.old) × HasNoRoom self.old e) }
@@ -187,8 +188,8 @@ impl Change {
         self.collect(Op::RmIndex(name))
     }
 
-    /// The kind of the index of this name, as the collected operations leave it. It reads no page,
-    /// because the change knows the snapshot's indices.
+    /// Returns the kind of the index of this name, as the collected operations leave it. Reads no
+    /// page, because the change knows the snapshot's indices.
     pub fn index_kind(&self, name: &Name) -> Option<Kind>
         ensures left { (base : State) → Reads self.now base
             → result ≡ index_kind_left base self.now.ops name.now }
@@ -201,7 +202,8 @@ impl Change {
         }
     }
 
-    /// What the collected operations leave of an attribute, if one of them touches it.
+    /// Returns what the collected operations leave of an attribute, or `None` if none of them
+    /// affects it.
     pub(crate) fn left(&self, node: u64, name: &Name) -> Option<Option<Value>>
         ensures { (base : State) → Reads self.now base → After self.now base
             (λ s. attribute s node name.now ≡ unwrap_or result (attribute base node name.now)) }
@@ -209,8 +211,8 @@ impl Change {
         attribute_left(self.ops.as_slice(), self.first + self.made, node, name)
     }
 
-    /// WrongKind if the change checks kinds, and the index of this name takes values of another
-    /// kind.
+    /// Returns `WrongKind` if the change checks kinds and the index of this name takes values of
+    /// another kind.
     fn check_kind(&self, name: &Name, kind: Kind) -> Result<(), CollectError>
         ensures right { OnOk result (self.now.checks ≡ true
             → IsOfRightKind self.now name.now kind) }
@@ -225,7 +227,7 @@ impl Change {
         }
     }
 
-    /// Adds an operation, if there is room for one more.
+    /// Adds an operation if there is room for one more.
     fn collect(&mut self, op: Op) -> Result<(), CollectError>
         ensures ok { OnOk result (self.new ≡ with_op self.old op) }
         ensures err { IfErr result (λ e. (self.new ≡ self.old) × HasNoRoom self.old e) }

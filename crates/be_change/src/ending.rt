@@ -1,4 +1,4 @@
-//! How a change begins, reads and ends in a store.
+//! Begins changes, reads through them and ends them, in a store.
 ghost use Rattle.std.specs.Prelude.{◌≡◌, ◌≤◌, ℕ, [], None, IfErr, IfOk};
 ghost use Rattle.be_value.specs.declared.refusals.Refusal.TheVariants.{OutOfMemory};
 ghost use Rattle.be_volume.specs.Reading.{attribute};
@@ -15,19 +15,19 @@ use be_store::laws::seen_is_legal;
 use be_store::{ApplyIfError, Name, Pass, Refusal, Store, Value};
 use std::alloc::Global;
 
-/// How a change ended, if it wasn't refused.
+/// How a change ended, unless it was refused.
 #[derive(Clone, Copy, Debug, PartialEq, Eq)]
 pub enum Ended {
-    /// It was written with this commit number. A change that collected nothing writes nothing; the
-    /// number is then the snapshot's.
+    /// It was written with this commit number. A change that collected nothing writes nothing, and
+    /// the number is then that of the snapshot.
     Accepted(u64),
-    /// Another write came in between, and nothing was written: begin again, on a new snapshot. The
-    /// number is how many entries the journal has.
+    /// Another write was made in the meantime, and nothing was written. Begin again on a new
+    /// snapshot. The number is how many entries the journal has.
     Again(u64),
 }
 
-/// Whether a change refuses a value of another kind than the index of its name takes. The store
-/// would keep such an attribute, but no query on that name would find its node.
+/// Whether a change refuses a value whose kind isn't the one that the index of its name takes. The
+/// store would accept such an attribute, but no query on that name would find its node.
 #[derive(Clone, Copy, Debug, PartialEq, Eq)]
 pub enum Kinds {
     Checked,
@@ -43,11 +43,11 @@ impl Kinds {
 }
 
 impl Change {
-    /// Begins a change on the snapshot to which the pass is pinned. A pass that isn't pinned gets
-    /// pinned, and `end` unpins it.
+    /// Begins a change on the snapshot to which the pass is pinned. If the pass isn't pinned, this
+    /// call pins it, and `end` unpins it.
     ///
-    /// After OutOfMemory the pass is pinned or not, as before. It allocates memory for the list of
-    /// the snapshot's indices. Apart from the pin it costs two reads of the version page.
+    /// `OutOfMemory` leaves the pass pinned or unpinned as before. Memory is allocated for a list
+    /// of the snapshot's indices. Apart from the pin, the call costs two reads of the version page.
     pub fn begin(
         alloc: Global,
         store: &Store,
@@ -68,9 +68,9 @@ impl Change {
         }
     }
 
-    /// A node's attribute, as the collected operations leave it, if it has one. It searches for the
-    /// last operation that touches the attribute or its node, and reads the snapshot only if there
-    /// is none. No memory is allocated.
+    /// Returns an attribute of a node as the collected operations leave it, or `None` if the node
+    /// doesn't have it. The call searches for the last operation that affects the attribute or its
+    /// node, and reads the snapshot only if there is none. No memory is allocated.
     pub fn get(&self, store: &Store, pass: &mut Pass, node: u64, name: &Name) -> Option<Value>
         requires pass { IsPassOf store.now pass.old }
         requires pinned { (n : ℕ) × IsPinnedTo pass.old.knows n }
@@ -85,13 +85,13 @@ impl Change {
         }
     }
 
-    /// Writes the collected operations as one transaction, if no other write has come since the
-    /// snapshot. Unpins the pass if `begin` pinned it. While another pass holds the lock it tries
-    /// again, up to `tries` times in all, as `Store::apply_if_or_retry` does.
+    /// Writes the collected operations as one transaction, if no other write has been made since
+    /// the snapshot. Unpins the pass if `begin` pinned it. The call retries while another pass
+    /// holds the lock, for up to `tries` attempts in total, as `Store::apply_if_or_retry` does.
     ///
-    /// Errors are those of `Store::apply_if_or_retry` except Conflict: Busy; an error of the
-    /// snapshot after the operations before, from NoNode to NotIndexable; CommitsSpent;
-    /// OutOfMemory; Full. After an error nothing is written.
+    /// The errors are those of `Store::apply_if_or_retry` except `Conflict`: `Busy`; an error of
+    /// the snapshot after the preceding operations, from `NoNode` to `NotIndexable`;
+    /// `CommitsSpent`; `OutOfMemory`; `Full`. If the call fails, nothing is written.
     pub fn end(self, store: &Store, pass: &mut Pass, tries: u64) -> Result<Ended, Refusal>
         requires pass { IsPassOf store.now pass.old }
         requires pinned { (n : ℕ) × IsPinnedTo pass.old.knows n }
@@ -105,8 +105,8 @@ impl Change {
         ended
     }
 
-    /// Ends the change without writing, and unpins the pass if `begin` pinned it. A change that is
-    /// dropped leaves that pin.
+    /// Ends the change without writing, and unpins the pass if `begin` pinned it. Dropping a change
+    /// instead leaves that pin in place.
     pub fn abandon(self, store: &Store, pass: &mut Pass)
         requires pass { IsPassOf store.now pass.old }
         requires pinned { (n : ℕ) × IsPinnedTo pass.old.knows n }
@@ -117,7 +117,7 @@ impl Change {
     }
 }
 
-/// A change on the snapshot to which the pass is pinned.
+/// Creates a change on the snapshot to which the pass is pinned.
 fn at_pin(
     alloc: Global,
     store: &Store,
@@ -140,7 +140,7 @@ fn at_pin(
     Ok(Change::new(alloc, number, first, indices, checks_kinds, pins))
 }
 
-/// A change on the current snapshot, to which the pass gets pinned.
+/// Creates a change on the current snapshot, and pins the pass to it.
 fn at_new_pin(
     alloc: Global,
     store: &Store,
@@ -165,7 +165,7 @@ fn at_new_pin(
     }
 }
 
-/// Writes what the change has collected, if anything. The pin stays.
+/// Writes what the change has collected, if anything. Leaves the pin in place.
 fn write(change: &Change, store: &Store, pass: &mut Pass, tries: u64) -> Result<Ended, Refusal>
     requires pass { IsPassOf store.now pass.old }
     requires tries { 1 ≤ tries }
@@ -184,7 +184,7 @@ fn write(change: &Change, store: &Store, pass: &mut Pass, tries: u64) -> Result<
     }
 }
 
-/// Unpins the pass if the change had pinned it.
+/// Unpins the pass if the change pinned it.
 pub(crate) fn release(pins: bool, store: &Store, pass: &mut Pass)
     requires pass { IsPassOf store.now pass.old }
     requires pinned { (n : ℕ) × IsPinnedTo pass.old.knows n }

@@ -7,20 +7,20 @@ use std::alloc::AllocFailed;
 use std::error::Error;
 use std::fmt;
 
-/// Why an operation wasn't collected. The change is then as it was.
+/// The reason why an operation wasn't collected. The change is unchanged.
 #[derive(Clone, Copy, Debug, PartialEq, Eq)]
 pub enum CollectError {
-    /// The change has 64 operations, as many as a transaction may have.
+    /// The change has 64 operations, the maximum for a transaction.
     TooMany,
     /// The index of that name takes values of the first kind, and this value has the second. The
-    /// store would keep the attribute, but no query on its name would find the node.
+    /// store would accept the attribute, but no query on its name would find the node.
     WrongKind(Kind, Kind),
-    /// Memory ran out: the call may be made again.
+    /// Memory ran out. The call can be retried.
     OutOfMemory,
 }
 
 impl fmt::Display for CollectError {
-    /// What was wrong, and what would be right.
+    /// Says what was wrong, and what would be right.
     fn fmt<W: fmt::Write>(&self, f: &mut fmt::Formatter<W>) -> fmt::Result {
         match self {
             CollectError::TooMany => f.write_str("a change has at most 64 operations"),

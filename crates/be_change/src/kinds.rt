@@ -1,4 +1,5 @@
-//! Whether the sets of a list of operations have the kinds that the indices of their names take.
+//! Checks whether the sets in a list of operations have the kinds that the indices of their names
+//! take.
 ghost use Rattle.std.specs.Prelude.{◌≡◌, ℕ, IfErr, OnOk, length};
 ghost use Rattle.be_store.specs.Passes.{HasRead, IsPassOf, IsPinnedTo, volume_pinned};
 ghost use Rattle.be_change.specs.Comparing.{ComparesKinds, HaveRightKinds, IsFirstOfWrongKind};
@@ -9,19 +10,20 @@ use be_store::{Name, Pass, Store};
 use be_value::Kind;
 use be_volume::Op;
 
-/// A set whose value has another kind than the index of its name takes. The store would keep the
+/// A set whose value isn't of the kind that the index of its name takes. The store would accept the
 /// attribute, but no query on that name would find its node.
 #[derive(Clone, Copy, Debug, PartialEq, Eq)]
 pub struct KindMismatch {
-    /// The index of the operation in its list, from 0.
+    /// The index of the operation in its list, counting from 0.
     pub place: usize,
     /// The kind that the index takes.
     pub index: Kind,
 }
 
 /// Compares the kind of each set with that of the index of its name, and returns the first set that
-/// differs. The index is the pinned snapshot's, as the operations before the set leave it. A name
-/// without an index takes any kind. It reads the version page for each set; no memory is allocated.
+/// differs. The index is that of the pinned snapshot, as the operations before the set leave it. A
+/// name without an index takes any kind. Reads the version page once for each set and allocates no
+/// memory.
 pub fn check_kinds(store: &Store, pass: &mut Pass, ops: &[Op]) -> Result<(), KindMismatch>
     requires pass { IsPassOf store.now pass.old }
     requires pinned { (n : ℕ) × IsPinnedTo pass.old.knows n }
@@ -39,7 +41,7 @@ pub fn check_kinds(store: &Store, pass: &mut Pass, ops: &[Op]) -> Result<(), Kin
     Ok(())
 }
 
-/// The kind of the index of a set's name, if the value has another kind.
+/// Returns the kind of the index of a set's name if the value has another kind.
 fn other_kind(store: &Store, pass: &mut Pass, before: &[Op], op: &Op) -> Option<Kind>
     requires pass { IsPassOf store.now pass.old }
     requires pinned { (n : ℕ) × IsPinnedTo pass.old.knows n }
@@ -55,7 +57,7 @@ fn other_kind(store: &Store, pass: &mut Pass, before: &[Op], op: &Op) -> Option<
     }
 }
 
-/// The kind of the index of this name in the pinned snapshot, as the operations leave it.
+/// Returns the kind of the index of this name in the pinned snapshot, as the operations leave it.
 fn kind_left(store: &Store, pass: &mut Pass, ops: &[Op], name: &Name) -> Option<Kind>
     requires pass { IsPassOf store.now pass.old }
     requires pinned { (n : ℕ) × IsPinnedTo pass.old.knows n }

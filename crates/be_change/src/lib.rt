@@ -1,5 +1,5 @@
-//! Changes: a program reads a snapshot, collects operations, and writes them if no other write came
-//! in between.
+//! Changes: a program reads a snapshot, collects operations, and writes them if no other write was
+//! made in the meantime.
 #![tactic(auto)]
 
 mod changes;

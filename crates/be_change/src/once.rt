@@ -1,4 +1,4 @@
-//! Ending a change with a single try, for programs that may not wait for the writer.
+//! Ends a change with a single attempt, for programs that must not wait for the writer.
 ghost use Rattle.std.specs.Prelude.{◌≡◌, ℕ};
 ghost use Rattle.be_table.specs.declared.pass.Knowledge.{Knowledge};
 ghost use Rattle.be_store.specs.Passes.{IsPassOf, IsPinnedTo};
@@ -9,10 +9,10 @@ use crate::{Change, Ended};
 use be_store::{ApplyIfError, ArrayVec, Done, Pass, Refusal, Store};
 
 impl Change {
-    /// Ends the change as `end` does, with a single try. It doesn't yield to other threads, which
-    /// the library for C may not do. After Busy nothing is written and the change is gone: begin
-    /// again. The list gets the operations' outcomes, as from `Store::apply_if_into`, so a caller
-    /// can reuse one list.
+    /// Ends the change as `end` does, but with a single attempt. It doesn't yield to other threads,
+    /// which the library for C must not do. After `Busy`, nothing is written and the change is
+    /// gone, so begin again. The list receives the outcomes of the operations, as from
+    /// `Store::apply_if_into`, so that a caller can reuse one list.
     pub fn end_once(
         self,
         store: &Store,
@@ -31,7 +31,7 @@ impl Change {
     }
 }
 
-/// Writes what the change has collected, if anything. The pin stays.
+/// Writes what the change has collected, if anything. Leaves the pin in place.
 fn write_once(
     change: &Change,
     store: &Store,

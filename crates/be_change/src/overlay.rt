@@ -1,4 +1,4 @@
-//! What collected operations leave of one attribute, and of the index of one name.
+//! Computes what collected operations leave of one attribute, and of the index of one name.
 ghost use Rattle.std.specs.Prelude.{◌≡◌, ◌≤◌, ◌+◌, IsOk, count_by, true, unwrap_or};
 ghost use Rattle.be_volume.specs.Ahead.{next_after, state_after};
 ghost use Rattle.be_volume.specs.Reading.{attribute, index_kind, index_kinds};
@@ -8,9 +8,9 @@ ghost use Rattle.be_change.specs.Left.{index_kind_left, index_left_by, is_new, l
 use be_value::{Kind, Name, Value};
 use be_volume::Op;
 
-/// What the operations leave of the attribute, if one of them touches it. The last one that sets or
-/// removes it, or makes or removes its node, decides. The next node after all of them would be
-/// `next`.
+/// Returns what the operations leave of the attribute, or `None` if none of them affects it. The
+/// last operation that sets or removes the attribute, or creates or removes its node, determines
+/// the result. `next` is the number of the next node after all operations.
 pub(crate) fn attribute_left(ops: &[Op], next: u64, node: u64, name: &Name) -> Option<Option<Value>>
     requires made { count_by is_new ops.now ≤ next }
     ensures { (base : State) → next ≡ base.next + count_by is_new ops.now
@@ -28,7 +28,7 @@ pub(crate) fn attribute_left(ops: &[Op], next: u64, node: u64, name: &Name) -> O
     None
 }
 
-/// The next node's number before the operation, given the number after it.
+/// Returns the number of the next node before the operation, given the number after it.
 fn number_before(op: &Op, next: u64) -> u64
     requires { is_new op.now ≡ true → 1 ≤ next }
     ensures { next ≡ next_after op.now result }
@@ -39,8 +39,8 @@ fn number_before(op: &Op, next: u64) -> u64
     }
 }
 
-/// What the operation leaves of the attribute, if it touches it. A node that it makes has the
-/// number `next`.
+/// Returns what the operation leaves of the attribute, or `None` if it doesn't affect it. A node
+/// that the operation creates has the number `next`.
 fn left_by(op: &Op, next: u64, node: u64, name: &Name) -> Option<Option<Value>>
     ensures { result ≡ left_by op.now next node name.now }
 {
@@ -55,7 +55,8 @@ fn left_by(op: &Op, next: u64, node: u64, name: &Name) -> Option<Option<Value>>
     }
 }
 
-/// The kind of the index of this name after the operations, if one of them makes or removes it.
+/// Returns the kind of the index of this name after the operations, or `None` if none of them
+/// creates or removes it.
 pub(crate) fn index_left(ops: &[Op], name: &Name) -> Option<Option<Kind>>
     ensures { (base : State) → index_kind_left base ops.now name.now
         ≡ unwrap_or result (index_kind base name.now) }
@@ -68,7 +69,8 @@ pub(crate) fn index_left(ops: &[Op], name: &Name) -> Option<Option<Kind>>
     None
 }
 
-/// The kind of the index of this name after the operation, if the operation makes or removes it.
+/// Returns the kind of the index of this name after the operation, or `None` if the operation
+/// doesn't create or remove it.
 fn index_left_by(op: &Op, name: &Name) -> Option<Option<Kind>>
     ensures { result ≡ index_left_by op.now name.now }
 {
@@ -79,7 +81,7 @@ fn index_left_by(op: &Op, name: &Name) -> Option<Option<Kind>>
     }
 }
 
-/// The kind of the index of this name, among all indices of a volume.
+/// Returns the kind of the index of this name, given all indices of a volume.
 pub(crate) fn listed_kind(indices: &[(Name, Kind)], name: &Name) -> Option<Kind>
     ensures { (base : State) → indices.now ≡ index_kinds base → result
         ≡ index_kind base name.now }

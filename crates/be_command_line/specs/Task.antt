@@ -9,16 +9,16 @@ use Rattle.be_command_line.specs.declared.tasks.Task.TheVariants.{Shell}
 use Rattle.be_command_line.specs.declared.tasks.Task.TheVariants.{ShellWithJournal, Check, Dump}
 use Rattle.be_command_line.specs.declared.tasks.Task.TheVariants.{DumpState}
 
--- the limits with one pass, whatever their own number of passes is
+-- The limits with one pass, regardless of their own number of passes.
 abbrev pub for_one : Limits → Limits
 for_one limits = record limits { passes = 1 }
 
--- limits within range, for a store with one pass
+-- These are limits within range for a store with one pass.
 abbrev pub AreForOne : Limits → Type 0
 AreForOne limits = IsWithin limits × (limits.passes ≡ 1)
 
 -- Pages and commits are within their ranges. A run and a shell have one pass. A race has at least
--- one script, and as many passes as scripts. Tasks that only read a file have no limits.
+-- one script, and one pass per script. Tasks that only read a file have no limits.
 abbrev pub IsTask : Task → Type 0
 IsTask (Run file limits) = AreForOne limits
 IsTask (RunWithJournal file limits) = AreForOne limits

@@ -14,11 +14,11 @@ use clap::error::ErrorKind;
 use clap::{Arg, ArgAction, ArgMatches, Command, Error, value_parser};
 use std::alloc::{AllocError, Global};
 
-/// The program's version. The library for C has its own in include/bestore.h, and c/test.sh
-/// compares the two.
+/// The version of the program. The library for C has its own version in include/bestore.h, and
+/// c/test.sh compares the two.
 const VERSION: &str = "0.4.0";
 
-/// The argument of all commands but `race`, as help shows it.
+/// The argument of all commands except `race`, as help shows it.
 const FILE: &str = "FILE";
 
 /// The option `--journal` of `run`, and of `shell`, where it takes a file.
@@ -33,7 +33,7 @@ const STATE: &str = "state";
 /// The arguments of `race`.
 const SCRIPT: &str = "SCRIPT";
 
-/// An option that takes a number in this range, with this default.
+/// Creates an option that takes a number in this range and has this default.
 fn number_option<'a>(
     alloc: Global,
     name: &'a str,
@@ -51,7 +51,7 @@ fn number_option<'a>(
         .default_value(default)
 }
 
-/// An option without a value.
+/// Creates an option without a value.
 fn flag<'a>(alloc: Global, name: &'a str, help: &'a str) -> Arg<'a> {
     Arg::new(alloc, name)
         .long(name)
@@ -59,7 +59,7 @@ fn flag<'a>(alloc: Global, name: &'a str, help: &'a str) -> Arg<'a> {
         .action(ArgAction::SetTrue)
 }
 
-/// A file that the command requires.
+/// Creates the argument for a file that the command requires.
 fn required_file<'a>(alloc: Global, help: &'a str) -> Arg<'a> {
     Arg::new(alloc, FILE)
         .help(help)
@@ -67,7 +67,7 @@ fn required_file<'a>(alloc: Global, help: &'a str) -> Arg<'a> {
         .action(ArgAction::Set)
 }
 
-/// The command with one more option or argument.
+/// Adds an option or argument to a command.
 fn with_arg<'a>(
     command: Result<Command<'a>, AllocError>,
     arg: Arg<'a>,
@@ -75,7 +75,7 @@ fn with_arg<'a>(
     command?.arg(arg)
 }
 
-/// The command with one more subcommand.
+/// Adds a subcommand to a command.
 fn with_subcommand<'a>(
     command: Result<Command<'a>, AllocError>,
     subcommand: Result<Command<'a>, AllocError>,
@@ -93,7 +93,7 @@ fn commits_option<'a>(alloc: Global) -> Arg<'a> {
     number_option(alloc, "commits", help, 1, 4294967295, "1000000")
 }
 
-/// A command with its files and the options for a store's limits.
+/// Creates a command with its files and the options for a store's limits.
 fn command<'a>(
     alloc: Global,
     name: &'a str,
@@ -106,7 +106,7 @@ fn command<'a>(
     with_arg(command, files)
 }
 
-/// The command `run`: a file, `--journal`, `--strict` and the limits.
+/// Creates the command `run`, with a file, `--journal`, `--strict` and the limits.
 fn run_command<'a>(alloc: Global) -> Result<Command<'a>, AllocError> {
     let file = required_file(alloc, "The script, a command a line; - is standard input");
     let about = "Run a script and print the reply to each line";
@@ -117,7 +117,7 @@ fn run_command<'a>(alloc: Global) -> Result<Command<'a>, AllocError> {
     with_arg(command, flag(alloc, STRICT, help))
 }
 
-/// The command `race`: the scripts and the limits.
+/// Creates the command `race`, with the scripts and the limits.
 fn race_command<'a>(alloc: Global) -> Result<Command<'a>, AllocError> {
     let scripts = Arg::new(alloc, SCRIPT)
         .help("The scripts, two to four; - is standard input, once")
@@ -132,7 +132,7 @@ fn race_command<'a>(alloc: Global) -> Result<Command<'a>, AllocError> {
     )
 }
 
-/// The option of `shell` that names the file for the journal.
+/// Creates the option of `shell` that names the file for the journal.
 fn journal_option<'a>(alloc: Global) -> Arg<'a> {
     Arg::new(alloc, JOURNAL)
         .long(JOURNAL)
@@ -141,7 +141,7 @@ fn journal_option<'a>(alloc: Global) -> Arg<'a> {
         .action(ArgAction::Set)
 }
 
-/// The command `shell`: an optional file, `--journal` with a file, and the limits.
+/// Creates the command `shell`, with an optional file, `--journal` with a file, and the limits.
 fn shell_command<'a>(alloc: Global) -> Result<Command<'a>, AllocError> {
     let file = Arg::new(alloc, FILE)
         .help("Lines that are run first")
@@ -150,7 +150,7 @@ fn shell_command<'a>(alloc: Global) -> Result<Command<'a>, AllocError> {
     with_arg(command(alloc, "shell", about, file), journal_option(alloc))
 }
 
-/// A command whose only argument is a journal's file.
+/// Creates a command whose only argument is the file of a journal.
 fn journal_command<'a>(
     alloc: Global,
     name: &'a str,
@@ -169,7 +169,7 @@ fn check_command<'a>(alloc: Global) -> Result<Command<'a>, AllocError> {
     )
 }
 
-/// The command `dump`: the file of a journal, and `--state`.
+/// Creates the command `dump`, with the file of a journal and `--state`.
 fn dump_command<'a>(alloc: Global) -> Result<Command<'a>, AllocError> {
     let about = "Print the script that makes a journal's writes again";
     let help = "Print a script that makes its last state alone, and not its history";
@@ -177,7 +177,7 @@ fn dump_command<'a>(alloc: Global) -> Result<Command<'a>, AllocError> {
     with_arg(journal_command(alloc, "dump", about), state)
 }
 
-/// The program without its commands.
+/// Creates the program without its commands.
 fn program<'a>(alloc: Global) -> Command<'a> {
     Command::new(alloc, "bestore")
         .about(
@@ -187,7 +187,7 @@ fn program<'a>(alloc: Global) -> Command<'a> {
         .subcommand_required(true)
 }
 
-/// The program with all commands, in the order in which help lists them.
+/// Creates the program with all commands, in the order in which help lists them.
 fn commands<'a>(alloc: Global) -> Result<Command<'a>, AllocError> {
     let command = with_subcommand(Ok(program(alloc)), run_command(alloc));
     let command = with_subcommand(command, race_command(alloc));
@@ -196,7 +196,7 @@ fn commands<'a>(alloc: Global) -> Result<Command<'a>, AllocError> {
     with_subcommand(command, dump_command(alloc))
 }
 
-/// The task that the words request, given the program with all its commands.
+/// Returns the task that the words request, given the program with all its commands.
 fn task_by<'a>(
     alloc: Global,
     command: &mut Command<'a>,
@@ -211,9 +211,9 @@ fn task_by<'a>(
     }
 }
 
-/// Reads the words of a command line, which begin with the program's name. An error is `clap`'s.
-/// Its kind says whether it is a request for help or the version, an invalid command line, or out
-/// of memory.
+/// Parses the words of a command line, which start with the name of the program. The errors are
+/// those of `clap`. The kind of the error says whether help or the version was requested, the
+/// command line is invalid, or memory ran out.
 pub fn task<'a>(alloc: Global, words: &'a [&'a str]) -> Result<Task, Error>
     ensures { IfOk result IsTask }
 {
@@ -221,7 +221,8 @@ pub fn task<'a>(alloc: Global, words: &'a [&'a str]) -> Result<Task, Error>
     task_by(alloc, &mut command, words)
 }
 
-/// The limits of a store with one pass, if they are within their ranges, which `clap` has checked.
+/// Returns the limits of a store with one pass if they are within their ranges, which `clap` has
+/// checked.
 fn limits_of(matches: &ArgMatches) -> Option<Limits>
     ensures { IfSome result AreForOne }
 {
@@ -242,7 +243,7 @@ fn limits_of(matches: &ArgMatches) -> Option<Limits>
     Some(limits)
 }
 
-/// The value of an option or argument that takes one, if it is given.
+/// Returns the value of an option or argument that takes one, if it is given.
 fn value_of(alloc: Global, matches: &ArgMatches, name: &str) -> Result<Option<String>, AllocError> {
     match matches.get_strs(name).unwrap_or(&[]).first() {
         Some(value) => Ok(Some(String::from_str(alloc, value)?)),
@@ -250,12 +251,12 @@ fn value_of(alloc: Global, matches: &ArgMatches, name: &str) -> Result<Option<St
     }
 }
 
-/// The name of the one file, if there is one.
+/// Returns the file's name, if there is one.
 fn file_of(alloc: Global, matches: &ArgMatches) -> Result<Option<String>, AllocError> {
     value_of(alloc, matches, FILE)
 }
 
-/// The names of the files of a race.
+/// Returns the names of the files of a race.
 fn files_of(alloc: Global, matches: &ArgMatches) -> Result<Vec<String>, AllocError> {
     let mut files = Vec::new(alloc);
     for file in matches.get_strs(SCRIPT).unwrap_or(&[]) {
@@ -264,8 +265,8 @@ fn files_of(alloc: Global, matches: &ArgMatches) -> Result<Vec<String>, AllocErr
     Ok(files)
 }
 
-/// The task of `run`, according to its two flags. `None` if the file is missing or a limit is out
-/// of range.
+/// Returns the task of `run` according to its two flags, or `None` if the file is missing or a
+/// limit is out of range.
 fn run_task(alloc: Global, matches: &ArgMatches) -> Result<Option<Task>, AllocError>
     ensures { IfOk result (λ task. IfSome task IsTask) }
 {
@@ -283,8 +284,8 @@ fn run_task(alloc: Global, matches: &ArgMatches) -> Result<Option<Task>, AllocEr
     }
 }
 
-/// The task of `race`, with a pass for each script. `None` if there is no script or a limit is out
-/// of range.
+/// Returns the task of `race` with a pass for each script, or `None` if there is no script or a
+/// limit is out of range.
 fn race_task(alloc: Global, matches: &ArgMatches) -> Result<Option<Task>, AllocError>
     ensures { IfOk result (λ task. IfSome task IsTask) }
 {
@@ -334,8 +335,8 @@ fn dump_task(alloc: Global, matches: &ArgMatches) -> Result<Option<Task>, AllocE
     }
 }
 
-/// The task of the given command, if there is one and its values are within their ranges, which
-/// `clap` has checked.
+/// Returns the task of the given command, if there is one and its values are within their ranges,
+/// which `clap` has checked.
 fn task_of(alloc: Global, matches: &ArgMatches) -> Result<Option<Task>, AllocError>
     ensures { IfOk result (λ task. IfSome task IsTask) }
 {

@@ -1,4 +1,4 @@
-//! bestore's command line: its words, and the task that they request.
+//! The command line of bestore: its words, and the task that they request.
 #![tactic(auto)]
 
 mod command_line;

@@ -1,6 +1,7 @@
-//! Command lines and the tasks that they request, by the public call.
+//! Command lines and the tasks that they request, tested through the public call.
 //!
-//! They have a crate of their own, so that be_command_line isn't proved a second time with them.
+//! The tests are in a separate crate, so that checking them doesn't prove be_command_line a second
+//! time.
 #![tactic(auto)]
 
 #[cfg(test)]

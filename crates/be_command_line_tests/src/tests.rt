@@ -1,13 +1,14 @@
-//! Command lines, each in a line `WORDS => TASK`. The task is its command, its pages, passes and
-//! commits, and its files in order; or the kind of the error. If memory runs out, a command line is
-//! read again, so each test passes even if any one request for memory is refused.
+//! Command lines, in lines `WORDS => TASK`. The task is given as its command, its pages, passes and
+//! commits, and its files in order; an invalid command line is given as the kind of its error. If
+//! memory runs out, a command line is read again, so each test passes even if any single request
+//! for memory is refused.
 use be_command_line::{Task, task};
 use clap::Error;
 use clap::error::ErrorKind;
 use std::alloc::{AllocError, Global};
 use std::test::Fail;
 
-/// A task's pages, passes and commits; zeros if it has no store.
+/// A task's pages, passes and commits, or zeros if it has no store.
 fn numbers(task: &Task) -> (u64, u64, u64) {
     let limits = match task {
         Task::Run(_, limits) | Task::RunWithJournal(_, limits) => limits,
@@ -35,8 +36,8 @@ fn name_of(task: &Task) -> &'static str {
     }
 }
 
-/// A task's file at this place, if it has that many. A shell's first file is the one for the
-/// journal.
+/// A task's file at this position, if it has that many files. A shell's first file is the
+/// journal's.
 fn file_at(task: &Task, place: usize) -> Option<&str> {
     match task {
         Task::Run(file, _) | Task::RunWithJournal(file, _) if place == 0 => Some(file.as_str()),
@@ -76,7 +77,7 @@ fn fault_text(alloc: Global, fault: &Error) -> Option<String> {
     format!(in alloc; "{kind:?}").ok()
 }
 
-/// The program's name, and the words of a line.
+/// The program's name, followed by the words of a line.
 fn words_of(alloc: Global, line: &str) -> Result<Vec<&str>, AllocError> {
     let mut words = Vec::new(alloc);
     words.push("bestore")?;
@@ -97,7 +98,7 @@ fn text_of(alloc: Global, line: &str) -> Option<String> {
     }
 }
 
-/// Fails unless each command line has the task or the error in its row.
+/// Fails unless each command line has the task or error in its row.
 fn check_tasks(alloc: Global, lines: &str) -> Result<(), Fail> {
     for line in lines.lines() {
         let (words, expected) = line.split_once(" => ").unwrap_or((line, ""));
@@ -113,9 +114,10 @@ fn check_tasks(alloc: Global, lines: &str) -> Result<(), Fail> {
     Ok(())
 }
 
-/// With and without the defaults, and options before and after the files. Here `-` is the name of a
-/// file, and so are names of commands. A race has a pass for each script; how many there may be
-/// isn't checked here. Tasks that only read a journal's file have no limits.
+/// Command lines with and without the defaults, and with options before and after the files. Here
+/// `-` and the names of commands occur as names of files. A race has a pass for each script; the
+/// allowed number of scripts isn't checked here. Tasks that only read a journal's file have no
+/// limits.
 #[test]
 fn tasks(rt: HostRuntime) -> Result<(), Fail> {
     let lines = "run f => run 1024 1 1000000 f
@@ -146,7 +148,7 @@ race b --pages 64 a --commits 9 b => race 64 3 9 b a b";
     check_tasks(rt.alloc(), lines)
 }
 
-/// Command lines that are invalid, each with the kind of its error.
+/// Invalid command lines, each with the kind of its error.
 #[test]
 fn faults(rt: HostRuntime) -> Result<(), Fail> {
     let lines = "run --pages 7 f => ValueValidation

@@ -1,4 +1,4 @@
--- Whether an event is allowed can be decided, so each schedule has a run.
+-- Whether an event is allowed is decidable, so each schedule has a run.
 use Rattle.std.proofs.Common.{◌≡◌, ◌≢◌, ℕ, zero, suc, ◌<◌, Bool, true, false, ◌||◌, List, [], ◌∷◌, All, AllPairs, Option, Some, None, IsTrue, IsFalse, arith, refl, inl, inr, ◌⊎◌, not, ◌==◌, eq-eqb}
 use Rattle.std.proofs.lemmas.Bool.Decides.{eqb_tells, leb_tells}
 use Rattle.be_core.specs.declared.event.Event.{Event}

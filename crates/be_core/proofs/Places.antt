@@ -97,7 +97,7 @@ update-same f a b = elim (eqb_tells a a) [ inl y ↦ rw y.0 refl | inr n ↦ abs
 pub test-other : (k a : ℕ) → (k ≡ a → ⊥) → (k == a) ≡ false
 test-other k a h = elim (eqb_tells k a) [ inl y ↦ absurd (h y.1) | inr n ↦ n.0 ]
 
--- a page of the current version is neither free, taken nor retired
+-- a page of the current version is neither free nor taken nor retired
 pub current-alone : (w : World) → Sound w → (p : ℕ) → IsTrue (w.reach w.current p) → IsFalse (w.free p) × IsFalse (w.taken p) × IsFalse (is_some (w.retired p))
 current-alone w s p r = only_last _ _ _ _ (rw r at (s.partition p))
 
@@ -108,7 +108,7 @@ current-keeps w s p r = let a = current-alone w s p r in (a.0, a.1, (λ q e. abs
 pub only : {X : Type 0} (x y : X) (P : X → Type 0) → Some x ≡ Some y → P x → P y
 only x y P e h = let e' : x ≡ y = cc in subst P e' h
 
--- a retired number, once the pages in a list are retired with the number c
+-- a page's retirement number after the listed pages are retired with the number c
 pub after_giving : (P : ℕ → Type 0) (g : Bool) (c r : ℕ) (o : Option ℕ) → (if g then Some c else o) ≡ Some r → (IsTrue g → P c) → (o ≡ Some r → P r) → P r
 after_giving P true c r o e new old = only c r P e (new refl)
 after_giving P false c r o e new old = old e
@@ -116,7 +116,8 @@ after_giving P false c r o e new old = old e
 pub lt-test : (a b : ℕ) → a < b → IsTrue (nat_lt a b)
 lt-test a b h = elim (leb_tells (suc a) b) [ inl y ↦ y.0 | inr n ↦ absurd (omega (arith, n.1)) ]
 
--- a page that the current version doesn't reach, and that is retired only with a number below l, is free or taken
+-- a page that the current version doesn't reach, and that is retired only with a number below l, is
+-- free or taken
 pub left_over : (f t v b : Bool) (o : Option ℕ) (l : ℕ) → bit f + bit t + bit (is_some o) + bit v ≡ bit b → IsTrue b → IsFalse v
     → ((r : ℕ) → o ≡ Some r → r < l) → IsTrue ((f || is_below l o) || t)
 left_over true t v b o l h i u old = refl
@@ -127,7 +128,7 @@ left_over false false true b None l h i u old = absurd (cc)
 left_over false false false true None l h i u old = absurd (omega arith)
 left_over false false false false None l h i u old = absurd (cc)
 
--- what holds of each number in a list holds of a member
+-- what holds of each number in a list holds of each member
 pub at_member : (P : ℕ → Type 0) (given : List ℕ) (p : ℕ) → All P given → IsTrue (has given p) → P p
 at_member P [] p all h = absurd (cc)
 at_member P (q ∷ qs) p all h = elim (eqb_tells q p) [

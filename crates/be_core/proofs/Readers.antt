@@ -1,4 +1,4 @@
--- A reader's events keep the invariant.
+-- A reader's events preserve the invariant.
 use Rattle.std.proofs.Common.{◌≡◌, ℕ, ◌<◌, ◌≤◌, Some, IsTrue, IsFalse, arith, refl, ◌∙◌, inl, inr, subst, le_refl}
 use Rattle.std.proofs.lemmas.Bool.Decides.{eqb_tells}
 use Rattle.be_core.specs.declared.event.Phase.{Phase}
@@ -6,7 +6,7 @@ use Rattle.be_core.specs.declared.event.Phase.TheVariants.{Idle, Looked, Announc
 use Rattle.be_core.specs.Machine.{World, Writer, update, to, Sound, InTime, KeepsPinned, phase_after_look, after_look, after_announce, after_look_again, after_unpin, MayLook, MayAnnounce, MayLookAgain, MayUnpin}
 use Rattle.be_core.proofs.Places.{current-keeps}
 
--- a fact about each phase, once one phase is changed
+-- a fact about each phase after one phase has changed
 each_phase : (P : ℕ → Phase → Type 0) (f : ℕ → Phase) (k0 : ℕ) (phase : Phase) → P k0 phase → ((k : ℕ) → P k (f k)) → (k : ℕ) → P k (update f k0 phase k)
 each_phase P f k0 phase new old k = elim (eqb_tells k k0) [
   | inl y ↦ rw (y.0, y.1) new
@@ -34,7 +34,7 @@ module _ (w : World) (s : Sound w) (k0 : ℕ) (phase : Phase) where
   }
 
 module _ (w : World) (s : Sound w) (k : ℕ) where
-  -- a change to a phase that pins nothing keeps the invariant
+  -- a change to a phase that pins nothing preserves the invariant
   plain : (phase : Phase) → k < w.passes → InTime w.current phase → ((a n : ℕ) → phase ≡ Pinned a n → ⊥) → Sound (to w k phase)
   plain phase inside in_time unpinned = to-sound w s k phase inside in_time (λ a n p e r. absurd (unpinned a n e)) (λ h i o a n b e l. absurd (unpinned a n e))
 

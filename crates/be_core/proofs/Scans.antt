@@ -1,4 +1,4 @@
--- A scan keeps the invariant, and a whole scan leaves no unreached page retired.
+-- A scan preserves the invariant, and a whole scan leaves no unreached page retired.
 use Rattle.std.proofs.Common.{◌≡◌, ℕ, suc, ◌<◌, ◌≤◌, Bool, true, false, ◌||◌, ◌==◌, Option, Some, None, is_some, IsTrue, IsFalse, arith, refl, inl, inr, le_refl, if◌then◌else◌, eq-eqb}
 use Rattle.std.proofs.lemmas.Bool.Decides.{eqb_tells, leb_tells}
 use Rattle.be_core.specs.declared.event.Phase.{Phase}
@@ -8,7 +8,8 @@ use Rattle.be_core.specs.Laws.{LeavesNone}
 use Rattle.be_core.specs.Machine.{World, Writer, HasOpenWrite, Sound, MayScan, after_scan, scanned_by, lowest_after, lowest_with, is_below, swept, Unreached}
 use Rattle.be_core.proofs.Places.{swept_now, or_false, current-alone, only, test-other, left_over, lt-test}
 
--- the minimum after one more phase is at most the minimum before, and at most what a pinned pass announced
+-- the minimum after one more phase is at most the minimum before it, and at most what a pinned pass
+-- announced
 lowest-falls : (l : ℕ) (phase : Phase) → lowest_with l phase ≤ l
 lowest-falls l Idle = omega arith
 lowest-falls l (Looked a) = omega arith
@@ -29,7 +30,7 @@ still : (b : Bool) (o : Option ℕ) (r : ℕ) → (if b then None else o) ≡ So
 still true o r e = absurd (cc)
 still false o r e = e
 
--- a page that stays retired after a sweep has at least the number l
+-- a page that remains retired after a sweep has a number of at least l
 pub left_late : (o : Option ℕ) (l r : ℕ) → (if is_below l o then None else o) ≡ Some r → l ≤ r
 left_late None l r e = absurd (cc)
 left_late (Some q) l r e = elim (leb_tells (suc q) l) [
@@ -44,7 +45,8 @@ module _ (w : World) (s : Sound w) (h : Writer) (k j : ℕ) (writes : HasOpenWri
   lowest-in_time : lowest_after w h j ≤ w.current
   lowest-in_time = let a = lowest-falls (if j == 0 then w.current else h.least) (w.phases j) in let b = start-in_time in omega arith
 
-  -- once the j-th slot is read, the minimum is at most what a pass up to j announced, if it is pinned to an old version
+  -- after the j-th slot has been read, the minimum is at most what a pass up to j announced, if
+  -- that pass is pinned to an old version
   lowest-counts : (i a n : ℕ) → i < suc j → w.phases i ≡ Pinned a n → n < w.current → lowest_after w h j ≤ a
   lowest-counts i a n b e l = elim (eqb_tells i j) [
     | inl y ↦ rw (rw y.1 at e) (omega arith)
@@ -102,7 +104,7 @@ module _ (w : World) (s : Sound w) (h : Writer) (k j : ℕ) (writes : HasOpenWri
       writer_inside = λ g is. only _ g (λ g. g.pass < w.passes) is (s.writer_inside h writes.0);
     }
 
-    -- a page that no version from the minimum on reaches is free or taken
+    -- a page that isn't reached by any version from the minimum on is free or taken
     pub all_swept : (p : ℕ) → p < w.pages → Unreached w (lowest_after w h j) w.current p → IsTrue ((w.free p || is_below (lowest_after w h j) (w.retired p)) || w.taken p)
     all_swept p inside un = left_over _ _ _ _ (w.retired p) (lowest_after w h j) (s.partition p) (lt-test p w.pages inside) (un w.current lowest-in_time (le_refl w.current))
         (λ r e. elim (leb_tells (suc r) (lowest_after w h j)) [

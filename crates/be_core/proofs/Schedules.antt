@@ -1,4 +1,5 @@
--- The laws: the invariant holds at first and each event keeps it, so it holds after every schedule.
+-- The laws: the invariant holds at first and each event preserves it, so it holds after every
+-- schedule.
 use Rattle.std.proofs.Common.{◌≡◌, ℕ, suc, ◌+◌, ◌<◌, Bool, true, false, not, ◌&&◌, ◌==◌, nat_lt, List, [], ◌∷◌, IsTrue, IsFalse, refl, sym, inl, inr, subst}
 use Rattle.std.proofs.lemmas.Bool.Decides.{eqb_tells, leb_tells}
 use Rattle.be_core.specs.declared.event.Event.{Event}

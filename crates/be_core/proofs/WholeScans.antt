@@ -51,7 +51,8 @@ lowest_with-found l (Pinned a n) read = refl
 
 -- ## Between two scans
 
--- a writer that has begun a scan has read j slots and found the minimum l, and the current number is c
+-- a writer that is in the middle of a scan has read j slots and found the minimum l, and the
+-- current number is c
 abbrev Midway : ℕ → ℕ → ℕ → World → Type 0
 Midway c j l w = (h : Writer) → w.writer ≡ Some h → IsFalse h.published → 0 < h.scanned → (h.scanned ≡ j) × (h.least ≡ l) × (w.current ≡ c)
 
@@ -83,7 +84,7 @@ module _ (c j l : ℕ) where
 
 -- ## Over the scans
 
--- the writer has the minimum l, and keeps it while it writes until its next scan
+-- the writer has the minimum l, and keeps it until its next scan while it writes
 abbrev Found : ℕ → ℕ → ℕ → World → Type 0
 Found c j l w = Midway c j l w × ((h : Writer) × (w.writer ≡ Some h) × (h.least ≡ l))
 

@@ -1,4 +1,4 @@
--- The writer's events other than scans keep the invariant.
+-- The writer's events other than scans preserve the invariant.
 use Rattle.std.proofs.Common.{◌≡◌, ℕ, suc, ◌<◌, ◌≤◌, false, not, ◌&&◌, ◌||◌, ◌==◌, List, Some, None, IsTrue, IsFalse, arith, refl, sym, ◌∙◌, inl, inr, le_refl}
 use Rattle.std.proofs.lemmas.Bool.Decides.{eqb_tells}
 use Rattle.be_core.specs.declared.event.Phase.{Phase}
@@ -78,7 +78,7 @@ module _ (w : World) (s : Sound w) where
     writer_inside = s.writer_inside;
   }
 
-  -- a phase in time for one number is in time for the next
+  -- a phase that has no number above c has none above c + 1
   later : (c : ℕ) (phase : Phase) → InTime c phase → InTime (suc c) phase
   later c Idle h = tt
   later c (Looked a) h = omega arith

@@ -7,8 +7,8 @@ use Rattle.be_core.specs.declared.event.Phase.TheVariants.{Pinned}
 use Rattle.be_core.specs.Machine.{World, Writer, Run, Move, happens, first_state, Unreached}
 use Rattle.be_core.specs.Machine.{after_scan, MayScan, MayFill}
 
--- P holds after every schedule, from the first state of any size with at least one page, whatever
--- its words are
+-- P holds after every schedule, from the first state of any size with at least one page and with
+-- any words
 abbrev pub Always : (World → Type 0) → Type 0
 Always P = (pages passes commits : ℕ) (words : ℕ → ℕ → ℕ) (moves : List Move) (w : World) → 0
     < pages
@@ -19,8 +19,8 @@ abbrev pub FillsNoPinned : World → Type 0
 FillsNoPinned w = (k p i j a n : ℕ) → MayFill w k p i → w.phases j ≡ Pinned a n
     → IsFalse (w.reach n p)
 
--- After a scan of the last reader slot, each page that no version from the minimum on reaches is
--- free or taken
+-- After a scan of the last reader slot, each page that isn't reached by any version from the
+-- minimum on is free or taken
 abbrev pub LeavesNone : World → Event → World → Type 0
 LeavesNone w (Scan k j) w' = suc j ≡ w.passes → (h : Writer) → w'.writer ≡ Some h
     → (p : ℕ) → p < w'.pages → Unreached w' h.least w'.current p → IsTrue (w'.free p || w'.taken p)
@@ -37,6 +37,6 @@ LeavesNone w (Unlock k) w' = Unit {0}
 abbrev pub ScanLeavesNone : World → Type 0
 ScanLeavesNone w = (k j : ℕ) → MayScan w k j → LeavesNone w (Scan k j) (after_scan w j)
 
--- from every state, every list of events has a run
+-- every list of events has a run from every state
 abbrev pub EachScheduleRuns : Type 0
 EachScheduleRuns = (w : World) (events : List Event) → (w' : World) × Run w (map happens events) w'

@@ -32,15 +32,15 @@ ScansFrom w k j (a ∷ read) w' =
     × (a ≡ announced (mid.phases j))
     × ScansFrom (after_scan mid j) k (suc j) read w'
 
--- A whole scan that begins in w. The lock isn't released during it, since the first scan after a
+-- A whole scan that begins in w. The lock isn't released during it, because the first scan after a
 -- lock has number 0
 abbrev pub WholeScan : World → ℕ → List (Option ℕ) → World → Type 0
 WholeScan w k [] w' = ⊥
 WholeScan w k (a ∷ read) w' = MayScan w k 0 × (a ≡ announced (w.phases 0))
     × ScansFrom (after_scan w 0) k 1 read w'
 
--- a whole scan leaves the minimum of the number that was current when it began and the numbers it
--- read from reader slots
+-- a whole scan leaves the minimum of the number that was current when it began and the numbers that
+-- it read from reader slots
 abbrev pub FindsLowest : Type 0
 FindsLowest = (w w' : World) (k : ℕ) (read : List (Option ℕ)) → WholeScan w k read w'
     → (h : Writer) × (w'.writer ≡ Some h) × IsLowest h.least w.current read

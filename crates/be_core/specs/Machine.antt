@@ -18,8 +18,8 @@ pub record Writer : Type 0 where
   pub least : ℕ
   pub published : Bool
 
--- A state. `reach n` is the set of version n's pages, and `image n` the words that all pages had
--- when it was published. `retired p` is the number with which page p was retired
+-- A state. `reach n` is the set of version n's pages, and `image n` gives the words that all pages
+-- had when it was published. `retired p` is the number with which page p was retired
 pub record World : Type 0 where
   pub pages : ℕ
   pub passes : ℕ
@@ -140,7 +140,7 @@ after_lock w k = record w {
   taken = nowhere;
 }
 
--- the minimum, once the reader slot of a pass in this phase is read
+-- the minimum once the reader slot of a pass in this phase has been read
 abbrev pub lowest_with : ℕ → Phase → ℕ
 lowest_with l Idle = l
 lowest_with l (Looked a) = l
@@ -152,7 +152,7 @@ abbrev pub is_below : ℕ → Option ℕ → Bool
 is_below l None = false
 is_below l (Some r) = nat_lt r l
 
--- the state once each page that is retired with a number below l is freed
+-- the state once each page that was retired with a number below l has been freed
 abbrev pub swept : World → ℕ → World
 swept w l =
     record w {
@@ -160,18 +160,18 @@ swept w l =
       retired = λ p. if is_below l (w.retired p) then None else w.retired p;
     }
 
--- the minimum, once the j-th reader slot is read
+-- the minimum once the j-th reader slot has been read
 abbrev pub lowest_after : World → Writer → ℕ → ℕ
 lowest_after w h j = lowest_with (if j == 0 then w.current else h.least) (w.phases j)
 
--- the state once one more reader slot is read that isn't the last
+-- the state once a reader slot other than the last has been read
 abbrev pub scanned_on : World → Writer → ℕ → World
 scanned_on w h j = record w {
   writer = Some record h
       { scanned = suc j; least = lowest_after w h j };
 }
 
--- the state once the last reader slot is read
+-- the state once the last reader slot has been read
 abbrev pub scanned_out : World → Writer → ℕ → World
 scanned_out w h j = swept (record w {
   writer = Some record h
@@ -265,7 +265,7 @@ after_return w p = record w { taken = update w.taken p false; free = update w.fr
 
 -- ## Schedules
 
--- one entry of a schedule: an event, or a taken page that returns to the free ones
+-- one entry of a schedule: an event, or the return of a taken page to the free ones
 pub data Move : Type 0 where
   happens : Event → Move
   returns : ℕ → Move
@@ -290,11 +290,11 @@ abbrev pub set_count : World → ℕ → ℕ
 set_count w p = bit (w.free p) + bit (w.taken p) + bit (is_some (w.retired p))
     + bit (w.reach w.current p)
 
--- each page is in exactly one of the four sets, and nothing else is in any
+-- each page is in exactly one of the four sets, and nothing else is in any of them
 abbrev pub Partition : World → Type 0
 Partition w = (p : ℕ) → set_count w p ≡ bit (nat_lt p w.pages)
 
--- no page of a pinned version is free or taken, and its words are the version's
+-- no page of a pinned version is free or taken, and the words of each are the version's
 abbrev pub Protected : World → Type 0
 Protected w = (k a n p : ℕ) → w.phases k ≡ Pinned a n → IsTrue (w.reach n p)
     → IsFalse (w.free p) × IsFalse (w.taken p) × ((i : ℕ) → w.words p i ≡ w.image n p i)
@@ -303,15 +303,15 @@ Protected w = (k a n p : ℕ) → w.phases k ≡ Pinned a n → IsTrue (w.reach 
 abbrev pub Unreached : World → ℕ → ℕ → ℕ → Type 0
 Unreached w l c p = (n : ℕ) → l ≤ n → n ≤ c → IsFalse (w.reach n p)
 
--- a phase has no number above the current one
+-- the phase has no number above the current one
 abbrev pub InTime : ℕ → Phase → Type 0
 InTime c Idle = ⊤
 InTime c (Looked a) = a ≤ c
 InTime c (Announced a) = a ≤ c
 InTime c (Pinned a n) = (a ≤ n) × (n ≤ c)
 
--- what a pin to version n guarantees for page p: it is neither free nor taken, its words stay, and
--- it isn't retired with a number below n
+-- what a pin to version n guarantees for page p: the page is neither free nor taken, its words are
+-- preserved, and it isn't retired with a number below n
 abbrev pub KeepsPinned : World → ℕ → ℕ → Type 0
 KeepsPinned w n p = IsFalse (w.free p) × IsFalse (w.taken p)
     × ((r : ℕ) → w.retired p ≡ Some r → n ≤ r) × ((i : ℕ) → w.words p i ≡ w.image n p i)

@@ -12,7 +12,7 @@ use Rattle.be_core.specs.Machine as machine
 abbrev pub Images : Type 0
 Images = ℕ → ℕ → ℕ → ℕ
 
--- whether an event is allowed doesn't depend on the images, so these serve for that
+-- whether an event is allowed doesn't depend on the images, so these images suffice to decide it
 abbrev pub blank : Images
 blank n p i = 0
 
@@ -63,6 +63,6 @@ IsUnchanged old new = (image : Images) → shown new image ≡ shown old image
 abbrev pub page_count : State → ℕ
 page_count s = vec_len s.words
 
--- for some words of its versions, the state represents one in which the invariant holds
+-- with some words for its versions, the state represents one in which the invariant holds
 abbrev pub ShowsSound : State → Type 0
 ShowsSound s = (image : Images) × Sound (shown s image)

@@ -1,8 +1,7 @@
-//! An executable machine: it applies a list of events one by one, and returns whether each was
-//! allowed.
+//! An executable machine: it applies events one by one, and returns whether each was allowed.
 //!
 //! A `State` represents a state of the machine (`shown`). It doesn't keep the words of past
-//! versions, so `shown` takes those as an argument, and each clause holds for all of them.
+//! versions, so `shown` takes them as an argument, and each clause holds for any such words.
 ghost use Rattle.std.specs.Prelude.{◌≡◌, ◌≢◌, ℕ, suc, ◌+◌, ◌<◌, ◌≤◌, ◌^◌, vec_len, length};
 ghost use Rattle.std.specs.Prelude.{slice_index_or, false, ◌||◌, if◌then◌else◌};
 ghost use Rattle.std.specs.Prelude.{◌&&◌, not, All, AllPairs, IsTrue, IfOk, Vec, Bool, ◌∷◌, []};
@@ -46,7 +45,7 @@ pub struct State {
     ghost few: { commits < 2 ^ 32 },
 }
 
-/// Adds the members of another set to a set.
+/// Adds the members of `other` to `set`.
 fn add_all(set: &mut Vec<bool>, other: &Vec<bool>)
     requires { vec_len set.old ≡ vec_len other.now }
     ensures len { vec_len set.new ≡ vec_len set.old }
@@ -65,7 +64,7 @@ fn empty_set(alloc: Global, len: usize) -> Result<Vec<bool>, AllocError>
     Ok(vec![in alloc; false; len]?)
 }
 
-/// The pages of version 0: only page 0.
+/// Returns the pages of version 0: only page 0.
 fn first_row(alloc: Global, len: usize) -> Result<Vec<bool>, AllocError>
     requires { 0 < len }
     ensures len { IfOk result (λ row. vec_len row ≡ len) }
@@ -88,7 +87,7 @@ fn zero_pages(alloc: Global, len: usize) -> Result<Vec<[u64; 512]>, AllocError>
     Ok(words)
 }
 
-/// The pages that are free at first: all except page 0.
+/// Returns the pages that are free at first: all except page 0.
 fn first_free(alloc: Global, len: usize) -> Result<Vec<bool>, AllocError>
     requires { 0 < len }
     ensures len { IfOk result (λ free. vec_len free ≡ len) }
@@ -122,7 +121,7 @@ fn clear(set: &mut Vec<bool>)
     set.fill(false);
 }
 
-/// Frees each page that is retired with a number below the minimum.
+/// Frees each page that was retired with a number below the minimum.
 fn sweep(free: &mut Vec<bool>, retired: &mut Vec<Option<u64>>, least: u64)
     requires { vec_len free.old ≡ vec_len retired.old }
     ensures len_free { vec_len free.new ≡ vec_len free.old }
@@ -156,7 +155,7 @@ fn remove_all(set: &mut Vec<bool>, given: &[u64])
     }
 }
 
-/// Retires the given pages with a number.
+/// Retires the given pages with this number.
 fn retire(retired: &mut Vec<Option<u64>>, given: &[u64], number: u64)
     requires { All (λ p. p < vec_len retired.old) given.now }
     ensures len { vec_len retired.new ≡ vec_len retired.old }
@@ -197,9 +196,9 @@ impl State {
     ghost use Rattle.be_core.specs.Shown.{shown, MakesStep, ShowsSound, Images, blank, as_writer};
     ghost use Rattle.be_core.specs.Shown.{IsUnchanged, page_count};
 
-    /// The first state, with every word 0: version 0 has only page 0, and every other page is free.
-    /// The error is `BadLimits` outside 1 to 16,384 pages, 1 to 64 passes and 1 to 4,294,967,295
-    /// commits. A page costs 4 KiB.
+    /// Creates the first state, with every word 0: version 0 has only page 0, and every other page
+    /// is free. Fails with `BadLimits` unless there are 1 to 16,384 pages, 1 to 64 passes and 1 to
+    /// 4,294,967,295 commits. Each page costs 4 KiB of memory.
     pub fn new(alloc: Global, pages: u64, passes: u64, commits: u64) -> Result<State, Refusal>
         ensures first { IfOk result (λ s. shown s blank ≡ first_state pages passes commits zeros) }
         ensures size { IfOk result (λ s. page_count s ≡ pages) }
@@ -232,7 +231,7 @@ impl State {
         })
     }
 
-    /// The word at a place in a page.
+    /// Returns the word at place `i` of a page.
     pub fn word(&self, page: u64, i: usize) -> u64
         requires page_in { page < page_count self.now }
         requires place_in { i < 512 }
@@ -241,7 +240,7 @@ impl State {
         self.words[page as usize][i]
     }
 
-    /// The phase of pass k, or `None` if there is no such pass.
+    /// Returns the phase of pass k, or `None` if there is no such pass.
     fn phase(&self, k: u64) -> Option<Phase>
         ensures phase { IfSome result (λ phase. (k < vec_len self.now.phases)
             × (slice_index_or self.now.phases.items k Phase.Idle ≡ phase)) }
@@ -308,7 +307,7 @@ impl State {
         }
     }
 
-    /// Whether the version has the page.
+    /// Returns `true` if the version has the page.
     fn reaches(&self, version: u64, page: u64) -> bool
         ensures { result ≡ (shown self.now blank).reach version page }
     {
@@ -333,8 +332,8 @@ impl State {
         }
     }
 
-    /// Pass k takes the lock. It returns false, and changes nothing, if there is no such pass or
-    /// the lock is held.
+    /// Pass k takes the lock. Returns false and changes nothing if there is no such pass or the
+    /// lock is held.
     fn lock(&mut self, k: u64) -> bool
         ensures done { MakesStep self.old (λ w. MayLock w k) (λ w. after_lock w k) result self.new }
         ensures size { page_count self.new ≡ page_count self.old }
@@ -367,7 +366,7 @@ impl State {
         true
     }
 
-    /// Whether pass k holds the lock and hasn't published.
+    /// Returns `true` if pass k holds the lock and hasn't published.
     fn writes(&self, k: u64) -> bool
         ensures { IsTrue result ↔ ((h : machine.Writer) × HasOpenWrite (shown self.now blank) k h) }
     {
@@ -403,7 +402,7 @@ impl State {
         true
     }
 
-    /// The writer's state, if pass k may read the reader slot of pass j.
+    /// Returns the writer's state if pass k may read the reader slot of pass j.
     fn scanner(&self, k: u64, j: u64) -> Option<Writer>
         ensures some { IfSome result (λ h. (self.now.writer ≡ Some h)
             × MayScan (shown self.now blank) k j) }
@@ -418,7 +417,7 @@ impl State {
         }
     }
 
-    /// The minimum, once the reader slot of pass j is read.
+    /// Returns the minimum once the reader slot of pass j has been read.
     fn lowest_after(&self, h: Writer, j: u64) -> u64
         requires { j < vec_len self.now.phases }
         ensures { result ≡ machine.lowest_after (shown self.now blank) (as_writer h) j }
@@ -430,9 +429,9 @@ impl State {
         }
     }
 
-    /// The writer k reads the reader slot of pass j, the next one of its scan. After the last one,
-    /// it frees each page that is retired with a number below the minimum found. It returns false,
-    /// and changes nothing, if the step isn't allowed.
+    /// Writer k reads the reader slot of pass j, the next one in its scan. After the last one, it
+    /// frees each page that was retired with a number below the minimum found. Returns false and
+    /// changes nothing if the step isn't allowed.
     fn scan(&mut self, k: u64, j: u64) -> bool
         ensures done { MakesStep self.old (λ w. MayScan w k j) (λ w. after_scan w j) result
             self.new }
@@ -497,9 +496,9 @@ impl State {
         Ok(row)
     }
 
-    /// The writer k publishes a version: the current version's pages without the given ones, and
-    /// the pages that k took. It returns false, and changes nothing, if this isn't allowed. The
-    /// only error is `OutOfMemory`.
+    /// Writer k publishes a version: the current version's pages without the given ones, plus the
+    /// pages that k took. Returns false and changes nothing if this isn't allowed. The only error
+    /// is `OutOfMemory`.
     fn publish(&mut self, k: u64, version: u64, given: &[u64]) -> Result<bool, Refusal>
         ensures done { IfOk result (λ done. MakesStep self.old
             (λ w. MayPublish w k version given.now) (λ w. after_publish w given.now) done
@@ -546,16 +545,16 @@ impl State {
             Event::Unlock(k) => Ok(self.unlock(*k)),
         }
     }
-    /// Applies the event, and returns whether it was allowed. It isn't allowed if a page, a place
-    /// in a page or a pass is out of range. The only error is `OutOfMemory`, and only `Publish` can
-    /// return it.
+    /// Applies the event, and returns whether it was allowed. An event isn't allowed if it names a
+    /// page, a place in a page or a pass that is out of range. The only error is `OutOfMemory`, and
+    /// only `Publish` can return it.
     pub fn step(&mut self, event: &Event) -> Result<bool, Refusal>
         ensures done { IfOk result (λ done. MakesStep self.old (λ w. Allowed w event.now)
             (λ w. after_event w event.now) done self.new) }
         ensures err { OnErr result (IsUnchanged self.old self.new) }
         ensures memory { IsOkUnless result Refusal.OutOfMemory }
         ensures sound { ShowsSound self.old → ShowsSound self.new }
-        // a whole scan leaves no retired page that no version from the minimum on reaches
+        // a whole scan leaves a page retired only if some version from the minimum on reaches it
         ensures leaves_none { ShowsSound self.old
             → IfOk result (λ done. IsTrue done
             → LeavesNone (shown self.old blank) event.now (shown self.new blank)) }

@@ -14,7 +14,7 @@ use Rattle.be_entry_bytes.specs.Decoding.{◌>>=◌, op_at, set_at, unset_at, mk
 use Rattle.be_entry_bytes.proofs.Numbers.{number_again}
 use Rattle.be_entry_bytes.proofs.Values.{name_again, kind_again, value_again}
 
--- three parts and what comes after them
+-- three parts and the bytes after them
 regrouped : (a b c rest : List ℕ) → (a ++ (b ++ c)) ++ rest ≡ a ++ (b ++ (c ++ rest))
 regrouped a b c rest = append_assoc a (b ++ c) rest ∙ ap (λ x. a ++ x) (append_assoc b c rest)
 
@@ -94,7 +94,7 @@ entry_again by ops dones rest is =
       steps_again ops dones rest is.each is.of_ops is.of_outcomes,
     ) refl
 
--- an entry is its operations and outcomes, after its head
+-- an entry consists of its head, followed by its operations and outcomes
 pub entry_of_head : (bytes : List ℕ) (by count : ℕ) (rest : List ℕ) → Some (by, count, rest) ≡ head_at bytes → entry_at bytes ≡ (steps_at count rest >>= λ x. Some (by, x.0, x.1, x.2))
 unfolding entry_at
 entry_of_head bytes by count rest is = rw (sym is) refl
@@ -104,7 +104,7 @@ pub entry_of_none : (bytes : List ℕ) → None ≡ head_at bytes → None ≡ e
 unfolding entry_at
 entry_of_none bytes is = rw (sym is) refl
 
--- what is read from bytes that begin with an entry
+-- the result of reading bytes that begin with an entry
 pub read_written : {X E : Type 0} (view : X → ℕ × List Op × List Done × List ℕ) (result : Result (Option X) E) (bytes : List ℕ) → IfOk result (λ read. option_map view read ≡ entry_at bytes) →
     IfOk result (λ read. (by : ℕ) (ops : List Op) (dones : List Done) (rest : List ℕ) → CanBeEntry by ops dones → bytes ≡ entry_bytes by ops dones ++ rest → option_map view read ≡ Some (by, ops, dones, rest))
 read_written view (Ok read) bytes given = λ by ops dones rest can_be is. given ∙ ap entry_at is ∙ entry_again by ops dones rest can_be

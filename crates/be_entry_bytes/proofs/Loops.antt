@@ -1,4 +1,4 @@
--- Operations and their outcomes one after another, as loops read and write them.
+-- Operations and their outcomes, one after another, as loops read and write them.
 use Rattle.std.proofs.Common.{◌≡◌, ℕ, suc, ◌-◌, ◌+◌, ◌≤◌, ◌<◌, List, [], ◌∷◌, ◌++◌, length, drop, get_or, Some, None, refl, sym, ap, ◌∙◌, append_assoc, append-nil, add-one, drop-cons, length-append, arith}
 use Rattle.std.proofs.lemmas.List.{at_drop_all}
 use Rattle.std.specs.Option.{option_map}
@@ -8,7 +8,7 @@ use Rattle.be_volume.specs.declared.ops.Op.{Op}
 use Rattle.be_entry_bytes.specs.Encoding.{step_bytes, steps_bytes}
 use Rattle.be_entry_bytes.specs.Decoding.{◌>>=◌, step_at, steps_at, Found}
 
--- what was read before, and what is read after it
+-- what was read before, followed by what is read after it
 abbrev pub beyond : List Op → List Done → Option (List Op × List Done × List ℕ) → Option (List Op × List Done × List ℕ)
 beyond ops dones read = read >>= λ x. Some (ops ++ x.0, dones ++ x.1, x.2)
 
@@ -54,7 +54,7 @@ is_done ops dones count i bytes all long so_far =
     rw none (ap (λ (xs : List Op). Some (xs, dones ++ [], bytes)) (append-nil ops) ∙ ap (λ (xs : List Done). Some (ops, xs, bytes)) (append-nil dones)) in
     sym so_far ∙ last
 
--- the bytes after what was read
+-- the bytes after those that were read
 abbrev pub bytes_left : Option (List Op × List Done × List ℕ) → Option (List ℕ)
 bytes_left read = option_map (λ x. x.2) read
 
@@ -84,12 +84,12 @@ skip_is_done count i bytes all long so_far =
     let last : bytes_left (steps_at (count - i) bytes) ≡ Some bytes = rw none refl in
     sym so_far ∙ last
 
--- the bytes after an entry are those after its steps
+-- the bytes after an entry are the bytes after its steps
 pub left_of_entry : (by : ℕ) (read : Option (List Op × List Done × List ℕ)) → option_map (λ (x : Found). x.3) (read >>= λ x. Some (by, x.0, x.1, x.2)) ≡ bytes_left read
 left_of_entry by None = refl
 left_of_entry by (Some x) = refl
 
--- what remains of operations and their outcomes, from place i on
+-- the rest of the operations and their outcomes, from index i onward
 pub steps_left : (ops : List Op) (dones : List Done) (i : ℕ) (op : Op) (d : Done) → i < length ops → length dones ≡ length ops → op ≡ get_or ops i op →
     steps_bytes (drop i ops) (drop i dones) ≡ step_bytes op (get_or dones i d) ++ steps_bytes (drop (i + 1) ops) (drop (i + 1) dones)
 unfolding steps_bytes
@@ -103,7 +103,7 @@ pub none_left : (ops : List Op) (dones : List Done) (i : ℕ) → length ops ≤
 unfolding steps_bytes
 none_left ops dones i past = at_drop_all (λ xs. steps_bytes xs (drop i dones)) ops i past
 
--- one step fewer remains, and its bytes use up some of the capacity
+-- one step fewer remains, and its bytes use up part of the capacity
 pub record Stepped (ops : List Op) (dones : List Done) (i : ℕ) (step : List ℕ) : Type 0 where
   pub bytes : steps_bytes (drop i ops) (drop i dones) ≡ step ++ steps_bytes (drop (i + 1) ops) (drop (i + 1) dones)
   pub len : length (steps_bytes (drop i ops) (drop i dones)) ≡ length step + length (steps_bytes (drop (i + 1) ops) (drop (i + 1) dones))

@@ -1,4 +1,4 @@
--- A number that was written is read back, and so are bytes after their count.
+-- A number that was written is read back, and so are bytes that follow their count.
 use Rattle.std.proofs.Common.{◌≡◌, ℕ, ◌^◌, ◌<◌, Bool, true, false, nat_lt, nat_eq, List, ◌++◌, length, Some, refl, ap, ◌∙◌, append_assoc, arith}
 use Rattle.std.specs.Int.{Width, w16, w32, w64, byte_len, from_be_bytes, to_be_bytes}
 use Rattle.std.proofs.lemmas.Bool.{ltb-true, le-ltb, lt-ltb}
@@ -8,12 +8,13 @@ use Rattle.std.proofs.lemmas.Nat.{from_be_bytes-to_be_bytes_2, from_be_bytes-to_
 use Rattle.be_entry_bytes.specs.Encoding.{number_bytes, counted_bytes}
 use Rattle.be_entry_bytes.specs.Decoding.{fixed_at, number_at, below_at, counted_at}
 
--- the result of a test, either way
+-- a proof by cases on the result of a test
 pub choose : {P : Type 0} (b : Bool) → (b ≡ true → P) → (b ≡ false → P) → P
 choose true holds fails = holds refl
 choose false holds fails = fails refl
 
--- numbers of this width below the limit have the width's number of bytes, and are read back from them
+-- numbers of this width below the limit take the width's number of bytes, and are read back from
+-- them
 record Holds (w : Width) (limit : ℕ) : Type 0 where
   len : (n : ℕ) → length (to_be_bytes w n) ≡ byte_len w
   back : (n : ℕ) → n < limit → from_be_bytes w (to_be_bytes w n) ≡ n

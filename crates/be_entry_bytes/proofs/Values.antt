@@ -73,7 +73,7 @@ none_numbered (suc (suc (suc (suc (suc (suc zero)))))) none = absurd (none kinds
 none_numbered (suc (suc (suc (suc (suc (suc (suc zero))))))) none = absurd (none kinds.Ullg refl)
 none_numbered (suc (suc (suc (suc (suc (suc (suc (suc n)))))))) none = refl
 
--- the kind of a number is the one that be_value finds
+-- the kind with a number is the kind that be_value finds
 pub kind_found : (found : Option Kind) (n : ℕ) → IfSome found (λ kind. kind_number kind ≡ n) → IfNone found ((kind : Kind) → kind_number kind ≡ n → ⊥) → found ≡ kind_numbered n
 kind_found None n some none = none_numbered n none
 kind_found (Some kind) n some none = sym (kind_back kind) ∙ ap kind_numbered some

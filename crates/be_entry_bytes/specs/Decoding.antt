@@ -1,5 +1,5 @@
--- How an entry is read from its bytes, from left to right. Each step returns what it read and the
--- bytes after it.
+-- How an entry is read from its bytes, from left to right. Each step returns the item that it read
+-- and the bytes after it.
 use Rattle.std.specs.Prelude.{ℕ, zero, suc, ◌-◌, ◌^◌, List, [], ◌∷◌, length, take, drop, Some, None}
 use Rattle.std.specs.Prelude.{nat_lt, nat_eq, pos, negsuc, if◌then◌else◌}
 use Rattle.std.specs.Int.{Width, from_be_bytes, byte_len, w16, w32, w64}
@@ -26,7 +26,7 @@ abbrev pub first_at : List ℕ → Option (ℕ × List ℕ)
 first_at [] = None
 first_at (first ∷ rest) = Some (first, rest)
 
--- a number with as many bytes as the width
+-- a number with this width in bytes
 abbrev pub fixed_at : Width → List ℕ → Option (ℕ × List ℕ)
 fixed_at w bytes = if nat_lt (length bytes) (byte_len w) then None
     else Some (from_be_bytes w (take (byte_len w) bytes), drop (byte_len w) bytes)
@@ -50,7 +50,7 @@ counted_at bytes = do
   len ← number_at bytes
   if nat_lt (length len.1) len.0 then None else Some (take len.0 len.1, drop len.0 len.1)
 
--- the bytes as a text, if they are valid UTF-8
+-- the bytes as a string, if they are valid UTF-8
 abbrev pub text_in : List ℕ → Option (List ℕ)
 text_in bytes = if is_utf8 bytes then Some bytes else None
 
@@ -92,7 +92,7 @@ kind_at bytes = do
   kind ← kind_numbered first.0
   Some (kind, first.1)
 
--- the number of a value, after the byte of its kind and sign
+-- the value whose number follows this byte, which gives the kind and sign
 unfoldable pub number_value_at : ℕ → List ℕ → Option (Value × List ℕ)
 number_value_at first rest =
     if nat_eq first 2 then (below_at (2 ^ 31) rest >>= (λ n. Some (Long (pos n.0), n.1)))
@@ -141,7 +141,7 @@ op_at form bytes =
     else if nat_eq form 5 then (name_at bytes >>= (λ name. Some (RmIndex name.0, name.1)))
     else None
 
--- an operation with no result
+-- an operation whose outcome is `Nothing`, which takes no bytes
 unfoldable pub quiet_at : ℕ → List ℕ → Option (Op × Done × List ℕ)
 quiet_at form bytes = do
   op ← op_at form bytes
@@ -159,7 +159,7 @@ step_at bytes = do
   first ← first_at bytes
   if nat_lt first.0 128 then quiet_at first.0 first.1 else answered_at (first.0 - 128) first.1
 
--- `count` operations with their outcomes
+-- `count` operations and their outcomes
 unfoldable pub steps_at : ℕ → List ℕ → Option (List Op × List Done × List ℕ)
 steps_at zero bytes = Some ([], [], bytes)
 steps_at (suc count) bytes = do
@@ -167,14 +167,14 @@ steps_at (suc count) bytes = do
   others ← steps_at count first.2
   Some (first.0 ∷ others.0, first.1 ∷ others.1, others.2)
 
--- what is read from an entry: the pass, the operations, their outcomes, and the bytes after them
+-- the contents of an entry: the pass, the operations, their outcomes, and the bytes after the entry
 abbrev pub Found : Type 0
 Found = ℕ × List Op × List Done × List ℕ
 
 abbrev pub found : ℕ → List Op → List Done → List ℕ → Option Found
 found by ops dones rest = Some (by, ops, dones, rest)
 
--- the pass, the number of operations, and the bytes from the first operation on
+-- the pass, the number of operations, and the bytes from the first operation onward
 unfoldable pub head_at : List ℕ → Option (ℕ × ℕ × List ℕ)
 head_at bytes = do
   by ← number_at bytes

@@ -13,8 +13,8 @@ use Rattle.be_volume.specs.declared.ops.Done.TheVariants.{Node, Unit as Nothing}
 use Rattle.be_volume.specs.declared.ops.Op.{Op}
 use Rattle.be_volume.specs.declared.ops.Op.TheVariants.{New, Drop, Set, Unset, MkIndex, RmIndex}
 
--- A number below 253 is one byte. Any other is the byte 253, 254 or 255, and then two, four or
--- eight bytes in big-endian order: the fewest that hold it.
+-- A number below 253 is one byte. Any other number is the byte 253, 254 or 255, followed by two,
+-- four or eight bytes in big-endian order, whichever is the shortest form that can hold it.
 unfoldable pub number_bytes : ℕ → List ℕ
 number_bytes n =
     if nat_lt n 253 then n ∷ []
@@ -22,21 +22,21 @@ number_bytes n =
     else if nat_lt n (2 ^ 32) then 254 ∷ to_be_bytes w32 n
     else 255 ∷ to_be_bytes w64 n
 
--- the number of bytes, and the bytes
+-- the number of bytes, followed by the bytes
 unfoldable pub counted_bytes : List ℕ → List ℕ
 counted_bytes bytes = number_bytes (length bytes) ++ bytes
 
--- the byte before a signed number: its kind's, with 128 more if it is negative
+-- the byte that precedes a signed number: its kind's byte, plus 128 if the number is negative
 abbrev pub sign_byte : ℕ → ℤ → ℕ
 sign_byte kind (pos n) = kind
 sign_byte kind (negsuc n) = kind + 128
 
--- a signed number without its sign: n for a positive one, and how far a negative one is below -1
+-- a signed number without its sign: the number itself, or how far below -1 it is if it is negative
 abbrev pub magnitude : ℤ → ℕ
 magnitude (pos n) = n
 magnitude (negsuc n) = n
 
--- the kind's number, and the value
+-- the kind's number, followed by the value
 unfoldable pub value_bytes : Value → List ℕ
 value_bytes (Cstr text) = 1 ∷ counted_bytes text
 value_bytes (Long n) = sign_byte 2 n ∷ number_bytes (magnitude n)
@@ -55,7 +55,7 @@ form_of (Unset node name) = 3
 form_of (MkIndex name kind) = 4
 form_of (RmIndex name) = 5
 
--- what an operation has apart from its form
+-- an operation without its form
 unfoldable pub op_bytes : Op → List ℕ
 op_bytes New = []
 op_bytes (Drop node) = number_bytes node
@@ -65,26 +65,26 @@ op_bytes (MkIndex name kind) = counted_bytes name ++ kind_number kind ∷ []
 op_bytes (RmIndex name) = counted_bytes name
 
 -- An operation and its outcome: the form, plus 128 if the outcome is a node, then the rest of the
--- operation, and that node.
+-- operation, then that node.
 unfoldable pub step_bytes : Op → Done → List ℕ
 step_bytes op (Node node) = (form_of op + 128) ∷ (op_bytes op ++ number_bytes node)
 step_bytes op Nothing = form_of op ∷ op_bytes op
 
--- operations and their outcomes, end to end
+-- the operations with their outcomes, one after another
 unfoldable pub steps_bytes : List Op → List Done → List ℕ
 steps_bytes [] dones = []
 steps_bytes (op ∷ ops) [] = []
 steps_bytes (op ∷ ops) (done ∷ dones) = step_bytes op done ++ steps_bytes ops dones
 
--- the pass, the number of operations, and the operations with their outcomes
+-- the pass, the number of operations, and each operation with its outcome
 unfoldable pub entry_bytes : ℕ → List Op → List Done → List ℕ
 entry_bytes by ops dones = number_bytes by ++ (number_bytes (length ops) ++ steps_bytes ops dones)
 
--- the maximum number of bytes of an entry with this many operations
+-- the maximum number of bytes that an entry with this many operations takes
 abbrev pub most_bytes : ℕ → ℕ
 most_bytes count = 18 + 356 * count
 
--- the node that an operation names is a number of 64 bits
+-- the operation's node, if it has one, is below 2^64
 abbrev pub HasNode : Op → Type 0
 HasNode New = ⊤
 HasNode (Drop node) = node < 2 ^ 64
@@ -93,7 +93,7 @@ HasNode (Unset node name) = node < 2 ^ 64
 HasNode (MkIndex name kind) = ⊤
 HasNode (RmIndex name) = ⊤
 
--- an operation that the program can make: its names, values and node are in range
+-- an operation that the program can make: its names, values and node number are in range
 abbrev pub CanBeOp : Op → Type 0
 CanBeOp op = IsOperation op × HasNode op
 
@@ -102,8 +102,8 @@ abbrev pub CanBeDone : Done → Type 0
 CanBeDone (Node node) = node < 2 ^ 64
 CanBeDone Nothing = ⊤
 
--- an entry that the program can make: at most 64 operations, an outcome for each, and a pass's
--- number
+-- an entry that the program can make: at most 64 operations, an outcome for each, and the number of
+-- a pass
 pub record CanBeEntry (by : ℕ) (ops : List Op) (dones : List Done) : Type 0 where
   pub pass : by < 2 ^ 64
   pub few : length ops ≤ 64

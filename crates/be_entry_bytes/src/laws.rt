@@ -1,4 +1,4 @@
-//! Laws about the bytes of entries, for the crates above.
+//! Laws about the bytes of entries, for the crates above this one.
 //!
 //! Each is a function that does nothing; its contract is the law.
 ghost use Rattle.std.specs.Prelude.{◌≡◌, ◌≤◌, ◌++◌, ℕ, List, length};
@@ -7,14 +7,14 @@ ghost use Rattle.be_entry_bytes.specs.Encoding.{entry_bytes, most_bytes, CanBeEn
 ghost use Rattle.be_volume.specs.declared.ops.Done.{Done as AnyDone};
 ghost use Rattle.be_volume.specs.declared.ops.Op.{Op as AnyOp};
 
-/// A law: an entry that was written is read back as it was, whatever comes after it.
+/// A law: an entry that was written is read back unchanged, whatever follows it.
 pub fn entry_is_read()
     ensures { (by : ℕ) (ops : List AnyOp) (dones : List AnyDone) (rest : List ℕ)
         → CanBeEntry by ops dones →
         entry_at (entry_bytes by ops dones ++ rest) ≡ found by ops dones rest }
 {}
 
-/// A law: an entry has at most 18 bytes, and 356 for each of its operations.
+/// A law: an entry has at most 18 bytes plus 356 per operation.
 pub fn entry_is_short()
     ensures { (by : ℕ) (ops : List AnyOp) (dones : List AnyDone) → CanBeEntry by ops dones →
         length (entry_bytes by ops dones) ≤ most_bytes (length ops) }

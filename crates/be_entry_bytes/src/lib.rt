@@ -1,13 +1,13 @@
-//! The bytes of a journal's entry, and reading them back.
+//! Writes a journal's entry as bytes, and reads it back.
 //!
-//! An entry takes few bytes. A number takes one byte if it is small, and a name or a text its own
-//! length. An outcome takes bytes only if it is a node. `set 1 "size" LONG 5`, written by pass 0,
-//! takes eleven bytes.
+//! The encoding is compact. A small number takes one byte, a name or string takes its own bytes and
+//! a number that gives their count, and an outcome takes bytes only if it is a node. `set 1 "size"
+//! LONG 5`, written by pass 0, takes eleven bytes.
 //!
-//! # What is proved
-//! What is appended is `entry_bytes`, which depends only on the entry (`specs/Encoding.antt`). What
-//! was written is read back, whatever comes after it (`entry_is_read`). An entry takes at most 18
-//! bytes, and 356 for each operation (`entry_is_short`), so a writer can reserve memory first.
+//! # What is proved The bytes that are appended are `entry_bytes`, which depends only on the entry
+//! (`specs/Encoding.antt`). An entry that was written is read back unchanged, whatever follows it
+//! (`entry_is_read`). An entry takes at most 18 bytes plus 356 per operation (`entry_is_short`), so
+//! a writer can reserve memory beforehand.
 #![tactic(auto)]
 
 mod laws;

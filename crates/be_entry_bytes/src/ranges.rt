@@ -1,5 +1,5 @@
-//! Borrowed numbers and operations are in the range of their types, which a contract can't conclude
-//! by itself. Each function does nothing; its contract is the fact.
+//! Borrowed numbers and operations are within the ranges of their types, a fact that a contract
+//! can't derive on its own. Each function does nothing; its contract is the fact.
 ghost use Rattle.std.specs.Prelude.{◌<◌, ◌^◌, All};
 ghost use Rattle.be_entry_bytes.specs.Encoding as spec;
 

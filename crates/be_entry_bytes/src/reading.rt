@@ -1,7 +1,7 @@
 //! Reads an entry from its bytes.
 //!
-//! Each function reads one thing at the start of the bytes, and returns it with the bytes after it.
-//! If there is no such thing, it returns `None`.
+//! Each function reads one item at the start of the bytes, and returns it with the bytes after it.
+//! It returns `None` if the bytes don't begin with such an item.
 ghost use Rattle.std.specs.Prelude.{◌≡◌, ◌<◌, ◌^◌, ◌++◌, ℕ, List, IfOk, IfSome, negsuc};
 ghost use Rattle.std.specs.Int.{w16, w32, w64};
 ghost use Rattle.std.specs.Option.{option_map};
@@ -91,7 +91,7 @@ fn counted_of(bytes: &[u8]) -> Option<(&[u8], &[u8])>
     Some(rest.split_at(len as usize))
 }
 
-/// All the bytes as a text, if they are valid UTF-8.
+/// All the bytes as a string, if they are valid UTF-8.
 fn text_in(bytes: &[u8]) -> Option<&str>
     ensures { option_map (λ x. x.now) result ≡ spec.text_in bytes.now }
 {
@@ -153,7 +153,7 @@ fn negative32(n: u64) -> i32
     (-1 - n as i64) as i32
 }
 
-/// The same with 64 bits.
+/// The negative number -1 - `n`, with 64 bits.
 fn negative64(n: u64) -> i64
     requires { n < 2 ^ 63 }
     ensures { result ≡ negsuc n }
@@ -161,8 +161,9 @@ fn negative64(n: u64) -> i64
     -1 - n as i64
 }
 
-/// The number of a value, after the byte of its kind and sign, and the bytes after it. `None` if no
-/// number has that byte, or if the number is too large for its kind.
+/// Reads the number after the byte that gives a value's kind and sign. Returns the value and the
+/// bytes after it, or `None` if no number has such a byte or if the number is too large for its
+/// kind.
 #[tactic(auto, unfolding(crate::specs::Decoding::number_value_at))]
 fn number_value_of(first: u8, rest: &[u8]) -> Option<(Value, &[u8])>
     ensures { option_map (λ x. (x.0, x.1.now)) result ≡ spec.number_value_at first rest.now }
@@ -196,7 +197,8 @@ fn number_value_of(first: u8, rest: &[u8]) -> Option<(Value, &[u8])>
     }
 }
 
-/// The value at the start of the bytes, and the bytes after it. `None` if there is none.
+/// The value at the start of the bytes, with the bytes after it. Returns `None` if there is no
+/// value.
 #[tactic(auto, unfolding(crate::specs::Decoding::value_at))]
 fn value_of(bytes: &[u8]) -> Option<(Value, &[u8])>
     ensures { option_map (λ x. (x.0, x.1.now)) result ≡ spec.value_at bytes.now }
@@ -247,8 +249,8 @@ fn mkindex_of(bytes: &[u8]) -> Option<(Op, &[u8])>
     Some((Op::MkIndex(name, kind), rest))
 }
 
-/// The operation of this form at the start of the bytes, and the bytes after it. `None` if there is
-/// none.
+/// The operation of this form at the start of the bytes, with the bytes after it. Returns `None` if
+/// there is no such operation.
 #[tactic(auto, unfolding(crate::specs::Decoding::op_at))]
 fn op_of(form: u8, bytes: &[u8]) -> Option<(Op, &[u8])>
     ensures { option_map (λ x. (x.0, x.1.now)) result ≡ spec.op_at form bytes.now }
@@ -287,8 +289,8 @@ fn answered_of(form: u8, bytes: &[u8]) -> Option<(Op, Done, &[u8])>
     Some((op, Done::Node(node), rest))
 }
 
-/// The operation at the start of the bytes, its outcome, and the bytes after them. `None` if there
-/// is none. It takes no memory, and its cost grows with the operation's length.
+/// The operation at the start of the bytes, its outcome, and the bytes after them. Returns `None`
+/// if there is no operation. It allocates nothing, and its cost grows with the operation's length.
 #[tactic(auto, unfolding(crate::specs::Decoding::step_at))]
 pub fn read_step(bytes: &[u8]) -> Option<(Op, Done, &[u8])>
     ensures { option_map (λ x. (x.0, x.1, x.2.now)) result ≡ spec.step_at bytes.now }
@@ -301,8 +303,8 @@ pub fn read_step(bytes: &[u8]) -> Option<(Op, Done, &[u8])>
     }
 }
 
-/// The first `count` operations, the outcome of each, and the bytes after them. `None` if there are
-/// fewer. It takes memory only for the two lists, and its cost grows with their length.
+/// The first `count` operations, their outcomes, and the bytes after them. Returns `None` if there
+/// are fewer operations. It allocates only the two lists, and its cost grows with their length.
 pub fn read_steps(
     alloc: Global,
     count: u64,
@@ -326,8 +328,8 @@ pub fn read_steps(
 }
 
 /// The head of the entry at the start of the bytes: its pass, its number of operations, and the
-/// bytes after the head. `None` if there are no such numbers. It takes no memory, and costs a few
-/// steps.
+/// bytes after the head. Returns `None` if the bytes don't begin with these two numbers. It
+/// allocates nothing, and takes a few steps.
 #[tactic(auto, unfolding(crate::specs::Decoding::head_at))]
 pub fn read_head(bytes: &[u8]) -> Option<(u64, u64, &[u8])>
     ensures { option_map (λ x. (x.0, x.1, x.2.now)) result ≡ spec.head_at bytes.now }
@@ -354,9 +356,10 @@ fn entry_of(
     Ok(Some((by, ops, dones, rest)))
 }
 
-/// The entry at the start of the bytes (its pass, operations and outcomes), and the bytes after it.
-/// `None` if there is none. What `write_entry` appended is read back, whatever follows it. It takes
-/// memory only for the two lists, and its cost grows with the entry's length.
+/// The entry at the start of the bytes (its pass, operations and outcomes), with the bytes after
+/// it. Returns `None` if there is no entry. An entry that `write_entry` appended is read back,
+/// whatever follows it. It allocates only the two lists, and its cost grows with the entry's
+/// length.
 pub fn read_entry(
     alloc: Global,
     bytes: &[u8],
@@ -385,8 +388,8 @@ fn after_steps(count: u64, bytes: &[u8]) -> Option<&[u8]>
     Some(rest)
 }
 
-/// The bytes after the entry at their start. `None` if there is no entry. It takes no memory, and
-/// its cost grows with the entry's length.
+/// The bytes after the entry that they begin with. Returns `None` if there is no entry. It
+/// allocates nothing, and its cost grows with the entry's length.
 #[tactic(auto, unfolding(crate::specs::Decoding::entry_at))]
 pub fn skip_entry(bytes: &[u8]) -> Option<&[u8]>
     ensures { option_map (λ x. x.now) result ≡ option_map (λ x. x.3) (spec.entry_at bytes.now) }

@@ -1,6 +1,6 @@
 //! Writes an entry as bytes.
 //!
-//! Each function appends to a vector that has capacity for the bytes, so none takes memory.
+//! Each function appends to a vector that has enough capacity, so none of them allocates memory.
 ghost use Rattle.std.specs.Prelude.{◌≡◌, ◌+◌, ◌<◌, ◌≤◌, ◌++◌, ◌∷◌, [], All, length, vec_len};
 ghost use Rattle.std.specs.Prelude.{vec_capacity};
 ghost use Rattle.be_entry_bytes.specs.Encoding as spec;
@@ -16,12 +16,12 @@ fn write_bytes(bytes: &mut Vec<u8>, part: &[u8])
     ensures len { vec_len bytes.new ≡ vec_len bytes.old + length part.now }
     ensures room { vec_capacity bytes.old ≤ vec_capacity bytes.new }
 {
-    // The vector has capacity for it.
+    // The vector has enough capacity.
     let _ = bytes.extend_from_slice(part);
 }
 
-/// Appends a number: one byte if it is below 253, and otherwise a byte that gives its length, and
-/// 2, 4 or 8 bytes.
+/// Appends a number. A number below 253 takes one byte; any other takes a byte that gives its
+/// length, followed by 2, 4 or 8 bytes.
 #[tactic(auto, unfolding(crate::specs::Encoding::number_bytes))]
 fn write_number(bytes: &mut Vec<u8>, n: u64)
     requires room { vec_len bytes.old + length (spec.number_bytes n) ≤ vec_capacity bytes.old }
@@ -67,7 +67,7 @@ fn write_kind_number(bytes: &mut Vec<u8>, first: u8, n: u64)
     write_number(bytes, n);
 }
 
-/// Appends the byte of a kind, and then bytes after their count.
+/// Appends the byte of a kind, then the number of bytes, and then the bytes.
 fn write_kind_bytes(bytes: &mut Vec<u8>, first: u8, part: &[u8])
     requires room { vec_len bytes.old + length (first ∷ spec.counted_bytes part.now)
         ≤ vec_capacity bytes.old }
@@ -80,7 +80,7 @@ fn write_kind_bytes(bytes: &mut Vec<u8>, first: u8, part: &[u8])
     write_counted(bytes, part);
 }
 
-/// The byte before a signed number.
+/// The byte that precedes a signed number.
 fn sign_byte(kind: u8, n: i64) -> u8
     requires { kind < 128 }
     ensures { result ≡ spec.sign_byte kind n }
@@ -133,7 +133,7 @@ fn form_of(op: &Op) -> u8
     }
 }
 
-/// Appends what an operation has apart from its form.
+/// Appends an operation without its form.
 #[tactic(auto, unfolding(crate::specs::Encoding::op_bytes))]
 fn write_op(bytes: &mut Vec<u8>, op: &Op)
     requires room { vec_len bytes.old + length (spec.op_bytes op.now) ≤ vec_capacity bytes.old }
@@ -208,7 +208,7 @@ fn write_parts(bytes: &mut Vec<u8>, by: u64, ops: &[Op], dones: &[Done])
     write_steps(bytes, ops, dones);
 }
 
-/// The maximum number of bytes of an entry with this many operations.
+/// The maximum number of bytes that an entry with this many operations takes.
 pub fn most_bytes(count: usize) -> usize
     requires { count ≤ 64 }
     ensures { result ≡ spec.most_bytes count }
@@ -216,9 +216,9 @@ pub fn most_bytes(count: usize) -> usize
     18 + 356 * count
 }
 
-/// Appends an entry to a vector that has capacity for the longest entry with as many operations. It
-/// takes no memory, and its cost grows with the entry's length. `read_entry` reads back what it
-/// appends.
+/// Appends an entry to a vector that has capacity for the longest entry with the same number of
+/// operations. It allocates nothing, and its cost grows with the entry's length. `read_entry` reads
+/// back the entry that it appends.
 pub fn write_entry(bytes: &mut Vec<u8>, by: u64, ops: &[Op], dones: &[Done])
     requires few { length ops.now ≤ 64 }
     requires each { length dones.now ≡ length ops.now }

@@ -1,6 +1,7 @@
-//! Worked examples of entries as bytes, by public calls.
+//! Worked examples of entries as bytes, tested through public calls.
 //!
-//! They have a crate of their own, so that be_entry_bytes isn't proved a second time with them.
+//! The tests are in a separate crate, so that checking them doesn't prove be_entry_bytes a second
+//! time.
 #![tactic(auto)]
 
 #[cfg(test)]

@@ -1,9 +1,9 @@
 //! Entries as bytes, and bytes that aren't an entry.
 //!
-//! A request is an entry's line, as in a journal's text, or `bytes` and then bytes as numbers. The
-//! reply is the bytes of that entry, or of the entry that the bytes encode. Each entry is written
-//! and read back with a byte after it, and no shorter prefix of its bytes is read as an entry.
-//! Every test passes even if any one request for memory is refused.
+//! A request is either an entry's line, as in a journal's text, or `bytes` followed by bytes as
+//! numbers. The reply is the bytes of that entry, or of the entry that the bytes encode. Each entry
+//! is written and read back with a byte after it, and no shorter prefix of its bytes is read as an
+//! entry. Every test passes even if any single request for memory is refused.
 use be_entry_bytes::{most_bytes, read_entry, write_entry};
 use be_journal::Entry;
 use be_journal_text::read_journal;
@@ -22,7 +22,7 @@ fn written(alloc: Global, by: u64, ops: &[Op], dones: &[Done]) -> Result<Vec<u8>
     Ok(bytes)
 }
 
-/// Whether the bytes are read as this entry, with these bytes after it.
+/// Whether the bytes are read as this entry, followed by these bytes.
 fn is_read(alloc: Global, bytes: &[u8], entry: &Entry, beyond: &[u8]) -> Result<bool, AllocError> {
     let Some((by, ops, dones, rest)) = read_entry(alloc, bytes)? else {
         return Ok(false);
@@ -75,7 +75,7 @@ fn bytes_of(alloc: Global, entry: &Entry) -> Result<String, Refusal> {
     Ok(String::from_str(alloc, "lost\n")?)
 }
 
-/// The bytes of the entry in a line.
+/// The bytes of the entry in this line.
 fn bytes_of_line(alloc: Global, line: &str) -> Result<String, Refusal> {
     let text = format!(in alloc; "{line}\n")?;
     let Some(entries) = read_journal(alloc, text.as_bytes())? else {
@@ -97,7 +97,7 @@ fn bytes_in(alloc: Global, text: &str) -> Result<Vec<u8>, AllocError> {
     Ok(bytes)
 }
 
-/// The bytes of the entry that is read from these bytes, written again.
+/// Reads the entry in these bytes and writes it again. Returns the new bytes.
 fn bytes_again(alloc: Global, text: &str) -> Result<String, Refusal> {
     let bytes = bytes_in(alloc, text)?;
     match read_entry(alloc, &bytes)? {
@@ -118,7 +118,7 @@ impl Answers for Encoder {
     }
 }
 
-/// Small numbers take one byte. A node as an outcome takes its own bytes, and any other outcome
+/// Small numbers take one byte. An outcome that is a node takes its own bytes; any other outcome
 /// takes none.
 #[test]
 fn entries_have_bytes(rt: HostRuntime) -> Result<(), Fail> {
@@ -134,7 +134,7 @@ fn entries_have_bytes(rt: HostRuntime) -> Result<(), Fail> {
     check_lines(rt.alloc(), &mut Encoder, lines)
 }
 
-/// Numbers at the bounds of one, two, four and eight bytes.
+/// Numbers at the limits of one, two, four and eight bytes.
 #[test]
 fn numbers_have_bytes(rt: HostRuntime) -> Result<(), Fail> {
     let lines = r#"1 by 0 drop 252 -> ok => 0 1 1 252
@@ -147,7 +147,7 @@ fn numbers_have_bytes(rt: HostRuntime) -> Result<(), Fail> {
     check_lines(rt.alloc(), &mut Encoder, lines)
 }
 
-/// A value of each kind, and the lowest and highest numbers of each kind.
+/// A value of each kind, and the lowest and highest number of each kind.
 #[test]
 fn values_have_bytes(rt: HostRuntime) -> Result<(), Fail> {
     let lines = "1 by 0 set 1 \"a\" CSTR \"\" -> ok => 0 1 2 1 1 97 1 0
@@ -163,9 +163,9 @@ fn values_have_bytes(rt: HostRuntime) -> Result<(), Fail> {
     check_lines(rt.alloc(), &mut Encoder, lines)
 }
 
-/// Bytes that aren't an entry, since they have an unknown form or kind, an invalid name, a number
-/// too large for its kind, or too few operations. A name is invalid with a zero byte, or if it
-/// isn't valid UTF-8. A number with more bytes than it needs is accepted.
+/// Bytes that aren't an entry because they have an unknown form or kind, an invalid name, a number
+/// that is too large for its kind, or too few operations. A name is invalid if it has a zero byte
+/// or isn't valid UTF-8. A number with more bytes than it needs is accepted.
 #[test]
 fn other_bytes_are_no_entry(rt: HostRuntime) -> Result<(), Fail> {
     let lines = r#"bytes 0 1 6 => none

@@ -1,4 +1,4 @@
--- Entries that were written one after another are read one after another.
+-- Entries that were written one after another are read back one after another.
 use Rattle.std.proofs.Common.{◌≡◌, ◌<◌, ◌≤◌, ℕ, suc, ◌+◌, ◌-◌, ◌*◌, List, [], ◌∷◌, ◌++◌, length, drop, get_or, All, Some, refl, sym, ap, subst, ◌∙◌, append_assoc, append-nil, length-append, length-drop, arith}
 use Rattle.std.specs.List.{flat_map}
 use Rattle.std.specs.Option.{option_map_or}
@@ -11,7 +11,7 @@ use Rattle.be_entry_bytes.proofs.Entries.{entry_again}
 use Rattle.be_journal.specs.Blocks.{bytes_of, entries_at, IsStored, AreEntries}
 use Rattle.be_journal.specs.declared.entries.Entry.{Entry}
 
--- the first of some entries in bytes
+-- the first of several entries in the bytes
 first_again : (e : Entry) (es : List Entry) (rest : List ℕ) → IsStored e → entry_at (flat_map bytes_of (e ∷ es) ++ rest) ≡ Some (e.by, e.ops, e.dones, flat_map bytes_of es ++ rest)
 first_again e es rest is =
     ap (λ b. entry_at (b ++ rest)) (flat_map-cons bytes_of e es)
@@ -38,7 +38,7 @@ holds es count bytes stored whole len =
       are = record { whole = whole ∙ ap (flat_map bytes_of) (sym same); counted = ap length same ∙ len; stored = subst (All IsStored) (sym same) stored };
     }
 
--- the bytes of one more entry
+-- the bytes with one more entry
 pub one_more : (es : List Entry) (e : Entry) → flat_map bytes_of (es ++ e ∷ []) ≡ flat_map bytes_of es ++ bytes_of e
 one_more es e = flat_map-append bytes_of es (e ∷ []) ∙ ap (λ b. flat_map bytes_of es ++ b) (flat_map-cons bytes_of e [] ∙ append-nil (bytes_of e))
 
@@ -72,6 +72,6 @@ taken_of count bytes (e ∷ es) whole len are same =
       },
     )
 
--- the first of some entries is read, and the others are left
+-- the first of several entries is read, and the others are left
 pub taken : (count : ℕ) (bytes : List ℕ) → AreEntries (suc count) bytes → (e : Entry) × (rest : List ℕ) × Taken count bytes e rest
 taken count bytes are = taken_of count bytes (entries_at (suc count) bytes) are.whole are.counted are.stored refl

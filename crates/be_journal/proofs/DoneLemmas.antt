@@ -1,4 +1,4 @@
--- Lists of outcomes that are tested as equal are equal.
+-- Lists of outcomes that the test finds equal are equal.
 use Rattle.std.proofs.Common.{◌≡◌, ℕ, Bool, true, false, ◌&&◌, nat_eq, List, [], ◌∷◌, refl, ap, subst, ◌∙◌, arith}
 use Rattle.std.proofs.lemmas.Bool.Decides.{nat_tests}
 use Rattle.std.specs.Cmp.Lexicographic.{pointwise}
@@ -47,6 +47,6 @@ abbrev pub outcomes_of : List Done → Result (State × List Done) Refusal → L
 outcomes_of d (Ok x) = x.1
 outcomes_of d (Err e) = d
 
--- what a replay returns if it was accepted
+-- what a replay returns if the operations were accepted
 pub reported : {X : Type 0} (view : X → List Done) (old new : State) (ops : List Op) (r : Result X Refusal) (x : X) → r ≡ Ok x → Replays view old ops r new → steps old ops ≡ Ok (new, view x)
 reported view old new ops r x e h = subst (λ q. Replays view old ops q new) e h

@@ -39,11 +39,11 @@ differs entries n now old b short is e so not_so legal = sym not_so ∙ so (subs
 pub never : {A : Type 0} → false ≡ true → A
 never h = cc
 
--- the loop has passed every place
+-- the loop has passed every position
 pub past : (i n len : ℕ) → len ≤ n → i < len → i < n
 past i n len h k = omega arith
 
--- a legal journal, with one more entry that has the outcomes that the volume gives after it
+-- a legal journal, followed by an entry that has the outcomes that the volume gives after it
 pub legal_push : (entries : List Entry) (now : Entry) → IsLegal entries → Agrees (replay entries) now → IsLegal (entries ++ now ∷ [])
 legal_push entries now legal agrees i entry h e =
     let long : length (entries ++ now ∷ []) ≡ length entries + 1 = length_push entries now in
@@ -57,14 +57,14 @@ legal_push entries now legal agrees i entry h e =
 pub replay_push : (entries : List Entry) (entry : Entry) → replay (entries ++ entry ∷ []) ≡ state_after (replay entries) entry.ops
 replay_push entries entry = fold-append (λ s x. state_after s x.ops) empty entries (entry ∷ [])
 
--- the first entries of a legal journal
+-- the first entries of a legal journal are legal
 pub legal_front : (front rest : List Entry) → IsLegal (front ++ rest) → IsLegal front
 legal_front front rest legal i entry h e =
     let long : length (front ++ rest) ≡ length front + length rest = length-append front rest in
     subst (λ es. Agrees (replay es) entry) (take-append-le i front rest (omega arith))
     (legal i entry (omega arith) (e ∙ sym (get_or_append_left front rest entry i h)))
 
--- the last entry of a legal journal
+-- the last entry of a legal journal has the outcomes that the volume gives
 pub legal_last : (entries : List Entry) (now : Entry) → IsLegal (entries ++ now ∷ []) → Agrees (replay entries) now
 legal_last entries now legal =
     let long : length (entries ++ now ∷ []) ≡ length entries + 1 = length_push entries now in
@@ -83,7 +83,7 @@ front_legal entries n short agree i entry h e =
     subst (λ es. Agrees (replay es) entry) (sym same)
     (agree i entry below (e ∙ sym (get_or_append_left (take n entries) (drop n entries) entry i h) ∙ ap (λ es. get_or es i entry) whole))
 
--- an entry without the outcomes that the volume gives, however it is read
+-- an entry without the outcomes that the volume gives, in whatever form it is read
 pub not_agreed : (entries : List Entry) (n : ℕ) (now : Entry) (old : State) (b : Bool) → n < length entries → now ≡ get_or entries n now → old ≡ replay (take n entries) →
     (Agrees old now → b ≡ true) → b ≡ false → (entry : Entry) → entry ≡ get_or entries n entry → Agrees (replay (take n entries)) entry → ⊥
 not_agreed entries n now old b short is e so not_so entry same agrees =

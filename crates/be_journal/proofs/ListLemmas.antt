@@ -1,4 +1,4 @@
--- Lists of blocks: the entry with an index, and one more entry in the last block.
+-- Lists of blocks: the entry with a given index, and one more entry in the last block.
 use Rattle.std.proofs.Common.{◌≡◌, ◌<◌, ◌≤◌, ℕ, zero, suc, ◌+◌, ◌-◌, true, false, nat_le, List, [], ◌∷◌, ◌++◌, length, take, drop, get_or, set, Some, refl, sym, ap, subst, ◌∙◌, append_assoc, append-nil, length-append, arith}
 use Rattle.std.specs.Prelude.{slice_get}
 use Rattle.std.specs.List.{flat_map}
@@ -17,7 +17,7 @@ use Rattle.be_journal.specs.declared.entries.Entry.{Entry}
 one : (b : Filled) → entries_of (b ∷ []) ≡ b.entries
 one b = flat_map-cons (λ (x : Filled). x.entries) b [] ∙ append-nil b.entries
 
--- the entries of the blocks before a place, and of the block there
+-- the entries of the blocks before a position, followed by those of the block there
 pub entries_more : (blocks : List Filled) (k : ℕ) (b : Filled) → k < length blocks → b ≡ get_or blocks k b →
     length (entries_of (take (k + 1) blocks)) ≡ length (entries_of (take k blocks)) + length b.entries
 entries_more blocks k b short is =
@@ -25,7 +25,7 @@ entries_more blocks k b short is =
     ∙ ap length (flat_map-append (λ (x : Filled). x.entries) (take k blocks) (b ∷ []) ∙ ap (λ (es : List Entry). entries_of (take k blocks) ++ es) (one b))
     ∙ length-append (entries_of (take k blocks)) b.entries
 
--- an entry of all blocks is an entry of its own block
+-- an entry of the whole list is an entry of its block
 pub same_entry : (blocks : List Filled) (k : ℕ) (b : Filled) (i left : ℕ) → k < length blocks → b ≡ get_or blocks k b → i ≡ length (entries_of (take k blocks)) + left → left < length b.entries →
     (e : Entry) → get_or b.entries left e ≡ get_or (entries_of blocks) i e
 same_entry blocks k b i left short is place within e =
@@ -82,7 +82,7 @@ last_room count blocks k b h len is =
     let at : slice_get blocks (length blocks - 1) ≡ Some b = ap (slice_get blocks) last ∙ slice_get-get_or blocks k b (omega (arith, len)) ∙ ap (λ (x : Filled). Some x) (sym is) in
     room_of (most_bytes count) b.room (sym (ap (λ (o : Option Filled). option_map_or (λ (x : Filled). nat_le (most_bytes count) x.room) o false) at) ∙ h)
 
--- a block has no more entries than all blocks together
+-- a block has no more entries than all the blocks together
 pub few_of : (blocks : List Filled) (k : ℕ) (b : Filled) → k < length blocks → b ≡ get_or blocks k b → length b.entries ≤ length (entries_of blocks)
 few_of blocks k b short is =
     let more = entries_more blocks k b short is in

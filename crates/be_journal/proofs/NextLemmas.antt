@@ -1,4 +1,4 @@
--- The next of the entries in bytes, as a reader reaches it.
+-- The next of several entries in bytes, as a reader reaches it.
 use Rattle.std.proofs.Common.{◌≡◌, ◌<◌, ℕ, zero, suc, ◌-◌, List, [], ◌∷◌, length, drop, All, Some, None, refl, sym, ap, subst, ◌∙◌, arith}
 use Rattle.std.specs.List.{flat_map}
 use Rattle.std.specs.Option.{option_map}
@@ -12,7 +12,7 @@ use Rattle.be_journal.specs.Journal.{IsEntry}
 use Rattle.be_journal.specs.declared.entries.Entry.{Entry}
 use Rattle.be_journal.proofs.BlockLemmas.{Taken, taken}
 
--- no bytes have no entry
+-- empty bytes hold no entry
 pub none_at : entries_at 0 [] ≡ []
 unfolding entries_at
 none_at = refl
@@ -20,7 +20,7 @@ none_at = refl
 pub are_none : AreEntries 0 []
 are_none = record { whole = ap (flat_map bytes_of) (sym none_at); counted = ap length none_at; stored = subst (All IsStored) (sym none_at) (All-nil IsStored) }
 
--- what is read of some entries, and what is left
+-- the entry that is read, and the entries that are left
 record Next (left : ℕ) (bytes : List ℕ) : Type 0 where
   e : Entry
   rest : List ℕ
@@ -45,7 +45,7 @@ next_of (suc count) bytes are some =
       are = subst (λ n. AreEntries n t.1) (sym one) t.2.left;
     }
 
--- what is left after an entry is skipped
+-- the rest after an entry is skipped
 pub record Skipped (left : ℕ) (bytes after : List ℕ) : Type 0 where
   pub some : 0 < left
   pub are : AreEntries (left - 1) after
@@ -72,7 +72,7 @@ never_skipped left bytes are some is =
     let n = next_of left bytes are some in
     never n.rest (is ∙ ap (λ (r : Option Found). option_map (λ x. x.3) r) n.read)
 
--- what is left after an entry is read
+-- the rest after an entry is read
 pub record Read (left : ℕ) (bytes : List ℕ) (entry : Entry) (after : List ℕ) : Type 0 where
   pub some : 0 < left
   pub is : IsEntry entry

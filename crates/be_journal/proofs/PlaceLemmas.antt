@@ -11,17 +11,17 @@ use Rattle.be_journal.specs.Blocks.{bytes_of, entries_at, IsStored, AreEntries, 
 use Rattle.be_journal.specs.declared.entries.Entry.{Entry}
 use Rattle.be_journal.proofs.BlockLemmas.{Holds, holds, one_more, pushed}
 
--- the offsets of no entries
+-- a block without entries has no offsets
 pub no_places : ArePlaces [] 0 []
 no_places = record { each = λ k short. absurd (omega (arith, short)); all = omega arith }
 
--- the entries from an offset on
+-- the entries from an offset onward
 pub from_place : (before place count : ℕ) (bytes : List ℕ) → AreEntries count bytes → IsPlace before place count bytes → Holds (count - before) (drop place bytes) (drop before (entries_at count bytes))
 from_place before place count bytes are is =
     let es = entries_at count bytes in
     holds (drop before es) (count - before) (drop place bytes) (All-drop IsStored before es are.stored) is.beyond (length-drop before es ∙ ap (λ n. n - before) are.counted)
 
--- an offset stays valid when one more entry is added
+-- an offset is still valid when one more entry is added
 still_place : (before place count : ℕ) (bytes : List ℕ) (e : Entry) → AreEntries count bytes → IsStored e → IsPlace before place count bytes → IsPlace before place (count + 1) (bytes ++ bytes_of e)
 still_place before place count bytes e are stored is =
     let es = entries_at count bytes in
@@ -37,7 +37,7 @@ still_place before place count bytes e are stored is =
           ∙ ap (λ (xs : List Entry). flat_map bytes_of (drop before xs)) (sym (pushed count bytes e are stored).same);
     }
 
--- where one more entry begins
+-- the offset at which one more entry begins
 new_place : (count : ℕ) (bytes : List ℕ) (e : Entry) → AreEntries count bytes → IsStored e → IsPlace count (length bytes) (count + 1) (bytes ++ bytes_of e)
 new_place count bytes e are stored =
     let es = entries_at count bytes in
@@ -92,7 +92,7 @@ places_more places count bytes e are stored is =
 pub place_before : (i count places : ℕ) → i < count → count ≤ 16 * places → i / 16 < places
 place_before i count places short all = omega (arith, short, all)
 
--- the entries from that offset on, in a slice of the bytes
+-- the entries from that offset onward, in a slice of the bytes
 pub from_before : (places : List ℕ) (count i place : ℕ) (bytes : List ℕ) → AreEntries count bytes → ArePlaces places count bytes → i < count → place ≡ get_or places (i / 16) place →
     Holds (count - 16 * (i / 16)) (take (length bytes - place) (drop place bytes)) (drop (16 * (i / 16)) (entries_at count bytes))
 from_before places count i place bytes are is short at =

@@ -1,8 +1,8 @@
--- A reader that has read some entries, one after another.
+-- A reader that has read several entries, one after another.
 use Rattle.std.proofs.Common.{◌≡◌, ◌<◌, ℕ, suc, ◌+◌, ◌-◌, List, [], ◌∷◌, length, drop, get_or, sym, ap, ◌∙◌, add-one, drop-cons, length-drop, arith}
 use Rattle.be_journal.specs.declared.entries.Entry.{Entry}
 
--- what was read at a place, and what is left
+-- what was read at a position, and the rest
 pub record Pulled (entries : List Entry) (i : ℕ) (entry : Entry) (rest : List Entry) : Type 0 where
   pub short : i < length entries
   pub left : rest ≡ drop (i + 1) entries

@@ -1,4 +1,4 @@
--- Views of entries: operations with their outcomes in bytes, one after another.
+-- Views of entries: operations with their outcomes as bytes, one after another.
 use Rattle.std.proofs.Common.{◌≡◌, ◌<◌, ℕ, zero, suc, ◌-◌, List, [], ◌∷◌, length, drop, map, IfSome, IsSome, Some, None, refl, sym, ap, subst, ◌∙◌, arith}
 use Rattle.std.specs.declared.option.Option.{Option}
 use Rattle.be_volume.specs.declared.ops.Done.{Done}
@@ -12,7 +12,7 @@ use Rattle.be_journal.proofs.NextLemmas.{read, never_read}
 abbrev Found : Type 0
 Found = List Op × List Done × List ℕ
 
--- reading all at once gives what reading one by one gives
+-- reading all operations together gives what reading them one by one gives
 abbrev IsReadAs : ℕ → List ℕ → Found → Type 0
 IsReadAs count bytes x = (map (λ s. s.0) (steps_in count bytes) ≡ x.0) × (map (λ s. s.1) (steps_in count bytes) ≡ x.1) × (length (steps_in count bytes) ≡ count)
 
@@ -48,18 +48,18 @@ count_of count bytes (Some x) some is = is.2
 pub counted : (count : ℕ) (bytes : List ℕ) → IsSome (steps_at count bytes) → length (steps_in count bytes) ≡ count
 counted count bytes some = count_of count bytes (steps_at count bytes) some (read_alike count bytes)
 
--- an entry as a view of it shows it
+-- an entry as its view shows it
 abbrev pub viewed : ℕ → ℕ → List ℕ → Entry
 viewed by count bytes = record { by = by; ops = map (λ s. s.0) (steps_in count bytes); dones = map (λ s. s.1) (steps_in count bytes) }
 
--- the entry that was read is the one that is viewed
+-- the entry that was read is the entry that is viewed
 pub same_entry : (by count : ℕ) (bytes : List ℕ) (ops : List Op) (dones : List Done) (rest : List ℕ) → Some (ops, dones, rest) ≡ steps_at count bytes →
     record { by = by; ops = ops; dones = dones } ≡ viewed by count bytes
 same_entry by count bytes ops dones rest is =
     let h : IsReadAs count bytes (ops, dones, rest) = subst (λ (o : Option Found). IfSome o (IsReadAs count bytes)) (sym is) (read_alike count bytes) in
     ap (λ (xs : List Op). record { by = by; ops = xs; dones = dones }) (sym h.0) ∙ ap (λ (ys : List Done). record { by = by; ops = map (λ s. s.0) (steps_in count bytes); dones = ys }) (sym h.1)
 
--- a view of the next of some entries
+-- a view of the next of several entries
 pub record Viewed (left : ℕ) (bytes : List ℕ) (by count : ℕ) (rest : List ℕ) : Type 0 where
   pub some : IsSome (steps_at count rest)
   pub first : entries_at left bytes ≡ viewed by count rest ∷ drop 1 (entries_at left bytes)
@@ -84,7 +84,7 @@ view_of left bytes by count rest are some is = view_at left bytes by count rest 
 pub never_viewed : (left : ℕ) (bytes : List ℕ) → AreEntries left bytes → 0 < length (entries_at left bytes) → None ≡ head_at bytes → ⊥
 never_viewed left bytes are some is = never_read left bytes are some (entry_of_none bytes is)
 
--- the next of the operations that are left, with its outcome
+-- the next of the remaining operations, with its outcome
 pub next_step : (left : ℕ) (bytes : List ℕ) (op : Op) (done : Done) (rest : List ℕ) → length (steps_in left bytes) ≡ left → (left ≡ 0 → ⊥) → Some (op, done, rest) ≡ step_at bytes →
     (steps_in left bytes ≡ (op, done) ∷ steps_in (left - 1) rest) × (length (steps_in (left - 1) rest) ≡ left - 1)
 unfolding steps_in

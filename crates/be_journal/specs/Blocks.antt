@@ -15,46 +15,47 @@ use Rattle.be_journal.specs.declared.entries.Entry.{Entry}
 abbrev pub bytes_of : Entry → List ℕ
 bytes_of entry = entry_bytes entry.by entry.ops entry.dones
 
--- the first `count` entries at the front of the bytes, or as many as there are
+-- the entries that the bytes begin with: `count` of them, or all if there are fewer
 unfoldable pub entries_at : ℕ → List ℕ → List Entry
 entries_at zero bytes = []
 entries_at (suc count) bytes = option_map_or
     (λ x. (record { by = x.0; ops = x.1; dones = x.2 }) ∷ entries_at count x.3) (entry_at bytes) []
 
--- the first `count` operations at the front of the bytes, with their outcomes, or as many as there
--- are
+-- the operations that the bytes begin with, each with its outcome: `count` of them, or all if there
+-- are fewer
 unfoldable pub steps_in : ℕ → List ℕ → List (Op × Done)
 steps_in zero bytes = []
 steps_in (suc count) bytes = option_map_or (λ x. (x.0, x.1) ∷ steps_in count x.2) (step_at bytes) []
 
--- what holds of each entry of a journal
+-- what holds for each entry of a journal
 abbrev pub IsStored : Entry → Type 0
 IsStored entry = IsEntry entry × CanBeEntry entry.by entry.ops entry.dones
 
--- the bytes encode `count` entries, and nothing more
+-- the bytes encode `count` entries and nothing more
 pub record AreEntries (count : ℕ) (bytes : List ℕ) : Type 0 where
   pub whole : bytes ≡ flat_map bytes_of (entries_at count bytes)
   pub counted : length (entries_at count bytes) ≡ count
   pub stored : All IsStored (entries_at count bytes)
 
--- among `count` entries in bytes, the entry after the first `before` begins at this offset
+-- among the `count` entries in the bytes, the entry after the first `before` entries begins at this
+-- offset
 pub record IsPlace (before place count : ℕ) (bytes : List ℕ) : Type 0 where
   pub known : before ≤ count
   pub within : place ≤ length bytes
   pub beyond : drop place bytes ≡ flat_map bytes_of (drop before (entries_at count bytes))
 
--- the offsets of every 16th entry, from the first on
+-- the offset of every 16th entry, beginning with the first
 pub record ArePlaces (places : List ℕ) (count : ℕ) (bytes : List ℕ) : Type 0 where
   pub each : (k : ℕ) → k < length places → IsPlace (16 * k) (get_or places k 0) count bytes
   pub all : count ≤ 16 * length places
 
--- the offsets, when one more entry follows `count` entries: its own is added if it begins a group
+-- the offsets once another entry follows `count` entries: its offset is added if it begins a group
 -- of 16
 abbrev pub with_place : List ℕ → ℕ → ℕ → List ℕ
 with_place places count place = if nat_eq (count / 16) (length places) then places ++ place ∷ []
     else places
 
--- a block: its entries, and how many bytes are free
+-- a block, as its entries and the number of free bytes
 pub record Filled : Type 0 where
   pub entries : List Entry
   pub room : ℕ
@@ -63,7 +64,7 @@ abbrev pub coded_filled : Coded Filled
 coded_filled = code_by _ (coded× (coded_list coded_entry) coded_ℕ) (λ b. (b.entries, b.room))
     (λ p. record { entries = p.0; room = p.1 }) (λ _. refl)
 
--- the entries of blocks, in order
+-- the entries of the blocks, in order
 abbrev pub entries_of : List Filled → List Entry
 entries_of blocks = flat_map (λ b. b.entries) blocks
 
@@ -76,6 +77,6 @@ abbrev pub has_room : ℕ → List Filled → Bool
 has_room count blocks = option_map_or (λ b. nat_le (most_bytes count) b.room)
     (slice_get blocks (length blocks - 1)) false
 
--- the block for the next entry, if there is one, is empty and has room for any entry
+-- the block for the next entry, if there is such a block, is empty and has room for any entry
 abbrev pub IsSpare : Option Filled → Type 0
 IsSpare spare = IfSome spare (λ b. (b.entries ≡ []) × (most_bytes 64 ≤ b.room))

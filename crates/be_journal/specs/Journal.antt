@@ -1,4 +1,4 @@
--- The journal, its replay, and when it is legal.
+-- The journal, its replay, and the condition for it to be legal.
 use Rattle.std.specs.Prelude.{◌≡◌, ◌<◌, ◌≤◌, ◌⊎◌, ℕ, List, [], ◌∷◌, ◌++◌, length, take, get_or}
 use Rattle.std.specs.Prelude.{fold, filter, refl, nat_eq, All, Some, None}
 use Rattle.std.specs.Coded.{Coded, code_by, coded_ℕ, coded_list, coded×}
@@ -18,8 +18,8 @@ coded_entry = code_by _ (coded× coded_ℕ (coded× (coded_list coded_op) (coded
     (λ e. (e.by, (e.ops, e.dones)))
     (λ p. record { by = p.0; ops = p.1.0; dones = p.1.1 }) (λ _. refl)
 
--- The most entries that a journal may have, its entries, and the number of operations for which
--- room is reserved: 0 for none.
+-- The maximum number of entries in a journal, its entries, and the number of operations for which
+-- room is reserved (0 if none is).
 pub record Log : Type 0 where
   pub limit : ℕ
   pub entries : List Entry
@@ -30,25 +30,25 @@ coded_log = code_by _ (coded× coded_ℕ (coded× (coded_list coded_entry) coded
     (λ l. (l.limit, (l.entries, l.reserved)))
     (λ p. record { limit = p.0; entries = p.1.0; reserved = p.1.1 }) (λ _. refl)
 
--- the log with one more entry, and with nothing reserved
+-- the log with one more entry and no reservation
 abbrev pub extended : Log → Entry → Log
 extended log entry = record { limit = log.limit; entries = log.entries ++ entry ∷ []; reserved = 0 }
 
 abbrev pub with_room : Log → ℕ → Log
 with_room log count = record { limit = log.limit; entries = log.entries; reserved = count }
 
--- the log couldn't grow: it is at its limit, or below it and memory ran out
+-- the log couldn't grow: either it is at its limit, or it is below its limit and memory ran out
 abbrev pub IsRefused : Log → Refusal → Type 0
 IsRefused log e = ((e ≡ CommitsSpent) × (length log.entries ≡ log.limit))
     ⊎ ((e ≡ OutOfMemory) × (length log.entries < log.limit))
 
--- The log was below its limit and grew into the new log; otherwise nothing changed.
+-- The log was below its limit and grew into the new log, or nothing changed.
 abbrev pub Grows : {X : Type 0} → Log → Log → Result X Refusal → Log → Type 0
 Grows old grown (Ok x) new = (new ≡ grown) × (length old.entries < old.limit)
 Grows old grown (Err e) new = (new ≡ old) × IsRefused old e
 
--- The volume after the entries, in order. If the volume refuses an entry, the whole entry changes
--- nothing.
+-- The volume after the entries, in order. If the volume refuses an entry, no part of that entry
+-- takes effect.
 abbrev pub replay : List Entry → State
 replay entries = fold (λ s entry. state_after s entry.ops) empty entries
 
@@ -56,13 +56,13 @@ replay entries = fold (λ s entry. state_after s entry.ops) empty entries
 abbrev pub Agrees : State → Entry → Type 0
 Agrees s entry = (next : State) × (steps s entry.ops ≡ Ok (next, entry.dones))
 
--- each entry has the outcomes that the volume gives after the entries before it; none is refused
+-- no entry is refused, and each has the outcomes that the volume gives after the entries before it
 abbrev pub IsLegal : List Entry → Type 0
 IsLegal entries = (i : ℕ) (entry : Entry) → i < length entries → entry ≡ get_or entries i entry
     → Agrees (replay (take i entries)) entry
 
 -- the index of the first entry whose outcomes aren't those that the volume gives after the entries
--- before it; none if the journal is legal
+-- before it; None if the journal is legal
 abbrev pub IsFirstWrong : List Entry → Option ℕ → Type 0
 IsFirstWrong entries None = IsLegal entries
 IsFirstWrong entries (Some i) = (i < length entries) × IsLegal (take i entries)
@@ -78,6 +78,6 @@ IsEntry entry = (1 ≤ length entry.ops) × (length entry.ops ≤ 64)
 abbrev pub HasOperations : Entry → Type 0
 HasOperations entry = (length entry.ops ≤ 64) × All IsOperation entry.ops
 
--- one pass's entries, in order
+-- the pass's entries, in order
 abbrev pub by_pass : ℕ → List Entry → List Entry
 by_pass pass entries = filter (λ entry. nat_eq entry.by pass) entries

@@ -9,10 +9,10 @@ use be_entry_bytes::{read_entry, read_head, skip_entry};
 use std::alloc::{AllocError, Global};
 use std::marker::Model;
 
-/// A reader of a block's entries. A contract sees the entries that are still to be read.
+/// A reader of a block's entries. A contract sees the entries that haven't been read yet.
 #[derive(Drop)]
 pub(crate) struct BlockReader<'a> {
-    /// The bytes of the entries that are still to be read, and the number of these entries.
+    /// The bytes of the entries that haven't been read yet, and the number of these entries.
     bytes: &'a [u8],
     left: u64,
 }

@@ -1,6 +1,7 @@
 //! Blocks of entries, stored as bytes.
 //!
-//! A block is allocated whole, so its content never moves. Each entry is in one block, unsplit.
+//! A block is allocated at its full size, so its contents never move. No entry is split across
+//! blocks.
 ghost use Rattle.std.specs.Prelude.{◌≡◌, ◌+◌, ◌≤◌, ◌<◌, ◌^◌, ◌++◌, ◌∷◌, [], true, false, length};
 ghost use Rattle.std.specs.Prelude.{get_or, nat_le, vec_len, vec_capacity, IfOk, OnOk, IsSome};
 ghost use Rattle.be_entry_bytes.specs.Encoding.{most_bytes as longest};
@@ -17,17 +18,17 @@ use std::marker::Model;
 /// The size of a block in bytes: 256 KiB.
 const ROOM: usize = 1 << 18;
 
-/// The most offsets that a block keeps: one for each 16 entries, each of which has at least four
-/// bytes.
+/// The maximum number of offsets that a block keeps: one for every 16 entries, each of which takes
+/// at least four bytes.
 const PLACES: usize = ROOM / 64;
 
-/// Entries, one after another. A contract sees them, and how many bytes are free.
+/// Entries, one after another. A contract sees the entries and the number of free bytes.
 #[derive(Drop)]
 pub(crate) struct Block {
-    /// How many entries there are.
+    /// The number of entries.
     count: u64,
     bytes: Vec<u8>,
-    /// The offsets of every 16th entry, from the first on.
+    /// The offset of every 16th entry, beginning with the first.
     places: Vec<usize>,
 }
 
@@ -51,7 +52,7 @@ impl Model for Block {
 }
 
 impl Block {
-    /// A block without entries, which has room for any entry.
+    /// A block without entries, which has room for any single entry.
     pub(crate) fn new(alloc: Global) -> Result<Block, AllocError>
         ensures empty { IfOk result (λ block. block.entries ≡ []) }
         ensures room { IfOk result (λ block. longest 64 ≤ block.room) }
@@ -65,7 +66,7 @@ impl Block {
         })
     }
 
-    /// How many entries there are.
+    /// The number of entries.
     pub(crate) fn len(&self) -> u64
         ensures { result ≡ length self.now.entries }
     {
@@ -103,7 +104,8 @@ impl Block {
         BlockReader::new(self.bytes.as_slice(), self.count)
     }
 
-    /// The entry with this index in the block, from 0. It skips at most 15 entries to find it.
+    /// The entry with this index in the block, counting from 0. It skips at most 15 entries to find
+    /// it.
     pub(crate) fn get(&self, alloc: Global, i: u64) -> EntryView<'_>
         requires { i < length self.now.entries }
         ensures { result ≡ get_or self.now.entries i result }
@@ -118,7 +120,7 @@ impl Block {
     }
 }
 
-/// Keeps the offset of the next entry, if it begins a new group of 16.
+/// Keeps the offset of the next entry if that entry begins a new group of 16.
 fn keep_place(places: &mut Vec<usize>, count: u64, place: usize)
     requires { vec_len places.old < vec_capacity places.old }
     ensures { places.new.items ≡ with_place places.old.items count place }
@@ -128,7 +130,8 @@ fn keep_place(places: &mut Vec<usize>, count: u64, place: usize)
     }
 }
 
-/// The block that has the entry with this index, from 0, and the entry's index in that block.
+/// The block that holds the entry with this index, counting from 0, and the entry's index in that
+/// block.
 pub(crate) fn block_of(blocks: &[Block], i: u64) -> (&Block, u64)
     requires { i < length (entries_of blocks.now) }
     ensures within { result.1 < length result.0.now.entries }
@@ -156,7 +159,8 @@ fn last_has_room(blocks: &[Block], count: usize) -> bool
     }
 }
 
-/// Makes room for any entry with this many operations, in the last block or in a spare one.
+/// Makes room for any entry with this many operations, either in the last block or in a spare
+/// block.
 pub(crate) fn make_spare(
     alloc: Global,
     blocks: &[Block],
@@ -191,8 +195,8 @@ fn push_last(blocks: &mut [Block], by: u64, ops: &[Op], dones: &[Done])
     blocks[last].push(by, ops, dones);
 }
 
-/// Appends an entry to the last block if it has room, and otherwise to the spare one, which becomes
-/// the last. It allocates nothing.
+/// Appends an entry to the last block if it has room, and otherwise to the spare block, which then
+/// becomes the last block. It allocates nothing.
 pub(crate) fn append(
     blocks: &mut Vec<Block>,
     spare: &mut Option<Block>,

@@ -1,13 +1,13 @@
-//! Entries of a journal.
+//! The entries of a journal.
 //!
-//! An entry's lists have a small type of this crate around a `Vec`, which contracts see as a list.
+//! An entry's two lists have a small wrapper type around `Vec`, which contracts see as a list.
 //! Converting from a `Vec` and back allocates nothing.
 ghost use Rattle.std.specs.Prelude.{◌≡◌};
 
 use be_volume::{Done, Op};
 use std::marker::Model;
 
-/// Operations or their outcomes, in order. A contract sees the list.
+/// Operations or their outcomes, in order. A contract sees this as a list.
 #[derive(Drop)]
 pub struct Items<T> {
     items: Vec<T>,
@@ -51,9 +51,9 @@ impl<T: Drop> Items<T> {
 /// An accepted write.
 #[derive(Drop)]
 pub struct Entry {
-    /// The number of the pass that made it.
+    /// The number of the pass that made the write.
     pub by: u64,
-    /// Its 1 to 64 operations.
+    /// The write's 1 to 64 operations.
     pub ops: Items<Op>,
     /// The outcome of each operation.
     pub dones: Items<Done>,

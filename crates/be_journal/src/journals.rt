@@ -1,8 +1,8 @@
 //! The journal, its replay, and the check that it is legal.
 //!
-//! An entry is appended in one of two ways. `push` allocates the memory that it needs. A writer
-//! that must not fail after it has published allocates the memory first, with `reserve`, and then
-//! appends with `push_reserved`, which allocates nothing.
+//! An entry can be appended in two ways. `push` allocates the memory that it needs. A writer that
+//! mustn't fail after it has published allocates the memory first, with `reserve`, and then appends
+//! with `push_reserved`, which allocates nothing.
 ghost use Rattle.std.specs.Prelude.{◌≡◌, ◌≤◌, ◌<◌, ◌^◌, ◌↔◌, ℕ, length, get_or, true, IfOk, IfErr};
 ghost use Rattle.std.specs.Prelude.{OnOk, Ok, [], ◌++◌, ◌+◌, vec_len, vec_capacity, All};
 ghost use Rattle.std.specs.String.{string_bytes};
@@ -26,18 +26,18 @@ use std::marker::Model;
 /// The accepted writes, in order. A contract sees a `Log`: the limit, the entries, and the number
 /// of operations for which room is reserved.
 ///
-/// The entries are in blocks of bytes, which never move.
+/// The entries are stored in blocks of bytes, which never move.
 #[derive(Drop)]
 pub struct Journal {
     alloc: Global,
     limit: u64,
-    /// How many entries there are.
+    /// The number of entries.
     len: u64,
-    /// The blocks, each with at least one entry. The last one may have room for more.
+    /// The blocks, each with at least one entry. The last block may have room for more.
     blocks: Vec<Block>,
-    /// An empty block for an entry that doesn't fit into the last one.
+    /// An empty block for an entry that doesn't fit into the last block.
     spare: Option<Block>,
-    /// The number of operations for which there is room, or 0.
+    /// The number of operations for which room is reserved, or 0.
     reserved: usize,
 }
 
@@ -56,8 +56,8 @@ impl Model for Journal {
 }
 
 impl Journal {
-    /// A journal without entries, which will take at most `limit` of them. The limit is at most
-    /// 2^32 - 1.
+    /// A journal without entries that can hold up to `limit` entries. The limit is at most 2^32 -
+    /// 1.
     pub fn new(alloc: Global, limit: u64) -> Journal
         requires { limit < 2 ^ 32 }
         ensures { result ≡ record { limit = limit; entries = []; reserved = 0 } }
@@ -72,7 +72,7 @@ impl Journal {
         }
     }
 
-    /// How many entries there are.
+    /// The number of entries.
     pub fn len(&self) -> u64
         ensures len { result ≡ length self.now.entries }
         ensures limit { result ≤ self.now.limit }
@@ -87,9 +87,9 @@ impl Journal {
         Reader::new(self.alloc, &self.blocks)
     }
 
-    /// A view of the entry with this index, from 0. It allocates nothing. To find the entry, it
-    /// goes from block to block, each of which has about 20,000 small entries, and then skips at
-    /// most 15 entries.
+    /// A view of the entry with this index, counting from 0. It allocates nothing. To find the
+    /// entry, it goes through the blocks, each of which holds about 20,000 small entries, and then
+    /// skips at most 15 entries.
     pub fn get(&self, i: u64) -> EntryView<'_>
         requires { i < length self.now.entries }
         ensures { result ≡ get_or self.now.entries i result }
@@ -98,9 +98,9 @@ impl Journal {
         block.get(self.alloc, place)
     }
 
-    /// Appends an entry, and cancels any reservation. The error is `CommitsSpent` exactly if the
-    /// journal is at its limit; below the limit it can only be `OutOfMemory`. After an error the
-    /// journal is unchanged and the entry is dropped.
+    /// Appends an entry, and cancels any reservation. The error is `CommitsSpent` if the journal is
+    /// at its limit. Below the limit, the only error is `OutOfMemory`. After an error, the journal
+    /// is unchanged and the entry is dropped.
     pub fn push(&mut self, entry: Entry) -> Result<(), Refusal>
         requires { model.IsEntry entry }
         ensures { model.Grows self.old (model.extended self.old entry) result self.new }
@@ -111,9 +111,9 @@ impl Journal {
         Ok(())
     }
 
-    /// Reserves room for one entry of `count` operations, 1 to 64. It replaces any earlier
-    /// reservation. The error is `CommitsSpent` exactly if the journal is at its limit; below the
-    /// limit it can only be `OutOfMemory`. After an error the journal is unchanged.
+    /// Reserves room for one entry with `count` operations, 1 to 64, replacing any earlier
+    /// reservation. The error is `CommitsSpent` if the journal is at its limit. Below the limit,
+    /// the only error is `OutOfMemory`. After an error, the journal is unchanged.
     pub fn reserve(&mut self, count: usize) -> Result<(), Refusal>
         requires some { 1 ≤ count }
         requires few { count ≤ 64 }
@@ -128,7 +128,7 @@ impl Journal {
         Ok(())
     }
 
-    /// Appends an entry in the room that was reserved for it since the last entry. It allocates
+    /// Appends an entry to the room that was reserved for it since the last entry. It allocates
     /// nothing and always succeeds.
     pub fn push_reserved(&mut self, by: u64, ops: &[Op], dones: &[Done])
         requires some { 1 ≤ length ops.now }
@@ -143,9 +143,9 @@ impl Journal {
         self.reserved = 0;
     }
 
-    /// The volume after all entries, in order. If the volume refuses an entry, the whole entry
-    /// changes nothing. The only error is `OutOfMemory`. The cost depends on how much the entries
-    /// change.
+    /// The volume after all entries, in order. If the volume refuses an entry, no part of that
+    /// entry takes effect. The only error is `OutOfMemory`. The cost depends on how much the
+    /// entries change.
     pub fn replay(&self) -> Result<Volume, Refusal>
         ensures { Answers (λ volume. volume) result (Ok (model.replay self.now.entries)) }
     {
@@ -158,9 +158,9 @@ impl Journal {
         Ok(volume)
     }
 
-    /// The journal's text. It has a line for each entry, numbered from 1. A line has the pass, the
-    /// operations as script lines with quoted names, and their outcomes. An example is `2 by 0 set
-    /// 1 "size" LONG 5 -> ok`. The only error is `OutOfMemory`.
+    /// The journal's text. It has a line for each entry, numbered from 1. A line contains the pass,
+    /// the operations as script lines with quoted names, and their outcomes, for example `2 by 0
+    /// set 1 "size" LONG 5 -> ok`. The only error is `OutOfMemory`.
     pub fn text(&self) -> Result<String, Refusal>
         ensures { Answers string_bytes result (Ok (lines_from 1 self.now.entries)) }
     {
@@ -174,9 +174,9 @@ impl Journal {
         Ok(text)
     }
 
-    /// Whether the journal is legal: each entry has the outcomes that the volume gives after the
-    /// entries before it, and none is refused. The only error is `OutOfMemory`. The cost depends on
-    /// how much the entries change.
+    /// Whether the journal is legal: no entry is refused, and each has the outcomes that the volume
+    /// gives after the entries before it. The only error is `OutOfMemory`. The cost depends on how
+    /// much the entries change.
     pub fn check(&self) -> Result<bool, Refusal>
         ensures ok { IfOk result (λ legal. (legal ≡ true) ↔ model.IsLegal self.now.entries) }
         ensures err { IfErr result (λ e. e ≡ OutOfMemory) }
@@ -195,7 +195,7 @@ impl Journal {
     }
 }
 
-/// The volume after an entry, or the same volume if it refuses the operations.
+/// The volume after an entry, or the unchanged volume if it refuses the operations.
 fn enter(volume: Volume, entry: &Entry) -> Result<Volume, AllocError>
     requires entry { model.IsEntry entry.now }
     requires fits { volume.next + 64 < 2 ^ 64 }
@@ -225,9 +225,9 @@ fn enter_if_agreed(volume: Volume, entry: &Entry) -> Result<(Volume, bool), Allo
     }
 }
 
-/// The index, from 0, of the first entry whose outcomes aren't those that the volume gives after
-/// the entries before it. It is `None` exactly if the entries are a legal journal. The cost depends
-/// on how much the entries change.
+/// The index, counting from 0, of the first entry whose outcomes aren't those that the volume gives
+/// after the entries before it. It is `None` if and only if the entries are a legal journal. The
+/// cost depends on how much the entries change.
 pub fn first_wrong(alloc: Global, entries: &[Entry]) -> Result<Option<u64>, AllocError>
     requires are { All model.IsEntry entries.now }
     requires few { length entries.now < 2 ^ 32 }
@@ -246,8 +246,8 @@ pub fn first_wrong(alloc: Global, entries: &[Entry]) -> Result<Option<u64>, Allo
     Ok(None)
 }
 
-/// The volume after these entries, in order, as by `Journal::replay`: if the volume refuses an
-/// entry, the whole entry changes nothing. The cost depends on how much the entries change.
+/// The volume after these entries, in order. As in `Journal::replay`, if the volume refuses an
+/// entry, no part of that entry takes effect. The cost depends on how much the entries change.
 pub fn replay(alloc: Global, entries: &[Entry]) -> Result<Volume, AllocError>
     requires are { All model.IsEntry entries.now }
     requires few { length entries.now < 2 ^ 32 }

@@ -1,7 +1,7 @@
-//! The journal: which writes were accepted, by which pass, and with which outcomes.
+//! The journal records which writes were accepted, by which pass, and with which outcomes.
 //!
 //! A journal is a store's history, written as if by one thread. Replaying it on an empty volume
-//! gives the store's content. It is legal if every outcome in it is the one that the volume gives
+//! produces the store's content. It is legal if each outcome in it is the one that the volume gives
 //! at that point.
 #![tactic(auto)]
 

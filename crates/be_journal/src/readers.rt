@@ -1,4 +1,4 @@
-//! Reads the entries of blocks in order.
+//! Reads the entries of several blocks in order.
 ghost use Rattle.std.specs.Prelude.{◌≡◌, ◌<◌, ◌∷◌, length, IfOk};
 ghost use Rattle.be_journal.specs.Blocks.{entries_of, AreFilled};
 ghost use Rattle.be_journal.specs.Journal.{IsEntry};
@@ -9,7 +9,8 @@ use crate::blocks::Block;
 use std::alloc::{AllocError, Global};
 use std::marker::Model;
 
-/// A reader of blocks' entries. A contract sees the entries that are still to be read.
+/// A reader of the entries of several blocks. A contract sees the entries that haven't been read
+/// yet.
 #[derive(Drop)]
 pub(crate) struct Reader<'a> {
     alloc: Global,
@@ -36,7 +37,7 @@ impl<'a> Model for Reader<'a> {
 }
 
 impl<'a> Reader<'a> {
-    /// A reader of these blocks' entries. Each block must have at least one.
+    /// A reader of these blocks' entries. Each block must have at least one entry.
     pub(crate) fn new(alloc: Global, blocks: &'a [Block]) -> Reader<'a>
         requires { AreFilled blocks.now }
         ensures { result ≡ entries_of blocks.now }

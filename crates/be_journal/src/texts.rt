@@ -1,7 +1,7 @@
-//! Texts of entries.
+//! The text of entries.
 //!
-//! Names and texts are quoted, with a backslash before `"` and `\`, and LF and CR written as `\n`
-//! and `\r`. Raw bytes are quoted lower-case hexadecimal.
+//! Names and strings are quoted, with a backslash before `"` and `\`, and with LF and CR written as
+//! `\n` and `\r`. Raw bytes are written as quoted lowercase hexadecimal digits.
 ghost use Rattle.std.specs.Char.{encode_utf8};
 ghost use Rattle.std.specs.Fmt.{signed_decimal};
 ghost use Rattle.std.specs.List.{join_by};
@@ -15,7 +15,7 @@ use be_value::Value;
 use be_volume::{Done, Op};
 use std::alloc::{AllocError, Global};
 
-/// The entry's line, with this number.
+/// The line for the entry with this number.
 pub fn entry_line(alloc: Global, number: u64, entry: &Entry) -> Result<String, AllocError>
     ensures { IfOk result (λ text. string_bytes text ≡ spec.entry_line number entry.now) }
 {
@@ -70,7 +70,7 @@ fn push_outcomes(alloc: Global, text: &mut String, dones: &[Done]) -> Result<(),
     Ok(())
 }
 
-/// The operation as a script's line, without the line's end.
+/// The operation as a script's line, without the LF.
 pub fn op_text(alloc: Global, op: &Op) -> Result<String, AllocError>
     ensures { IfOk result (λ text. string_bytes text ≡ spec.op_text op.now) }
 {
@@ -109,7 +109,7 @@ pub fn done_text(alloc: Global, done: &Done) -> Result<String, AllocError>
     }
 }
 
-/// The value as replies and journals print it.
+/// The value, as replies and journals print it.
 pub fn value_text(alloc: Global, value: &Value) -> Result<String, AllocError>
     ensures { IfOk result (λ text. string_bytes text ≡ spec.value_text value.now) }
 {
@@ -123,7 +123,7 @@ pub fn value_text(alloc: Global, value: &Value) -> Result<String, AllocError>
     }
 }
 
-/// The text in quotes, with its escapes.
+/// The text in quotes, with characters escaped where necessary.
 pub fn quoted(alloc: Global, text: &str) -> Result<String, AllocError>
     ensures { IfOk result (λ quoted. string_bytes quoted ≡ spec.quoted text.now) }
 {

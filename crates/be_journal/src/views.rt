@@ -1,7 +1,7 @@
 //! Views of entries in a journal.
 //!
-//! A journal stores an entry as bytes. A view reads its pass and the number of its operations at
-//! once. It decodes each operation, with its outcome, when it is asked for. None of this allocates
+//! A journal stores an entry as bytes. A view reads the pass and the number of operations when it
+//! is created. It decodes each operation, with its outcome, on demand. None of this allocates
 //! memory.
 ghost use Rattle.std.specs.Iterator.{YieldsFirst, item_count};
 ghost use Rattle.std.specs.Prelude.{◌≡◌, IfOk, IsSome, length, map};
@@ -19,9 +19,9 @@ use std::marker::Model;
 pub struct EntryView<'a> {
     alloc: Global,
     by: u64,
-    /// How many operations there are.
+    /// The number of operations.
     count: u64,
-    /// The bytes from the first operation on.
+    /// The bytes from the first operation onward.
     bytes: &'a [u8],
 }
 
@@ -46,8 +46,8 @@ impl<'a> Model for EntryView<'a> {
 }
 
 impl<'a> EntryView<'a> {
-    /// A view of an entry by this pass with `count` operations. The bytes begin with the first of
-    /// them.
+    /// A view of an entry that this pass made, with `count` operations. The bytes begin with the
+    /// first operation.
     pub(crate) fn new(alloc: Global, by: u64, count: u64, bytes: &'a [u8]) -> EntryView<'a>
         requires { IsSome (steps_at count bytes.now) }
         ensures { result ≡ record {
@@ -64,21 +64,21 @@ impl<'a> EntryView<'a> {
         }
     }
 
-    /// The number of the pass that made it.
+    /// The number of the pass that made the write.
     pub fn by(&self) -> u64
         ensures { result ≡ self.now.by }
     {
         self.by
     }
 
-    /// How many operations it has.
+    /// The number of operations.
     pub fn len(&self) -> u64
         ensures { result ≡ length self.now.ops }
     {
         self.count
     }
 
-    /// Its operations in order, each with its outcome. Each is decoded when it is asked for.
+    /// The entry's operations in order, each with its outcome. Each is decoded on demand.
     pub fn steps(&self) -> Steps<'a>
         ensures ops { map (λ s. s.0) result ≡ self.now.ops }
         ensures dones { map (λ s. s.1) result ≡ self.now.dones }
@@ -89,7 +89,7 @@ impl<'a> EntryView<'a> {
         }
     }
 
-    /// A separate copy of the entry. Its two lists are allocated by the journal's allocator.
+    /// A separate copy of the entry. Its two lists are allocated with the journal's allocator.
     pub fn to_entry(&self) -> Result<Entry, AllocError>
         ensures { IfOk result (λ entry. entry ≡ self.now) }
     {
@@ -105,12 +105,12 @@ impl<'a> EntryView<'a> {
     }
 }
 
-/// The operations of an entry that are still to come, each with its outcome. A contract sees the
-/// list of pairs.
+/// The operations of an entry that haven't been returned yet, each with its outcome. A contract
+/// sees the list of pairs.
 #[derive(Drop)]
 pub struct Steps<'a> {
     left: u64,
-    /// The bytes from the next operation on.
+    /// The bytes from the next operation onward.
     bytes: &'a [u8],
 }
 

@@ -1,4 +1,4 @@
--- What the check of a text finds, given what the check of its entries finds.
+-- What checking a text finds, given what checking its entries finds.
 use Rattle.std.proofs.Common.{ℕ, List}
 use Rattle.std.proofs.lemmas.List.Elements.{All-weaker}
 use Rattle.be_journal.specs.Journal.{IsEntry}

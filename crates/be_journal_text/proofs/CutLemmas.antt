@@ -9,7 +9,7 @@ use Rattle.be_volume.specs.declared.ops.Op.{Op}
 use Rattle.be_journal_text.specs.Dump.{cut, cut_lines, cut_within, write_lines}
 use Rattle.be_journal_text.specs.History.{CanBeOp}
 
--- if enough lists are allowed, the maximum doesn't matter
+-- the maximum number of lists doesn't matter if it is large enough
 same_cut : (j k : ℕ) (ops : List Op) → length ops ≤ j → length ops ≤ k → cut_within j ops ≡ cut_within k ops
 same_cut zero zero ops a b = refl
 same_cut zero (suc k) [] a b = refl
@@ -21,14 +21,14 @@ same_cut (suc j) (suc k) (op ∷ ops) a b =
     let less : length (drop 64 (op ∷ ops)) ≡ length (op ∷ ops) - 64 = length-drop 64 (op ∷ ops) in
     ap (λ (lists : List (List Op)). take 64 (op ∷ ops) ∷ lists) (same_cut j k (drop 64 (op ∷ ops)) (omega (arith, less, a)) (omega (arith, less, b)))
 
--- if there are operations, a list comes first
+-- if there are operations, the first 64 of them form the first list
 pub cut_once : (ops : List Op) → 1 ≤ length ops → cut ops ≡ take 64 ops ∷ cut (drop 64 ops)
 cut_once [] some = absurd (omega (arith, some))
 cut_once (op ∷ ops) some =
     let less : length (drop 64 (op ∷ ops)) ≡ length (op ∷ ops) - 64 = length-drop 64 (op ∷ ops) in
     ap (λ (lists : List (List Op)). take 64 (op ∷ ops) ∷ lists) (same_cut (length ops) (length (drop 64 (op ∷ ops))) (drop 64 (op ∷ ops)) (omega (arith, less)) (omega arith))
 
--- A list of up to 64; if it is shorter than 64, nothing comes after it.
+-- A list of at most 64 operations. If it has fewer than 64, nothing comes after it.
 module _ (ops rest : List Op) (few : length ops ≤ 64) (last : length ops < 64 → rest ≡ []) where
   front : take 64 (ops ++ rest) ≡ ops
   front = by (nat_lt (length ops) 64) refl
@@ -51,7 +51,7 @@ module _ (ops rest : List Op) (few : length ops ≤ 64) (last : length ops < 64 
       let long : length (ops ++ rest) ≡ length ops + length rest = length-append ops rest in
       cut_once (ops ++ rest) (omega (arith, long, some)) ∙ ap (λ (l : List Op). l ∷ cut (drop 64 (ops ++ rest))) front ∙ ap (λ (l : List Op). ops ∷ cut l) back
 
-  -- the lines of that list, and those of the lists after it
+  -- the lines of that list, followed by those of the lists after it
   pub lines_step : (old : List Op) (before now : List ℕ) → old ≡ ops ++ rest → 1 ≤ length ops → now ≡ before ++ write_lines ops → now ++ cut_lines rest ≡ before ++ cut_lines old
   lines_step old before now is some e =
       let lines : cut_lines old ≡ write_lines ops ++ cut_lines rest =
@@ -64,7 +64,7 @@ can_step old ops rest is can beyond = subst (All CanBeOp) (sym is) (All-append C
 pub fewer_left : (old ops rest : List Op) → old ≡ ops ++ rest → 1 ≤ length ops → length rest < length old
 fewer_left old ops rest is some = let long = ap length is ∙ length-append ops rest in omega (arith, long, some)
 
--- there are no more lists than the operations fill
+-- there are no more lists than the operations can fill
 few_within : (most n : ℕ) (ops : List Op) → length ops ≤ 64 * n → length (cut_within most ops) ≤ n
 few_within zero n ops few = omega arith
 few_within (suc most) n [] few = omega arith

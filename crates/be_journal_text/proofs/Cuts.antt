@@ -8,7 +8,8 @@ use Rattle.be_volume.specs.declared.ops.Done.TheVariants.{Node, Unit as Nothing}
 use Rattle.be_journal_text.specs.declared.parts.Quoting.{Quoting}
 use Rattle.be_journal_text.specs.declared.parts.Quoting.TheVariants.{Outside, Inside, Escaped}
 
--- whether the byte after this one is in quotes; in quotes, a backslash escapes the byte after it
+-- whether the byte after this one is inside quotes; inside quotes, a backslash escapes the byte
+-- after it
 abbrev pub beyond : Quoting → ℕ → Quoting
 beyond Outside c = if nat_eq c 34 then Inside else Outside
 beyond Inside c = if nat_eq c 92 then Escaped else if nat_eq c 34 then Outside else Inside
@@ -37,7 +38,7 @@ done_in text = done_of (word_in (drop 5 text))
 abbrev pub after_number : ℕ → List ℕ → List ℕ
 after_number number line = drop (length (decimal number ++ codes " by ")) line
 
--- what comes before the first end, and what follows that end
+-- the text before the first end, and the text after that end
 abbrev pub before : ℕ → List ℕ → List ℕ
 before end text = take (length_to end Outside text) text
 
@@ -47,7 +48,8 @@ after end text = drop (length_to end Outside text + 1) text
 abbrev pub without_last_two : List ℕ → List ℕ
 without_last_two text = take (length text - 2) text
 
--- the parts of entry N's line: the pass, after `N by `; what follows it; the operations, before ` ->`; and the outcomes
+-- the parts of entry N's line: the pass, after `N by `; the text after it; the operations, before `
+-- ->`; and the outcomes
 abbrev pub by_part : ℕ → List ℕ → List ℕ
 by_part number line = before 32 (after_number number line)
 
@@ -60,7 +62,7 @@ ops_part number line = without_last_two (before 62 (after_by number line))
 abbrev pub outcomes_part : ℕ → List ℕ → List ℕ
 outcomes_part number line = before 10 (drop 1 (after 62 (after_by number line)))
 
--- the first line with its LF, and what follows it
+-- the first line with its LF, and the text after it
 abbrev pub first_line : List ℕ → List ℕ
 first_line text = take (length_to 10 Outside text + 1) text
 

@@ -103,7 +103,7 @@ module _ (end : ℕ) (g : is_word_byte end ≡ false) (other : nat_eq 34 end ≡
   done_part (Node node) h = both_parts end (codes "node ") (decimal node) (words_part end (codes "node ") g refl) (decimal_part node h)
   done_part Nothing h = words_part end (codes "ok") g refl
 
-  -- Texts joined by `; ` are a part that ends with another byte.
+  -- Strings joined by `; ` are a part if another byte ends it.
   pub joined_part : {X : Type 0} (P : X → Type 0) (text_of : X → List ℕ) → ((x : X) → P x → IsLinePart end (text_of x)) → IsLinePart end (codes "; ") →
       (xs : List X) → All P xs →
       IsLinePart end (flat_map (λ y. codes "; " ++ text_of y) xs)
@@ -113,7 +113,7 @@ module _ (end : ℕ) (g : is_word_byte end ≡ false) (other : nat_eq 34 end ≡
       (both_parts end (codes "; " ++ text_of x) _ (both_parts end (codes "; ") (text_of x) parted (each x (All-head P x xs h)))
       (joined_part P text_of each parted xs (All-tail P x xs h)))
 
--- an outcome is read as it was printed
+-- a printed outcome is read back unchanged
 pub done_read : (done : Done) → CanBeDone done → done_in (done_text done) ≡ done
 done_read (Node node) h = rw (word_of_decimal node h) refl
 done_read Nothing h = refl
@@ -157,14 +157,14 @@ before_end end xs ys h = ap (λ n. take n (xs ++ end ∷ ys)) (part_before end x
 pub after_end : (end : ℕ) (xs ys : List ℕ) → IsLinePart end xs → after end (xs ++ end ∷ ys) ≡ ys
 after_end end xs ys h = ap (λ n. drop (n + 1) (xs ++ end ∷ ys)) (part_before end xs ys h) ∙ drop_one_more xs ys end
 
--- the same for a part without an end after it
+-- `before_end` for a part without an end after it
 pub before_none : (end : ℕ) (xs : List ℕ) → IsLinePart end xs → before end xs ≡ xs
 before_none end xs h = ap (λ n. take n xs) (part_whole end xs h) ∙ take_length xs
 
 pub after_none : (end : ℕ) (xs : List ℕ) → IsLinePart end xs → after end xs ≡ []
 after_none end xs h = ap (λ n. drop (n + 1) xs) (part_whole end xs h) ∙ drop_past xs
 
--- the first of some texts joined by `; `
+-- the first of several strings joined by `; `
 pub first_joined : {X : Type 0} (text_of : X → List ℕ) (x : X) (xs : List X) → IsLinePart 59 (text_of x) →
     before 59 (join_by text_of (codes "; ") (x ∷ xs)) ≡ text_of x
 first_joined text_of x [] h = ap (before 59) (append-nil (text_of x)) ∙ before_none 59 (text_of x) h
@@ -172,7 +172,7 @@ first_joined text_of x (y ∷ ys) h =
     let more = flat_map (λ z. codes "; " ++ text_of z) ys in
     ap (λ l. before 59 (text_of x ++ l)) (flat_map-cons (λ z. codes "; " ++ text_of z) y ys) ∙ before_end 59 (text_of x) (32 ∷ (text_of y ++ more)) h
 
--- the others
+-- the other texts
 pub rest_joined : {X : Type 0} (text_of : X → List ℕ) (x : X) (xs : List X) → IsLinePart 59 (text_of x) →
     drop 1 (after 59 (join_by text_of (codes "; ") (x ∷ xs))) ≡ join_by text_of (codes "; ") xs
 rest_joined text_of x [] h = ap (λ l. drop 1 (after 59 l)) (append-nil (text_of x)) ∙ ap (drop 1) (after_none 59 (text_of x) h)
@@ -181,7 +181,7 @@ rest_joined text_of x (y ∷ ys) h =
     ap (λ l. drop 1 (after 59 (text_of x ++ l))) (flat_map-cons (λ z. codes "; " ++ text_of z) y ys)
     ∙ ap (drop 1) (after_end 59 (text_of x) (32 ∷ (text_of y ++ more)) h)
 
--- texts joined by `; ` are a part that ends with another byte
+-- strings joined by `; ` are a part if another byte ends it
 pub list_part : {X : Type 0} (end : ℕ) (P : X → Type 0) (text_of : X → List ℕ) → is_word_byte end ≡ false → nat_eq 34 end ≡ false →
     ((x : X) → P x → IsLinePart end (text_of x)) → IsLinePart end (codes "; ") → (xs : List X) → All P xs →
     IsLinePart end (join_by text_of (codes "; ") xs)
@@ -189,7 +189,7 @@ list_part end P text_of g other each parted [] h = no_part end
 list_part end P text_of g other each parted (x ∷ xs) h =
     both_parts end (text_of x) _ (each x (All-head P x xs h)) (joined_part end g other P text_of each parted xs (All-tail P x xs h))
 
--- digits are a part, also before a blank
+-- digits are a part, even before a space
 pub digits_part : (end : ℕ) (ds : List ℕ) → is_ascii_digit end ≡ false → all_ascii_digits ds ≡ true → IsLinePart end ds
 digits_part end [] g h = no_part end
 digits_part end (d ∷ ds) g h =

@@ -1,4 +1,4 @@
--- Numbers are read as they were printed.
+-- Printed numbers are read back unchanged.
 use Rattle.std.proofs.Common.{◌≡◌, ℕ, ◌+◌, ◌*◌, ◌-◌, ◌^◌, ◌<◌, ◌≤◌, true, List, [], ◌∷◌, length, fold, nat_lt, nat_le, Some, refl, ◌∙◌, rules, arith}
 use Rattle.std.proofs.lemmas.Bool.Decides.{nat_tests}
 use Rattle.std.proofs.lemmas.Fmt.{decimal_nonempty, digits_decimal, digits_value-decimal, length-decimal-le}
@@ -33,7 +33,7 @@ are_decimal n h =
     let few : nat_le (length (decimal n)) 20 ≡ true = grind (arith, nat_tests, decimal_length n h) in
     rw some (rw few (decimal_digits n h))
 
--- a number of 64 bits is read as it was printed
+-- a printed number of 64 bits is read back unchanged
 pub word_of_decimal : (n : ℕ) → n < 2 ^ 64 → word_in (decimal n) ≡ Some n
 word_of_decimal n h =
     let small : nat_lt n (2 ^ 64) ≡ true = grind (arith, nat_tests, h) in

@@ -42,7 +42,7 @@ use Rattle.be_journal_text.proofs.NumberLemmas.{decimal_digits, word_of_decimal}
 use Rattle.be_journal_text.proofs.PartLemmas.{is_other, is_word_byte, same_byte, unlike}
 use Rattle.be_journal_text.proofs.ValueLemmas.{kind_read, value_read, value_word}
 
--- a character inside quotes, as characters
+-- the characters that stand for a character inside quotes
 abbrev pub escaped_chars : ℕ → List ℕ
 escaped_chars c =
     if nat_eq c 34 then 92 ∷ 34 ∷ []
@@ -74,7 +74,7 @@ char_read c text = by34 (nat_eq c 34) refl
     by34 true e = subst (IsRead text) (sym (same_byte c 34 e)) refl
     by34 false e = by92 (nat_eq c 92) refl e
 
--- all characters, and the quote after them
+-- all the characters, followed by the closing quote
 pub quoted_read : (cs rest : List ℕ) → quoted_in (flat_map escaped_chars cs ++ 34 ∷ rest) ≡ Some (bytes_of cs, rest)
 quoted_read [] rest = quoted-end rest
 quoted_read (c ∷ cs) rest =
@@ -84,7 +84,7 @@ quoted_read (c ∷ cs) rest =
     ∙ (ap (beyond (encode_utf8 c)) (quoted_read cs rest)
     ∙ ap (λ l. Some (l, rest)) (sym (flat_map-cons encode_utf8 c cs)))))
 
--- Bytes of a text, and its characters.
+-- The bytes and the characters of a text.
 
 abbrev is_low : ℕ → Bool
 is_low c = nat_lt c 128
@@ -155,7 +155,7 @@ encoded_inside (c ∷ cs) h =
     let p = and_parts (scalar c) (all_scalars cs) h in
     encoded_both (escaped_chars c) (escaped c) (flat_map escaped_chars cs) (flat_map escaped cs) (encoded_escaped c p.0) (encoded_inside cs p.1)
 
--- a text in quotes, as characters
+-- the characters of a quoted text
 abbrev quoted_chars : List ℕ → List ℕ
 quoted_chars text = 34 ∷ (flat_map escaped_chars (chars text) ++ 34 ∷ [])
 
@@ -168,7 +168,7 @@ encoded_quoted : (text : List ℕ) → IsUtf8 text → Encodes (quoted_chars tex
 encoded_quoted text u = encoded_in_quotes (flat_map escaped_chars (chars text)) (flat_map escaped (chars text))
     (encoded_inside (chars text) (scalars-chars text u))
 
--- ASCII before other characters
+-- ASCII characters, followed by others
 encoded_then : {cs text : List ℕ} (head : List ℕ) → list_all is_low head ≡ true → Encodes cs text → Encodes (head ++ cs) (head ++ text)
 encoded_then {cs} {text} head low h = encoded_both head head cs text (encoded_low head low) h
 
@@ -179,7 +179,7 @@ Ends text = (front : List ℕ) × (c : ℕ) × (text ≡ front ++ c ∷ []) × (
 ends_after : (xs ys : List ℕ) → Ends ys → Ends (xs ++ ys)
 ends_after xs ys h = (xs ++ h.0, h.1, ap (λ l. xs ++ l) h.2 ∙ sym (append_assoc xs h.0 (h.1 ∷ [])), h.3)
 
--- so no CR is removed
+-- if the last byte isn't a CR, nothing is removed
 kept : (text : List ℕ) → Ends text → strip_carriage_return text ≡ text
 kept text h = by h.0 h.1 h.2 h.3
   where
@@ -190,7 +190,7 @@ kept text h = by h.0 h.1 h.2 h.3
         ap (λ l. get_or l (length l - 1) 0) is ∙ (ap (λ n. get_or (front ++ c ∷ []) n 0) place ∙ get_or-append_seam front c [] 0) in
         rw last (rw other refl)
 
--- what a line of these characters requests
+-- the request of a line with these characters
 asked_of : (text cs : List ℕ) → Encodes cs text → Ends text → (list_all is_blank text || is_comment text) ≡ false → asked text ≡ command_of (skip cs)
 asked_of text cs h ends some = ap request_in (kept text ends) ∙ rw (is_utf8-from_IsUtf8 text h.utf8) (rw some (ap (λ l. command_of (skip l)) h.are))
 
@@ -242,7 +242,7 @@ word_end w rest h e =
     let place = first_blank w rest h e in
     either (position_or_len is_blank (w ++ rest)) (length (w ++ rest)) (omega (arith, place, length-append w rest)) ∙ place
 
--- a plain word at the front of a text
+-- a plain word at the start of a text
 abbrev split_at : ℕ → List ℕ → Option (List ℕ × List ℕ)
 split_at n text = Some (bytes_of (take n text), drop n text)
 
@@ -448,7 +448,7 @@ rmindex_asked name is u =
     ∙ (ap (λ (o : Option (List ℕ)). answer (option_map (λ m. write (named RmIndex m)) o)) (one_read (32 ∷ quoted_chars name) name (last_name name u))
     ∙ ap (λ r. write (result_map_both RmIndex (λ e. e) r)) is))
 
--- what the words of `set` request
+-- the request that the words of `set` make
 set_made : (node : ℕ) (name : List ℕ) (v : Value) → node < 2 ^ 64 → name_from name ≡ Ok name → IsValue v → HasBytes v →
     answer (set_from (decimal node) name (kind_name (kind_of v)) (value_word v)) ≡ write (Ok (Set node name v))
 set_made node name v h named_is is bytes =

@@ -1,4 +1,4 @@
--- Where the parts of a printed line end.
+-- The end of each part of a printed line.
 use Rattle.std.proofs.Common.{◌≡◌, ◌≢◌, ◌↔◌, ℕ, suc, ◌+◌, ◌<◌, Bool, true, false, not, ◌&&◌, All, List, [], ◌∷◌, ◌++◌, length, get_or, nat_eq, nat_le, if◌then◌else◌, refl, sym, ap, ◌∙◌, subst, arith, zero-add}
 use Rattle.std.proofs.lemmas.Bool.Decides.{nat_tests}
 use Rattle.std.proofs.lemmas.Bool.{true≢false, and_parts}
@@ -17,7 +17,7 @@ use Rattle.be_journal_text.specs.declared.parts.Quoting.{Quoting}
 use Rattle.be_journal_text.specs.declared.parts.Quoting.TheVariants.{Outside, Inside, Escaped}
 use Rattle.be_journal_text.proofs.Cuts.{beyond, is_end, length_to}
 
--- whether the byte after these bytes is in quotes
+-- whether the byte after these bytes is inside quotes
 abbrev pub walk : Quoting → List ℕ → Quoting
 walk q [] = q
 walk q (c ∷ text) = walk (beyond q c) text
@@ -31,7 +31,7 @@ IsQuiet end q (c ∷ text) = (is_end end q c ≡ false) × IsQuiet end (beyond q
 abbrev pub in_line : ℕ → Bool
 in_line c = not (nat_eq c 10)
 
--- bytes without an end, in which each quote is closed
+-- bytes without an end, in which every quote is closed
 record IsClosed (end : ℕ) (text : List ℕ) : Type 0 where
   pub quiet : IsQuiet end Outside text
   pub back : walk Outside text ≡ Outside
@@ -73,7 +73,7 @@ both_closed end xs ys h g = record {
   back = walk-append Outside xs ys ∙ (ap (λ (q : Quoting). walk q ys) h.back ∙ g.back);
 }
 
--- a blank, a '-', a letter or a digit
+-- a space, a '-', a letter or a digit
 abbrev pub is_word_byte : ℕ → Bool
 is_word_byte c =
     if nat_le c 33 then nat_eq c 32
@@ -92,13 +92,14 @@ unlike test c d h g = by (nat_eq c d) refl
     by false e = refl
     by true e = absurd (true≢false (sym h ∙ (ap test (same_byte c d e) ∙ g)))
 
--- a byte of words differs from one that isn't
+-- a byte that can be in a word differs from a byte that can't
 pub is_other : (c d : ℕ) → is_word_byte c ≡ true → is_word_byte d ≡ false → nat_eq c d ≡ false
 is_other c d h g = unlike is_word_byte c d h g
 
--- Inside quotes no part ends. Only a `"` ends the quotes, and a `\` escapes a byte.
+-- No part ends inside quotes. Only a `"` closes the quotes, and a `\` escapes a byte.
 
--- No byte inside quotes is an end: this holds for each escaped byte and each byte that stays inside.
+-- No byte inside quotes is an end. This holds for each escaped byte and each byte after which the
+-- text is still inside quotes.
 pub record IsInside (end : ℕ) (text : List ℕ) : Type 0 where
   pub quiet : IsQuiet end Inside text
   pub back : walk Inside text ≡ Inside
@@ -141,7 +142,7 @@ ascii_byte c d k small l other = by (nat_eq (get_or (encode_utf8 c) k 0) d) refl
         let same = inside_one c [] (encode_utf8 c) k (sym (append-nil (encode_utf8 c))) l (omega (arith, is, small)) in
         absurd (true≢false (sym e ∙ (ap (λ b. nat_eq b d) (sym same) ∙ other)))
 
--- a character as it is printed inside quotes
+-- a character, as it is printed inside quotes
 inside_char : (end c : ℕ) → IsInside end (escaped c)
 inside_char end c = by34 (nat_eq c 34) refl
   where
@@ -169,7 +170,7 @@ inside_chars end (c ∷ cs) =
     subst (λ (l : List ℕ). IsInside end l) (sym (flat_map-cons escaped c cs))
     (both_inside end (escaped c) (flat_map escaped cs) (inside_char end c) (inside_chars end cs))
 
--- a quote, the text inside, and a quote
+-- a quote, the text inside, and the closing quote
 quotes_closed : (end : ℕ) (text : List ℕ) → nat_eq 34 end ≡ false → IsInside end text → IsClosed end (34 ∷ (text ++ 34 ∷ []))
 quotes_closed end text other h = record {
   quiet = (other, quiet_append end Inside text (34 ∷ []) h.quiet (subst (λ (q : Quoting). IsQuiet end q (34 ∷ [])) (sym h.back) (refl, tt)));
@@ -200,7 +201,7 @@ part_before end xs ys part =
     length_through end Outside xs (end ∷ ys) h.quiet ∙ (ap (λ (q : Quoting). length xs + length_to end q (end ∷ ys)) h.back
     ∙ (ap (λ n. length xs + n) stops ∙ sum))
 
--- a part without an end after it goes to the end of the text
+-- a part without an end after it extends to the end of the text
 pub part_whole : (end : ℕ) (xs : List ℕ) → IsLinePart end xs → length_to end Outside xs ≡ length xs
 part_whole end xs part =
     let h = part_closed end xs part in
@@ -250,7 +251,7 @@ words_part end (x ∷ xs) g h =
     both_parts end (x ∷ []) xs
     (one_piece end (byte x) (other_byte x end (is_other x end p.0 g), other_byte x 34 (is_other x 34 p.0 refl))) (words_part end xs g p.1)
 
--- a name or a text in quotes
+-- a quoted name or string
 pub quoted_part : (end : ℕ) (text : List ℕ) → nat_eq 34 end ≡ false → IsLinePart end (quoted text)
 quoted_part end text other = one_piece end (in_quotes (chars text)) (other_byte 34 end other)
 
@@ -273,7 +274,7 @@ pub hex_part : (end : ℕ) (digits : List ℕ) → nat_eq 34 end ≡ false → l
 hex_part end digits other h =
     subst (λ (l : List ℕ). IsLinePart end (34 ∷ (l ++ 34 ∷ []))) (words_escaped digits h) (one_piece end (in_quotes digits) (other_byte 34 end other))
 
--- A part that ends with an LF is within a line.
+-- A part that ends at an LF contains no LF itself.
 
 piece_line : (piece : Piece) → IsApart 10 piece → list_all in_line (piece_text piece) ≡ true
 piece_line (byte c) h = rw (differ c 10 h.0) refl

@@ -1,4 +1,4 @@
--- Reading printed lists and journals, one element at a time.
+-- Reads printed lists and journals, one element at a time.
 use Rattle.std.proofs.Common.{◌≡◌, ℕ, ◌+◌, ◌^◌, ◌<◌, ◌≤◌, true, nat_eq, nat_le, List, [], ◌∷◌, ◌++◌, length, length-append, drop, All, Some, None, codes, refl, sym, ap, ◌∙◌, subst, append_assoc, arith}
 use Rattle.std.proofs.lemmas.Bool.Decides.{nat_tests}
 use Rattle.std.proofs.lemmas.List.{append-nil}
@@ -27,17 +27,18 @@ all_right : {X : Type 0} (P : X → Type 0) (xs ys : List X) → All P (xs ++ ys
 all_right P [] ys h = h
 all_right P (x ∷ xs) ys h = all_right P xs ys (All-tail P x (xs ++ ys) h)
 
--- What remains of a list while its text is read. For any list that was printed as this text, these elements were read, and `rest`
--- is the text of the others.
+-- What remains of a list while its text is being read. For any list that was printed as this text,
+-- these elements were read, and `rest` is the text of the others.
 abbrev pub IsLeft : {X : Type 0} → (X → Type 0) → (X → List ℕ) → List ℕ → List X → List ℕ → Type 0
 IsLeft {X} P text_of text read rest =
     (xs : List X) → All P xs → text ≡ join_by text_of (codes "; ") xs → (more : List X) × (xs ≡ read ++ more) × (rest ≡ join_by text_of (codes "; ") more)
 
--- before anything is read
+-- before anything has been read
 pub all_left : {X : Type 0} (P : X → Type 0) (text_of : X → List ℕ) (text : List ℕ) → IsLeft P text_of text [] text
 all_left P text_of text xs are is = (xs, refl, is)
 
--- The text of the first element and that of the others, if a text joined by `; ` is cut at its first end.
+-- The text of the first element and the text of the others, if a text joined by `; ` is cut at its
+-- first end.
 pub joined_cut : {X : Type 0} (P : X → Type 0) (text_of : X → List ℕ) (rest part beyond : List ℕ) → ((y : X) → P y → IsLinePart 59 (text_of y)) →
     ((xs more : List ℕ) → IsLinePart 59 xs → rest ≡ xs ++ 59 ∷ more → (part ≡ xs) × (beyond ≡ more)) → (IsLinePart 59 rest → (part ≡ rest) × (beyond ≡ [])) →
     (y : X) (more : List X) → P y → rest ≡ join_by text_of (codes "; ") (y ∷ more) → (part ≡ text_of y) × (drop 1 beyond ≡ join_by text_of (codes "; ") more)
@@ -51,7 +52,7 @@ joined_cut P text_of rest part beyond each ends alone y (z ∷ zs) can now =
     let cut = ends (text_of y) (32 ∷ (text_of z ++ more)) (each y can) is in
     (cut.0, ap (λ l. drop 1 l) cut.1)
 
--- the text of the first element is `part`, and that of the others is `rest'`
+-- the text of the first element is `part`, and the text of the others is `rest'`
 abbrev pub IsCut : {X : Type 0} → (X → Type 0) → (X → List ℕ) → List ℕ → List ℕ → List ℕ → Type 0
 IsCut {X} P text_of rest part rest' =
     (y : X) (more : List X) → P y → rest ≡ join_by text_of (codes "; ") (y ∷ more) → (part ≡ text_of y) × (rest' ≡ join_by text_of (codes "; ") more)
@@ -74,7 +75,7 @@ less_left {X} P text_of text rest part rest' read read' x some left cut exact re
           parted.1,
         )
 
--- what remains begins with the text of such an element
+-- the remaining text begins with the text of such an element
 pub first_left : {X : Type 0} (P : X → Type 0) (text_of : X → List ℕ) (text rest part rest' : List ℕ) (read : List X) → 1 ≤ length rest →
     IsLeft P text_of text read rest → IsCut P text_of rest part rest' → (xs : List X) → All P xs → text ≡ join_by text_of (codes "; ") xs →
     (y : X) × P y × (part ≡ text_of y)
@@ -98,7 +99,7 @@ none_left {X} P text_of text rest read long none left xs are is = let h = left x
         let can : P y = All-head P y more (all_right P read (y ∷ more) (subst (All P) same are)) in
         absurd (omega (arith, long y can, none, ap length now, length-append (text_of y) (flat_map (λ z. codes "; " ++ text_of z) more)))
 
--- The same for a journal: the entries that were read, and the text of the others.
+-- `IsLeft` for a journal: these entries were read, and `rest` is the text of the others.
 abbrev pub AreLeft : List ℕ → List Entry → List ℕ → Type 0
 AreLeft text read rest =
     (entries : List Entry) → CanBeJournal entries → text ≡ lines_from 1 entries →
@@ -112,7 +113,7 @@ abbrev pub IsLineCut : ℕ → List ℕ → List ℕ → List ℕ → Type 0
 IsLineCut number rest first rest' =
     (e : Entry) (more : List ℕ) → CanBeEntry e → rest ≡ entry_line number e ++ more → (first ≡ entry_line number e) × (rest' ≡ more)
 
--- this holds if the text is cut at its first LF
+-- `IsLineCut` holds if the text is cut at its first LF
 pub line_cut : (number : ℕ) (rest first rest' : List ℕ) → number < 2 ^ 64 →
     ((line more : List ℕ) → IsLinePart 10 line → rest ≡ line ++ 10 ∷ more → (first ≡ line ++ 10 ∷ []) × (rest' ≡ more)) → IsLineCut number rest first rest'
 line_cut number rest first rest' small cut e more w now =
@@ -144,7 +145,7 @@ less_lines_left text rest first rest' read read' entry some left cut exact read_
           parted.1 ∙ ap (λ k. lines_from k more) (sym counted),
         )
 
--- what remains begins with the line of such an entry
+-- the remaining text begins with the line of such an entry
 pub first_line_left : (text rest first rest' : List ℕ) (read : List Entry) → 1 ≤ length rest → AreLeft text read rest →
     IsLineCut (1 + length read) rest first rest' → (entries : List Entry) → CanBeJournal entries → text ≡ lines_from 1 entries →
     (entry : Entry) × CanBeEntry entry × (first ≡ entry_line (1 + length read) entry)
@@ -177,7 +178,7 @@ no_lines_left text rest read none left entries are is = let h = left entries are
         let long = length-append (entry_line (1 + length read) e) (lines_from (1 + length read + 1) more) in
         absurd (omega (arith, long, none, ap length now, entry_line_long (1 + length read) e))
 
--- the text of the entries read grows by the line that was read
+-- the text of the entries that were read grows by the line that is read
 pub lines_read : (text rest first rest' : List ℕ) (read read' : List Entry) (entry : Entry) → lines_from 1 read ++ rest ≡ text → first ++ rest' ≡ rest →
     first ≡ entry_line (1 + length read) entry → read' ≡ read ++ entry ∷ [] → lines_from 1 read' ++ rest' ≡ text
 lines_read text rest first rest' read read' entry was whole line read_is =
@@ -187,7 +188,7 @@ lines_read text rest first rest' read read' entry was whole line read_is =
     ∙ (ap (λ l. lines_from 1 read ++ (l ++ rest')) (sym line)
     ∙ (ap (λ l. lines_from 1 read ++ l) whole ∙ was))))
 
--- the texts of operations and outcomes aren't empty
+-- the text of an operation isn't empty, nor is that of an outcome
 pub op_long : (op : Op) → CanBeOp op → 1 ≤ length (op_text op)
 op_long New h = omega arith
 op_long (Drop node) h = omega arith
@@ -200,7 +201,7 @@ pub done_long : (done : Done) → CanBeDone done → 1 ≤ length (done_text don
 done_long (Node node) h = omega arith
 done_long Nothing h = omega arith
 
--- the lists of an entry make an entry
+-- the lists of an entry form an entry
 pub entry_made : (entry : Entry) → CanBeEntry entry → entry_of entry.by entry.ops entry.dones ≡ Some entry
 entry_made entry w =
     let some : nat_le 1 (length entry.ops) ≡ true = grind (arith, nat_tests, w.is.0) in

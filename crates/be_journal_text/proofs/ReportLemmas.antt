@@ -1,4 +1,4 @@
--- Where the journal is in what was printed.
+-- The position of the journal in an output.
 use Rattle.std.proofs.Common.{◌≡◌, ◌⊎◌, inl, inr, ⊎_elim, ℕ, ◌+◌, ◌-◌, ◌^◌, ◌<◌, ◌≤◌, Bool, true, false, not, ◌&&◌, List, [], ◌∷◌, ◌++◌, length, length-append, take, drop, nat_eq, All, IfOk, IfSome, Some, None, if◌then◌else◌, codes, refl, sym, ap, ◌∙◌, append_assoc, arith}
 use Rattle.std.proofs.lemmas.Bool.{and_parts}
 use Rattle.std.proofs.lemmas.Fmt.{decimal_nonempty}
@@ -30,7 +30,8 @@ abbrev pub or_else : Option (List ℕ) → Option (List ℕ) → Option (List �
 or_else (Some text) other = Some text
 or_else None other = other
 
--- the text from its last line on that begins with `j`; the flag says whether a line starts at the front
+-- the text from its last line that begins with `j`; the flag says whether the text begins at the
+-- start of a line
 abbrev pub from_last_j : Bool → List ℕ → Option (List ℕ)
 from_last_j start [] = None
 from_last_j start (c ∷ text) = or_else (from_last_j (nat_eq c 10) text) (if start && nat_eq c 106 then Some (c ∷ text) else None)
@@ -43,7 +44,7 @@ not_so : (b : Bool) → not b ≡ true → b ≡ false
 not_so false h = refl
 not_so true h = cc
 
--- no line starts within a line
+-- no line begins inside a line
 along : (w rest : List ℕ) → list_all in_line w ≡ true → from_last_j false (w ++ rest) ≡ from_last_j false rest
 along [] rest h = refl
 along (c ∷ w) rest h =
@@ -85,7 +86,7 @@ lines_passed n (e ∷ es) rest h few =
 pub none_in_lines : (es : List Entry) → CanBeJournal es → from_last_j true (lines_from 1 es) ≡ None
 none_in_lines es are = ap (from_last_j true) (sym (append-nil (lines_from 1 es))) ∙ lines_passed 1 es [] are.0 (omega (arith, are.1))
 
--- a race's result begins with the last such line
+-- a race's result begins with the last line that begins with `j`
 result_is_last : (es : List Entry) → CanBeJournal es → from_last_j true (result_text es) ≡ Some (result_text es)
 result_is_last es are =
     let n = length es in
@@ -99,7 +100,7 @@ result_is_last es are =
     ∙ lines_passed 1 es (codes "replay ok\n") are.0 (omega (arith, are.1))))) in
     ap (λ o. or_else o (Some (result_text es))) none
 
--- whether a line starts after these bytes
+-- whether a line begins after these bytes
 abbrev start_beyond : Bool → List ℕ → Bool
 start_beyond start [] = start
 start_beyond start (c ∷ text) = start_beyond (nat_eq c 10) text
@@ -126,7 +127,7 @@ are_lines : (front : List ℕ) → start_beyond true front ≡ true → AreLines
 are_lines [] h = inl refl
 are_lines (c ∷ text) h = inr (last_byte true c text h)
 
--- where the line was found
+-- the position at which the line was found
 abbrev IsBeyond : Bool → List ℕ → List ℕ → Type 0
 IsBeyond start text result = (front : List ℕ) × (more : List ℕ) × (start_beyond start front ≡ true) × (text ≡ front ++ result) × (result ≡ 106 ∷ more)
 
@@ -151,7 +152,7 @@ found_after start (c ∷ text) result h = found_in start c text result (from_las
 found_from_j : (text result : List ℕ) → from_last_j true text ≡ Some result → IsFromJ text result
 found_from_j text result h = let found = found_after true text result h in (found.0, found.1, are_lines found.0 found.2, found.3, found.4)
 
--- if a line begins with `j`, it is found, or a later one is
+-- if a line begins with `j`, that line or a later one is found
 found_from : (more : List ℕ) → (result : List ℕ) × (from_last_j true (106 ∷ more) ≡ Some result) × (length result ≤ length (106 ∷ more))
 found_from more = by (from_last_j false more) refl
   where
@@ -173,7 +174,7 @@ found_at text rest h =
       omega (arith, found.2, ap length h.4),
     )
 
--- the result is the text from the last such line on, and nothing else is
+-- the result is exactly the text from the last such line to the end
 pub is_from_last_j : (text : List ℕ) (o : Option (List ℕ)) → from_last_j true text ≡ o → IsFromLastJ text o
 is_from_last_j text None e = λ rest h. let found = found_at text rest h in never_some found.0 (sym e ∙ found.1)
 is_from_last_j text (Some last) e = (
@@ -182,7 +183,7 @@ is_from_last_j text (Some last) e = (
       let same : last ≡ found.0 = inside last found.0 (sym e ∙ found.1) in omega (arith, found.2, ap length same),
 )
 
--- ends of one text that have the same length are equal
+-- two ends of a text that have the same length are equal
 same_ends : (f g r s : List ℕ) → f ++ r ≡ g ++ s → length r ≡ length s → r ≡ s
 same_ends f g r s h long =
     let place : length f ≡ length g = omega (arith, long, ap length h, length-append f r, length-append g s) in
@@ -200,13 +201,14 @@ one_from_last_j text (Some last) h =
     let long : length last ≡ length found.0 = omega (arith, found.2, h.1 found.0 other) in
     found.1 ∙ ap (λ l. Some l) (same_ends other.0 h.0.0 found.0 last (sym other.3 ∙ h.0.3) (sym long))
 
--- if the text from the last such line on is a result, it is the end of the text
+-- if the text from the last such line is a result, it is the end of the text
 pub reports_result : (text result : List ℕ) (es : List Entry) → from_last_j true text ≡ Some result → result ≡ result_text es → TextReports text es
 reports_result text result es h is =
     let found = found_from_j text result h in
     inr (found.0, found.2, found.3 ∙ ap (λ l. found.0 ++ l) is)
 
--- a text that has these entries either ends with their result, or has no such line and is their text
+-- a text that has these entries either ends with their result or, if it has no such line, is their
+-- text
 reports_last : (text : List ℕ) (es : List Entry) → CanBeJournal es → TextReports text es →
     ((from_last_j true text ≡ None) × (text ≡ lines_from 1 es)) ⊎ (from_last_j true text ≡ Some (result_text es))
 reports_last text es are (inl is) = inl (ap (from_last_j true) is ∙ none_in_lines es are, is)
@@ -222,7 +224,8 @@ some_reported text result es are reports h =
 pub none_reported : (text : List ℕ) (es : List Entry) → CanBeJournal es → TextReports text es → from_last_j true text ≡ None → text ≡ lines_from 1 es
 none_reported text es are reports h = ⊎_elim (λ none. none.1) (λ is. never_some (result_text es) (sym h ∙ is)) (reports_last text es are reports)
 
--- What is read of a text from its last such line on, or of a text without one: the entries that the text has.
+-- What is read from a text's last such line, or from a text without one, is the entries that the
+-- text has.
 module _ {X E : Type 0} (r : Result (Option X) E) (items : X → List Entry) (text : List ℕ) where
   pub some_reads : (last : List ℕ) → from_last_j true text ≡ Some last →
       IfOk r (λ read. IfSome read (λ x. CanBeJournal (items x) × (last ≡ result_text (items x)))) →

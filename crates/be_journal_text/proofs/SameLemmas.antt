@@ -1,4 +1,4 @@
--- Two things that are printed as the same text are equal.
+-- If two values are printed as the same text, they are equal.
 use Rattle.std.proofs.Common.{◌≡◌, ℕ, ◌+◌, ◌^◌, ◌<◌, ◌≤◌, List, [], ◌∷◌, ◌++◌, length, length-append, drop, All, Ok, codes, refl, sym, ap, ◌∙◌, arith}
 use Rattle.std.proofs.lemmas.Fmt.{decimal_injective}
 use Rattle.std.proofs.lemmas.List.Elements.{All-head, All-tail}
@@ -24,7 +24,7 @@ same_op x y h g e = written x y (sym (op_asked x h) ∙ (ap asked e ∙ op_asked
 same_done : (x y : Done) → CanBeDone x → CanBeDone y → done_text x ≡ done_text y → x ≡ y
 same_done x y h g e = sym (done_read x h) ∙ (ap done_in e ∙ done_read y g)
 
--- texts joined by `; `
+-- strings joined by `; `
 same_lists : {X : Type 0} (P : X → Type 0) (text_of : X → List ℕ) → ((x : X) → P x → IsLinePart 59 (text_of x)) → ((x : X) → P x → 1 ≤ length (text_of x)) →
     ((x y : X) → P x → P y → text_of x ≡ text_of y → x ≡ y) → (xs ys : List X) → All P xs → All P ys →
     join_by text_of (codes "; ") xs ≡ join_by text_of (codes "; ") ys → xs ≡ ys

@@ -1,4 +1,4 @@
--- The scripts that make a journal's writes again, or only its volume.
+-- The scripts that make a journal's writes again, or rebuild only its volume.
 use Rattle.std.specs.Prelude.{◌≡◌, ℕ, zero, suc, List, [], ◌∷◌, ◌++◌, All, codes, drop, flat_map}
 use Rattle.std.specs.Prelude.{length, nat_lt, take, if◌then◌else◌, Some, None}
 use Rattle.std.specs.declared.option.Option.{Option}
@@ -14,13 +14,13 @@ use Rattle.be_journal_text.specs.History.{CanBeJournal, CanBeOp}
 abbrev pub op_line : Op → List ℕ
 op_line op = op_text op ++ codes "\n"
 
--- the lines of one write: its operation, or a batch if there are several
+-- the lines for one write: its only operation, or a batch if there are several operations
 abbrev pub write_lines : List Op → List ℕ
 write_lines ops =
     if nat_lt 1 (length ops) then codes "begin\n" ++ (flat_map op_line ops ++ codes "commit\n")
     else flat_map op_line ops
 
--- the lines of all writes
+-- the lines for all writes
 abbrev pub dump : List Entry → List ℕ
 dump entries = flat_map (λ entry. write_lines entry.ops) entries
 
@@ -38,16 +38,16 @@ cut_within (suc most) (op ∷ ops) = take 64 (op ∷ ops) ∷ cut_within most (d
 abbrev pub cut : List Op → List (List Op)
 cut ops = cut_within (length ops) ops
 
--- the lines of operations that are written as lists of 64
+-- the lines for operations that are written as lists of 64
 abbrev pub cut_lines : List Op → List ℕ
 cut_lines ops = flat_map write_lines (cut ops)
 
--- the lines that make a volume from the empty one
+-- the lines that rebuild a volume from an empty one
 abbrev pub state_dump : State → List ℕ
 state_dump s = cut_lines (state_ops s)
 
--- The script of the volume that a text's journal makes, if the program can make each of its
--- operations; None if the text has no journal.
+-- The script that rebuilds the volume of a text's journal, if the program can make each operation
+-- in the script. None if the text has no journal.
 abbrev pub IsStateDump : List ℕ → Option (List ℕ) → Type 0
 IsStateDump text None = (entries : List Entry) → CanBeJournal entries → TextReports text entries → ⊥
 IsStateDump text (Some script) =

@@ -1,4 +1,4 @@
--- Which entries a journal's text can have.
+-- The entries that a journal's text can have.
 use Rattle.std.specs.Prelude.{ℕ, ◌<◌, ◌^◌, ⊤, All, List, length, nat_le, nat_eq, ◌&&◌}
 use Rattle.std.specs.Prelude.{if◌then◌else◌, Some, None}
 use Rattle.std.specs.declared.option.Option.{Option}
@@ -23,7 +23,7 @@ HasBytes (Rawt bytes) = All (λ b. b < 2 ^ 8) bytes
 HasBytes (Ulng n) = ⊤
 HasBytes (Ullg n) = ⊤
 
--- the operation's node is a number of 64 bits, and the raw bytes that it sets are below 256
+-- the operation's node number is below 2^64, and any raw bytes that it sets are below 256
 abbrev pub HasNumber : Op → Type 0
 HasNumber New = ⊤
 HasNumber (Drop node) = node < 2 ^ 64
@@ -48,11 +48,11 @@ pub record CanBeEntry (entry : Entry) : Type 0 where
   pub ops : All CanBeOp entry.ops
   pub dones : All CanBeDone entry.dones
 
--- the entries of a journal: fewer than 2^32
+-- a journal's entries: the program can make each of them, and there are fewer than 2^32
 abbrev pub CanBeJournal : List Entry → Type 0
 CanBeJournal entries = All CanBeEntry entries × (length entries < 2 ^ 32)
 
--- the entry of these lists, if they have 1 to 64 operations and an outcome for each
+-- the entry with these lists, if they have 1 to 64 operations and an outcome for each
 abbrev pub entry_of : ℕ → List Op → List Done → Option Entry
 entry_of by ops dones =
     if nat_le 1 (length ops) && (nat_le (length ops) 64 && nat_eq (length dones) (length ops))

@@ -6,7 +6,7 @@ use Rattle.be_journal.specs.Text.{escaped}
 use Rattle.be_script_language.specs.Request.{Request, write, asked}
 use Rattle.be_volume.specs.declared.ops.Op.{Op}
 
--- a byte, or characters in quotes
+-- a single byte, or characters in quotes
 pub data Piece : Type 0 where
   byte : ℕ → Piece
   in_quotes : List ℕ → Piece
@@ -20,7 +20,7 @@ abbrev pub IsApart : ℕ → Piece → Type 0
 IsApart end (byte c) = (c ≢ end) × (c ≢ 34)
 IsApart end (in_quotes characters) = 34 ≢ end
 
--- a part of a line: bytes and quotes, without `end` outside quotes
+-- a part of a line: bytes and quoted characters, without `end` outside quotes
 pub record IsLinePart (end : ℕ) (text : List ℕ) : Type 0 where
   pub pieces : List Piece
   pub apart : All (IsApart end) pieces

@@ -6,19 +6,19 @@ use crate::outputs::reported_journal;
 use be_journal::{Entry, entry_line, first_wrong};
 use std::alloc::{AllocError, Global};
 
-/// What the check of a text found.
+/// What checking a text found.
 #[derive(Debug, Drop, PartialEq, Eq)]
 pub enum Finding {
     /// The text has no journal.
     NoJournal,
-    /// The journal has this many entries. Each has the outcomes of a volume that has run the
-    /// entries before it.
+    /// The journal has this many entries. Each has the outcomes that a volume gives after running
+    /// the entries before it.
     Right(u64),
-    /// The line of the first wrong entry, with its LF, and the number of the journal's entries.
+    /// The line of the first wrong entry, with its LF, and the number of entries in the journal.
     Wrong(String, u64),
 }
 
-/// What the check of these entries finds.
+/// The result of checking these entries.
 fn finding_of(alloc: Global, entries: &[Entry]) -> Result<Finding, AllocError>
     requires { spec.AreChecked entries.now }
     ensures { IfOk result (λ found. spec.IsFound entries.now (spec.found_of found)) }
@@ -31,9 +31,9 @@ fn finding_of(alloc: Global, entries: &[Entry]) -> Result<Finding, AllocError>
     Ok(Finding::Wrong(line, count))
 }
 
-/// Runs a text's journal again, on an empty volume. It returns whether each entry has the right
-/// outcomes, or the line of the first that doesn't, and the number of entries. It trusts only the
-/// text. The only error is out of memory.
+/// Replays a text's journal on an empty volume. Returns the number of entries, and the line of the
+/// first entry that has wrong outcomes, if there is one. It trusts only the text. The only error is
+/// running out of memory.
 pub fn check(alloc: Global, text: &[u8]) -> Result<Finding, AllocError>
     ensures { IfOk result (λ found. spec.IsFinding text.now (spec.found_of found)) }
 {

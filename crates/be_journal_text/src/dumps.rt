@@ -19,7 +19,7 @@ fn push_lines(alloc: Global, text: &mut String, ops: &[Op]) -> Result<(), AllocE
     Ok(())
 }
 
-/// The lines of one write: its operation, or a batch if there are several.
+/// The lines for one write: its only operation, or a batch if there are several operations.
 pub(crate) fn write_text(alloc: Global, ops: &[Op]) -> Result<String, AllocError>
     ensures { IfOk result (λ text. string_bytes text ≡ spec.write_lines ops.now) }
 {
@@ -34,9 +34,9 @@ pub(crate) fn write_text(alloc: Global, ops: &[Op]) -> Result<String, AllocError
     Ok(text)
 }
 
-/// The script that makes these entries' writes again, one after the other. A write of several
-/// operations becomes a batch. be_script_runner's law `dump_makes_journal` says what the script
-/// makes.
+/// The script that makes these entries' writes again, in order. A write of several operations
+/// becomes a batch. be_script_runner's law `dump_makes_journal` says what running the script
+/// produces.
 pub fn dump(alloc: Global, entries: &[Entry]) -> Result<String, AllocError>
     ensures { IfOk result (λ text. string_bytes text ≡ spec.dump entries.now) }
 {

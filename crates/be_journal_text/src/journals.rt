@@ -21,7 +21,8 @@ use std::alloc::{AllocError, Global};
 /// The maximum number of entries in a journal.
 const MAX_ENTRIES: usize = (1 << 32) - 1;
 
-/// The entry of these lists, if they have the same length and it is that of a write: 1 to 64.
+/// The entry with these lists, if both have the same length and that length is valid for a write (1
+/// to 64).
 fn entry_of(by: u64, ops: Vec<Op>, dones: Vec<Done>) -> Option<Entry>
     ensures { result ≡ history.entry_of by ops.items dones.items }
 {
@@ -36,7 +37,7 @@ fn entry_of(by: u64, ops: Vec<Op>, dones: Vec<Done>) -> Option<Entry>
     })
 }
 
-/// What follows `N by ` in the line of entry N.
+/// The part of the line of entry N that follows `N by `.
 fn after_number(alloc: Global, number: u64, line: &[u8]) -> Result<&[u8], AllocError>
     ensures { IfOk result (λ rest. (more : List ℕ) → line.now ≡ decimal number
         ++ (codes " by " ++ more) → rest.now ≡ more) }
@@ -45,8 +46,8 @@ fn after_number(alloc: Global, number: u64, line: &[u8]) -> Result<&[u8], AllocE
     Ok(skip(head.len(), line))
 }
 
-/// The texts of the pass, the operations and the outcomes in the line of the entry with this
-/// number.
+/// The parts of the line of the entry with this number that encode the pass, the operations and the
+/// outcomes.
 fn parts_of(alloc: Global, number: u64, line: &[u8]) -> Result<(&[u8], &[u8], &[u8]), AllocError>
     ensures { IfOk result (λ parts. (entry : AnyEntry) → history.CanBeEntry entry → line.now
         ≡ entry_line number entry →
@@ -60,8 +61,8 @@ fn parts_of(alloc: Global, number: u64, line: &[u8]) -> Result<(&[u8], &[u8], &[
     Ok((by, without_last_two(ops), dones))
 }
 
-/// The entry of a line with its LF, if an entry was printed as this line; otherwise any entry or
-/// none.
+/// If this line, with its LF, was printed from an entry, returns that entry; otherwise returns any
+/// entry or none.
 fn guess_entry(alloc: Global, number: u64, line: &[u8]) -> Result<Option<Entry>, AllocError>
     ensures whole { IfOk result (λ read. (entry : AnyEntry) → history.CanBeEntry entry → line.now
         ≡ entry_line number entry → read ≡ Some entry) }
@@ -80,7 +81,7 @@ fn guess_entry(alloc: Global, number: u64, line: &[u8]) -> Result<Option<Entry>,
     Ok(entry_of(by, ops, dones))
 }
 
-/// The entry with this line, including its LF. `None` if no entry has it.
+/// The entry that has this line, with its LF. Returns `None` if no entry has it.
 fn read_entry(alloc: Global, number: u64, line: &[u8]) -> Result<Option<Entry>, AllocError>
     ensures reads { IfOk result (λ read. IfSome read
         (λ entry. history.CanBeEntry entry × (line.now ≡ entry_line number entry))) }
@@ -99,7 +100,7 @@ fn read_entry(alloc: Global, number: u64, line: &[u8]) -> Result<Option<Entry>, 
     Ok(Some(entry))
 }
 
-/// The first line with its LF, and the text after it. The last line may have no LF.
+/// The first line with its LF, and the text after it. The last line may lack an LF.
 pub(crate) fn first_line(text: &[u8]) -> (&[u8], &[u8])
     ensures whole { result.0.now ++ result.1.now ≡ text.now }
     ensures first { (line more : List ℕ) → spec.IsLinePart 10 line → text.now ≡ line ++ 10 ∷ more
@@ -114,11 +115,11 @@ pub(crate) fn first_line(text: &[u8]) -> (&[u8], &[u8])
     }
 }
 
-/// Reads a journal's text: its entries, or `None` if no journal has this text. The only error is
-/// out of memory.
+/// Reads a journal's text. Returns its entries, or `None` if no journal has this text. The only
+/// error is running out of memory.
 ///
-/// It is the exact inverse of printing: the entries it returns have this text, and if any entries
-/// have this text, it returns them.
+/// This is the exact inverse of printing: the returned entries have this text, and if any entries
+/// have this text, they are returned.
 pub fn read_journal(alloc: Global, text: &[u8]) -> Result<Option<Vec<Entry>>, AllocError>
     ensures reads { IfOk result (λ read. IfSome read
         (λ entries. history.CanBeJournal entries.items × (text.now ≡ lines_from 1 entries.items))) }

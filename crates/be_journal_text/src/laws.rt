@@ -1,4 +1,5 @@
-//! Laws about the definitions. Each is a function that does nothing; its contract is the law.
+//! Laws that the definitions satisfy. Each is a function that does nothing; its contract is the
+//! law.
 ghost use Rattle.std.specs.Prelude.{◌≡◌, ℕ, List, Ok};
 ghost use Rattle.be_volume.specs.declared.ops.Op.{Op as AnyOp};
 ghost use Rattle.be_journal.specs.Text.{lines_from, op_text};

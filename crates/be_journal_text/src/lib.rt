@@ -1,11 +1,12 @@
-//! Journals as texts: reading a journal back, checking it, and writing scripts that rebuild it or
+//! Journals as text: reading a journal back, checking it, and writing scripts that rebuild it or
 //! its volume.
 //!
-//! [`read_journal`] is the exact inverse of a journal's text: it reads any text that a journal has
-//! as that journal's entries, and no other text. [`check`] runs a journal's text again on an empty
-//! volume. [`dump`] writes the script that makes the same writes again, and [`dump_state`] one that
-//! makes the same volume. The modules, from the bottom up, are about the parts of a line,
-//! operations and outcomes, journals, what a race printed, the check, and the scripts.
+//! [`read_journal`] is the exact inverse of printing a journal: it reads the text of any journal as
+//! that journal's entries, and accepts no other text. [`check`] replays a journal's text on an
+//! empty volume. [`dump`] writes the script that makes the same writes again, and [`dump_state`]
+//! writes the script that rebuilds the same volume. From the bottom up, the modules handle the
+//! parts of a line, operations and outcomes, journals, the output of a race, the check, and the
+//! scripts.
 #![tactic(auto)]
 
 mod checks;

@@ -1,7 +1,8 @@
-//! The operations and the outcomes in an entry's line.
+//! The operations and outcomes in an entry's line.
 //!
-//! The results are right if the text was printed from an entry; otherwise they may be anything. So
-//! once an entry is read, it is printed again, and accepted only if that gives the same line.
+//! The results are correct if the text was printed from an entry; otherwise they may be anything.
+//! So after an entry is read, it is printed again, and it is accepted only if this gives the same
+//! line.
 ghost use Rattle.std.specs.List.{join_by};
 ghost use Rattle.std.specs.Option.{option_map};
 ghost use Rattle.std.specs.Prelude.{◌≡◌, List, All, Some, IfOk, codes};
@@ -31,7 +32,7 @@ fn read_op(alloc: Global, text: &[u8]) -> Result<Option<Op>, AllocError>
     }
 }
 
-/// The outcome that a text encodes: the number after `node `, if there is one.
+/// The outcome that a text encodes: a node if a number follows `node `, otherwise no value.
 fn read_done(text: &[u8]) -> Done
     ensures { (done : AnyDone) → history.CanBeDone done → text.now ≡ done_text done → result
         ≡ done }
@@ -42,7 +43,7 @@ fn read_done(text: &[u8]) -> Done
     }
 }
 
-/// The operations in a text, separated by `; `.
+/// The operations in a text that separates them with `; `.
 pub fn read_ops(alloc: Global, text: &[u8]) -> Result<Option<Vec<Op>>, AllocError>
     ensures { IfOk result (λ read. (ops : List AnyOp) → All history.CanBeOp ops → text.now
         ≡ join_by op_text (codes "; ") ops →
@@ -65,7 +66,7 @@ pub fn read_ops(alloc: Global, text: &[u8]) -> Result<Option<Vec<Op>>, AllocErro
     Ok(Some(ops))
 }
 
-/// The outcomes in a text, separated by `; `.
+/// The outcomes in a text that separates them with `; `.
 pub fn read_outcomes(alloc: Global, text: &[u8]) -> Result<Option<Vec<Done>>, AllocError>
     ensures { IfOk result (λ read. (dones : List AnyDone) → All history.CanBeDone dones → text.now
         ≡ join_by done_text (codes "; ") dones →

@@ -1,7 +1,7 @@
 //! The journal in the output of a race or a run.
 //!
 //! It is at the end of the output: the line `journal N`, the journal's text, and `replay ok`. No
-//! line of a journal's text begins with `j`, so it begins at the last line that does.
+//! line of a journal's text begins with `j`, so this part begins at the last line that does.
 ghost use Rattle.std.specs.Option.{option_map};
 ghost use Rattle.std.specs.Prelude.{◌≡◌, ◌≢◌, ◌↔◌, ◌++◌, ℕ, true, List, Some, IfOk, IfSome};
 ghost use Rattle.std.specs.Prelude.{MatchOption, codes};
@@ -14,10 +14,10 @@ use crate::journals::{first_line, read_journal};
 use be_journal::Entry;
 use std::alloc::{AllocError, Global};
 
-/// The last line of such an output.
+/// The last line of an output that ends with a journal.
 const LAST_LINE: &[u8] = b"replay ok\n";
 
-/// The text from the last line on that begins with `j`. `None` if no line does.
+/// The text from the last line that begins with `j` to the end. Returns `None` if no line does.
 fn from_last_j(text: &[u8]) -> Option<&[u8]>
     ensures { spec.IsFromLastJ text.now (option_map (λ t. t.now) result) }
 {
@@ -50,8 +50,8 @@ fn before_last(text: &[u8]) -> Option<&[u8]>
     text.strip_suffix(LAST_LINE)
 }
 
-/// The entries of the text that ends a race's output: `journal N`, the journal's text, and `replay
-/// ok`.
+/// The entries in the text at the end of a race's output: `journal N`, the journal's text, and
+/// `replay ok`.
 fn read_result(alloc: Global, text: &[u8]) -> Result<Option<Vec<Entry>>, AllocError>
     ensures reads { IfOk result (λ read. IfSome read
         (λ entries. CanBeJournal entries.items × (text.now ≡ result_text entries.items))) }
@@ -73,11 +73,12 @@ fn read_result(alloc: Global, text: &[u8]) -> Result<Option<Vec<Entry>>, AllocEr
     }
 }
 
-/// The journal in a text. The text may be the output of a race or of a run that prints its journal,
-/// or just the journal's text. `None` if the text has no journal. The only error is out of memory.
+/// The journal in a text. The text may be the output of a race, the output of a run that prints its
+/// journal, or the journal's text alone. Returns `None` if the text has no journal. The only error
+/// is running out of memory.
 ///
-/// It is exact: the journal that it returns is the text's, and it returns any journal that a text
-/// has. So no text has two journals.
+/// The result is exact: the returned journal is the text's, and every journal that a text can have
+/// is found. So no text has two journals.
 pub fn reported_journal(alloc: Global, text: &[u8]) -> Result<Option<Vec<Entry>>, AllocError>
     ensures reads { IfOk result (λ read. IfSome read
         (λ entries. CanBeJournal entries.items × spec.TextReports text.now entries.items)) }

@@ -1,17 +1,17 @@
-//! Where a part of an entry's line ends.
+//! Finds the end of each part of an entry's line.
 //!
-//! The parts of a line are separated by single bytes: a blank, `>`, `;` and LF. Names and texts in
-//! quotes may contain these bytes too, so a part ends at the first such byte outside quotes.
+//! The parts of a line are separated by single bytes: a space, `>`, `;` or LF. Quoted names and
+//! strings may contain these bytes too, so a part ends at the first such byte outside quotes.
 ghost use Rattle.std.specs.Prelude.{◌≡◌, ◌≤◌, ◌<◌, ◌-◌, ◌↔◌, ◌++◌, ◌∷◌, [], ℕ, List, true, drop};
 ghost use Rattle.std.specs.Prelude.{take, length, nat_eq, if◌then◌else◌};
 ghost use Rattle.be_journal_text.specs.Parts as spec;
 
-/// Whether the next byte is in quotes.
+/// Whether the next byte is inside quotes.
 #[derive(Clone, Copy, Debug, PartialEq, Eq)]
 pub enum Quoting {
     Outside,
     Inside,
-    /// In quotes, after a backslash.
+    /// Inside quotes, after a backslash.
     Escaped,
 }
 
@@ -54,7 +54,8 @@ fn is_end(end: u8, quoting: Quoting, byte: u8) -> bool
     }
 }
 
-/// The number of bytes before the first `end` outside quotes, or of all bytes if there is none.
+/// The number of bytes before the first `end` outside quotes, or the length of the text if there is
+/// no such `end`.
 fn length_to(end: u8, text: &[u8]) -> usize
     ensures ends { (part more : List ℕ) → spec.IsLinePart end part → text.now ≡ part ++ end ∷ more
         → result ≡ length part }
@@ -86,8 +87,8 @@ pub fn skip(count: usize, text: &[u8]) -> &[u8]
     }
 }
 
-/// The text before the first `end` outside quotes, and the text after that `end`. If there is none,
-/// the whole text and an empty one.
+/// The text before the first `end` outside quotes, and the text after that `end`. If there is no
+/// such `end`, returns the whole text and an empty text.
 pub fn split_around(end: u8, text: &[u8]) -> (&[u8], &[u8])
     ensures ends { (part more : List ℕ) → spec.IsLinePart end part → text.now ≡ part ++ end ∷ more
         → (result.0.now ≡ part) × (result.1.now ≡ more) }

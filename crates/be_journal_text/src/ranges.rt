@@ -1,5 +1,5 @@
-//! Borrowed numbers and operations are in the range of their types, which a contract can't conclude
-//! by itself. Each function does nothing; its contract is the fact.
+//! Borrowed numbers and operations are within the ranges of their types, a fact that a contract
+//! can't derive on its own. Each function does nothing; its contract is the fact.
 ghost use Rattle.std.specs.Prelude.{◌<◌, ◌^◌, All};
 ghost use Rattle.be_journal_text.specs.History as history;
 
@@ -25,8 +25,7 @@ fn value_has_bytes(value: &Value)
     }
 }
 
-/// A law about a borrowed operation: it is one that the program can make. The function does
-/// nothing.
+/// The borrowed operation is one that the program can make.
 fn op_can_be(op: &Op)
     ensures { history.CanBeOp op.now }
 {
@@ -43,7 +42,7 @@ fn op_can_be(op: &Op)
     }
 }
 
-/// The same for operations.
+/// The borrowed operations are ones that the program can make.
 pub fn ops_can_be(ops: &[Op])
     ensures { All history.CanBeOp ops.now }
 {
@@ -63,7 +62,7 @@ fn done_can_be(done: &Done)
     }
 }
 
-/// The same for outcomes.
+/// The borrowed outcomes are ones that the program can make.
 pub fn outcomes_can_be(dones: &[Done])
     ensures { All history.CanBeDone dones.now }
 {

@@ -1,7 +1,7 @@
-//! The script that makes a journal's volume, but not its history.
+//! The script that rebuilds a journal's volume, but not its history.
 //!
-//! The journal is replayed on a plain volume, and the operations that make this volume are written
-//! list by list. For any journal, the script has at most as many writes as the journal.
+//! The journal is replayed on a plain volume, and the operations that rebuild this volume are
+//! written list by list. For any journal, the script has no more writes than the journal.
 ghost use Rattle.std.specs.Option.{option_map};
 ghost use Rattle.std.specs.Prelude.{◌≡◌, ◌<◌, ◌++◌, [], All, IfOk, OnOk, length, true, false};
 ghost use Rattle.std.specs.String.{string_bytes};
@@ -30,7 +30,7 @@ pub fn push_write(alloc: Global, text: &mut String, ops: &[Op]) -> Result<(), Al
     text.push_str(write_text(alloc, ops)?.as_str())
 }
 
-/// Appends the lines of the next list of a volume's operations. False if none is left.
+/// Appends the lines for the next list of a volume's operations. Returns false if no list is left.
 fn push_next(
     alloc: Global,
     whole: &mut WholeVolume<'_>,
@@ -53,8 +53,8 @@ fn push_next(
     Ok(true)
 }
 
-/// The script that makes a volume, but not its history: the one that `dump_state` returns for a
-/// journal of this volume. The only error is out of memory.
+/// The script that rebuilds a volume, but not its history. It is the script that `dump_state`
+/// returns for a journal of this volume. The only error is running out of memory.
 pub fn volume_text(alloc: Global, volume: &Volume) -> Result<String, AllocError>
     ensures text { IfOk result (λ text. string_bytes text ≡ spec.state_dump volume.now) }
     ensures can { OnOk result (All CanBeOp (state_ops volume.now)) }
@@ -66,7 +66,7 @@ pub fn volume_text(alloc: Global, volume: &Volume) -> Result<String, AllocError>
     Ok(text)
 }
 
-/// The script that makes the volume of these entries.
+/// The script that rebuilds the volume of these entries.
 fn entries_text(alloc: Global, entries: &[Entry]) -> Result<String, AllocError>
     requires { AreChecked entries.now }
     ensures text { IfOk result (λ text. string_bytes text
@@ -77,13 +77,14 @@ fn entries_text(alloc: Global, entries: &[Entry]) -> Result<String, AllocError>
     volume_text(alloc, &volume)
 }
 
-/// The script that makes the volume of a text's journal, but not its history. It makes nodes with
-/// their numbers, attributes, and indices with their pairs, in batches of 64 operations. `None` if
-/// the text has no journal. The only error is out of memory.
+/// The script that rebuilds the volume of a text's journal, but not its history. It creates nodes
+/// with their numbers, attributes, and indices with their pairs, in batches of 64 operations.
+/// Returns `None` if the text has no journal. The only error is running out of memory.
 ///
-/// If the volume refuses an entry, which happens only in a wrong journal, that entry changes
-/// nothing. be_script_runner's law `state_dump_makes_volume` says what the script makes. It costs
-/// as much as the entries' changes, and then what be_volume_state's `next_list` says.
+/// If the volume refuses an entry, which happens only in a wrong journal, no part of that entry
+/// takes effect. be_script_runner's law `state_dump_makes_volume` says what running the script
+/// produces. The cost is that of the entries' changes, plus the cost given at be_volume_state's
+/// `next_list`.
 pub fn dump_state(alloc: Global, text: &[u8]) -> Result<Option<String>, AllocError>
     ensures { IfOk result (λ script. spec.IsStateDump text.now (option_map string_bytes script)) }
 {

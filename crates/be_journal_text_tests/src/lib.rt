@@ -1,6 +1,7 @@
-//! Worked examples of reading journals back, by public calls.
+//! Worked examples of reading journals back, tested through public calls.
 //!
-//! They have a crate of their own, so that be_journal_text isn't proved a second time with them.
+//! The tests are in a separate crate, so that checking them doesn't prove be_journal_text a second
+//! time.
 #![tactic(auto)]
 
 #[cfg(test)]

@@ -1,15 +1,15 @@
-//! Texts of journals, as in docs/SCRIPTS.md: which are read and which aren't, what a check finds,
-//! and the script of a journal.
+//! Journals as text, in the form that docs/SCRIPTS.md shows: which of them can be read, what a
+//! check finds, and the script of a journal.
 //!
-//! Every test passes even if any one request for memory is refused: a call that runs out of memory
-//! is repeated.
+//! Every test passes even if any single request for memory is refused, because a call that runs out
+//! of memory is repeated.
 use be_journal::{Entry, entry_line};
 use be_journal_text::{Finding, check, dump, dump_state, read_journal, reported_journal};
 use std::alloc::{AllocError, Global};
 use std::test::Fail;
 
-/// Entries with each operation and each kind of value. Their names and texts contain what looks
-/// like the end of a part.
+/// Entries with each operation and each kind of value. Their names and strings contain characters
+/// that look like the end of a part.
 const EACH: &str = "\
 1 by 0 new -> node 1\n\
 2 by 63 set 1 \"a -> b; c\\\"\\\\\\n\\r\" CSTR \"; > \\\" -> ok\" -> ok\n\
@@ -29,7 +29,8 @@ begin\nset 1 \"é\" MIMS \"text/plain\"\nset 1 \"r\" RAWT \"00ff\"\nnew\ncommit\
 mkindex \"l\" LONG\n\
 begin\nunset 1 \"l\"\ndrop 2\nrmindex \"l\"\ncommit\n";
 
-/// The script of their last state: attributes in order of their names' bytes, and no index.
+/// The script that rebuilds their final state, with attributes ordered by the bytes of their names,
+/// and no index.
 const EACH_STATE: &str = "\
 begin\n\
 new\n\
@@ -43,13 +44,13 @@ new\n\
 drop 2\n\
 commit\n";
 
-/// A journal with an attribute that isn't in its index, and one that is.
+/// A journal with an attribute that isn't in its index, and an attribute that is.
 const OUTSIDE: &str = "\
 1 by 0 new; set 1 \"k\" LONG 5; mkindex \"k\" LONG -> node 1; ok; ok\n\
 2 by 1 mkindex \"j\" LONG -> ok\n\
 3 by 0 set 1 \"j\" LONG 6 -> ok\n";
 
-/// The script of its last state.
+/// The script that rebuilds its final state.
 const OUTSIDE_STATE: &str = "\
 begin\n\
 new\n\
@@ -59,7 +60,7 @@ mkindex \"k\" LONG\n\
 set 1 \"j\" LONG 6\n\
 commit\n";
 
-/// The entries of a text. If memory ran out, it is read again.
+/// The entries of a text. If memory ran out, the text is read again.
 fn read(alloc: Global, text: &str) -> Result<Option<Vec<Entry>>, AllocError> {
     match read_journal(alloc, text.as_bytes()) {
         Ok(read) => Ok(read),
@@ -110,7 +111,7 @@ fn printed(alloc: Global, entries: &[Entry]) -> Result<String, AllocError> {
     }
 }
 
-/// What is read is printed as it was.
+/// Printing a journal that was read gives the same text.
 #[test]
 fn texts_are_read(rt: HostRuntime) -> Result<(), Fail> {
     let alloc = rt.alloc();
@@ -124,7 +125,7 @@ fn texts_are_read(rt: HostRuntime) -> Result<(), Fail> {
     Ok(())
 }
 
-/// Texts that no journal has, each almost a journal's text.
+/// Strings that aren't the text of any journal, though each is close to one.
 #[test]
 fn other_texts_are_not(rt: HostRuntime) -> Result<(), Fail> {
     let alloc = rt.alloc();
@@ -195,7 +196,7 @@ fn results_are_reported(rt: HostRuntime) -> Result<(), Fail> {
     Ok(())
 }
 
-/// What a finding prints, and the number of entries in it.
+/// The text that a finding prints, and the number of entries in it.
 fn shown(found: &Finding) -> (&str, u64) {
     match found {
         Finding::NoJournal => ("no journal", 0),
@@ -204,7 +205,7 @@ fn shown(found: &Finding) -> (&str, u64) {
     }
 }
 
-/// Each text has this finding (no journal, right, or the first wrong line), and this number of
+/// Each text has this finding (no journal, right, or the first wrong line) and this number of
 /// entries.
 #[test]
 fn journals_are_checked(rt: HostRuntime) -> Result<(), Fail> {
@@ -244,7 +245,8 @@ fn journals_are_dumped(rt: HostRuntime) -> Result<(), Fail> {
     Ok(())
 }
 
-/// Fails unless this is the script of a text's state, or there is none.
+/// Fails unless this is the script that rebuilds a text's state, or there is no script and `None`
+/// is expected.
 fn check_state(alloc: Global, text: &str, expected: Option<&str>) -> Result<(), Fail> {
     let script = state_dumped(alloc, text)?;
     match (&script, expected) {
@@ -271,7 +273,7 @@ fn states_are_dumped(rt: HostRuntime) -> Result<(), Fail> {
     Ok(())
 }
 
-/// The text of a journal with this many nodes.
+/// The text of a journal that creates this many nodes.
 fn journal_of_nodes(alloc: Global, count: u64) -> Result<String, AllocError> {
     let mut text = String::new(alloc);
     for n in 1..=count {
@@ -280,8 +282,8 @@ fn journal_of_nodes(alloc: Global, count: u64) -> Result<String, AllocError> {
     Ok(text)
 }
 
-/// The script of their state: a batch for each 64 nodes, and one for the rest if that is more than
-/// one.
+/// The script that rebuilds the state of these nodes: a batch for every 64 nodes, and a batch for
+/// the rest if that is more than one node.
 fn nodes_dumped(alloc: Global, count: u64) -> Result<String, AllocError> {
     let mut text = String::new(alloc);
     for n in 1..=count {

@@ -1,5 +1,5 @@
--- Any few nodes of a query that a range decides, by a walk over as many keys. Also: in the order of an index, each node comes
--- once.
+-- Arbitrary nodes of a query that a range decides, found by walking over as many keys. Also, no
+-- node occurs twice in the order of an index.
 use Rattle.std.proofs.Common.{◌≡◌, ◌≢◌, ◌<◌, ℕ, suc, Bool, true, false, ◌&&◌, List, [], ◌∷◌, refl, sym, ap, ◌∙◌, subst, arith, Some, None, take, length, get_or, min}
 use Rattle.std.specs.Prelude.{T, slice_index}
 use Rattle.std.proofs.lemmas.Cmp.{eq_by_cmp_equiv, nat_cmp_total}
@@ -60,13 +60,13 @@ less Greater p = absurd p
 later : {X : Type 0} (y : X) (xs : List X) (x : X) → Contains xs x → Contains (y ∷ xs) x
 later y xs x h = (suc h.0, omega (arith, h.1), h.2)
 
--- comparisons that are all on one name aren't all on another
+-- If all comparisons are on two names, the names are equal.
 pub one_name : (f : Formula) (a b : List ℕ) → AreAllOn f a → AreAllOn f b → a ≡ b
 one_name (Leaf own op literal) a b p q = sym p ∙ q
 one_name (And f g) a b p q = one_name f a b p.0 q.0
 one_name (Or f g) a b p q = absurd p
 
--- if comparisons on one name are true of a node, it has a value there
+-- If comparisons on one name are true of a node, that name sees a value for it.
 seen_true : (s : State) (f : Formula) (name : List ℕ) (n : ℕ) → AreAllOn f name → sat s f n ≡ true → (value : Value) × (sees s n name ≡ Some value)
 seen_true s (Leaf own op literal) name n on h = at (sees s n own) refl h
   where
@@ -84,13 +84,13 @@ below_no_other x (y ∷ ys) h = (by (same_node x y) refl, below_no_other x ys (�
     by true e = let same : x ≡ y = the_same x y e in let lt : x < y = h y (in_by_place (y ∷ ys) y (0, omega arith, refl)) in absurd (omega arith)
     by false e = e
 
--- numbers that ascend are each there once
+-- In a strictly ascending list, each number occurs once.
 rises_once : (xs : List ℕ) → Rises xs → IsDistinct same_node xs
 unfolding IsDistinct
 rises_once [] r = tt
 rises_once (x ∷ xs) r = (below_no_other x xs r.0, rises_once xs r.1)
 
--- nodes without repetition differ from place to place
+-- In a list without duplicates, nodes at different positions are different.
 pub places_apart : (ns : List ℕ) → IsDistinct same_node ns → (i j : ℕ) → i < j → j < length ns → slice_index ns i ≢ slice_index ns j
 places_apart ns once i j less below same =
     let apart : same_node (get_or ns i 0) (get_or ns j 0) ≡ false = apart_from_distinct same_node ns i j 0 once less below in
@@ -98,7 +98,7 @@ places_apart ns once i j less below same =
     cc
 
 module _ (s : State) (by : List ℕ) (descending : Bool) where
-  -- the key is that of the value seen at the node
+  -- The key is that of the value seen for the node.
   abbrev pub Keyed : List ℕ → ℕ → Type 0
   Keyed k n = (value : Value) × (sees s n by ≡ Some value) × (k ≡ key value n)
 
@@ -119,7 +119,7 @@ module _ (s : State) (by : List ℕ) (descending : Bool) where
           cc
       apart false is = is
 
-  -- in the order of an index no node comes twice
+  -- No node occurs twice in the order of an index.
   pub nodes_once : (es : Entries) → T (is_sorted (key_cmp descending) es) → ((l : List ℕ) (m : ℕ) → Contains es (l, m) → Keyed l m) → IsDistinct same_node (nodes_of es)
   unfolding IsDistinct
   nodes_once [] up keyed = tt
@@ -158,7 +158,7 @@ module _ (s : State) (sound : IsSound s) (f : Formula) (by : List ℕ) (kind : K
       let found = is_there s sound by kind is false None nodes (key seen.0 n) n refl (seen.0, there, seen.1, refl) in
       in_by_place (nodes_of rest) n (contains_mapped (λ (e : List ℕ × ℕ). e.1) rest (key seen.0 n, n) (contained_at false (key seen.0 n) n rest found))
 
-  -- each node of the scan is in the range once
+  -- The range contains as many nodes as the scan.
   as_many : length rest ≡ length nodes
   as_many = sym (nodes_length rest)
       ∙ length-from_same_keys (eq_by_cmp_equiv nat_cmp_total) (nodes_of rest) nodes rest_once scanned_once (λ n. both_ways _ _ (in_nodes n) (in_rest n))
@@ -184,6 +184,6 @@ module _ (s : State) (sound : IsSound s) (f : Formula) (by : List ℕ) (kind : K
       count = nodes_length es ∙ ap length front ∙ length_take most rest ∙ ap (min most) as_many;
     }
 
-    -- the nodes that the walk found are any few of the scan's
+    -- The nodes that the walk found are nodes of the scan, and there are as many as requested.
     pub any_walked : (found : List ℕ) → found ≡ nodes_of es → IsAnyOf (scan s f) most found
     any_walked found found_is = subst (IsAnyOf (scan s f) most) (sym found_is) few

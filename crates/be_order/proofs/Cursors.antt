@@ -1,4 +1,4 @@
--- Where a cursor is in an ordered list.
+-- The position of a cursor in an ordered list.
 use Rattle.std.proofs.Common.{◌≡◌, ◌⊎◌, ℕ, zero, suc, Bool, true, false, ◌&&◌, cond, List, [], ◌∷◌, refl, sym, ap, ◌∙◌, arith, Some, None, inl, inr, take, drop}
 use Rattle.std.specs.Prelude.{T}
 use Rattle.std.specs.List.{Contains}
@@ -49,19 +49,19 @@ module _ (descending : Bool) where
       by Equal f = refl
       by Greater f = refl
 
-  -- everything above a key comes after it
+  -- Everything above a key comes after it.
   all_after : (k : List ℕ) (es : Entries) → T (below_all R k es) → after descending (Some k) es ≡ es
   all_after k [] h = refl
   all_after k (e ∷ es) h =
       ap (λ b. cond b (e ∷ after descending (Some k) es) (after descending (Some k) es)) (ap is_lt (less _ (first _ _ h))) ∙ ap (λ l. e ∷ l) (all_after k es (second _ _ h))
 
-  -- moving the cursor to later keys never puts an earlier key after it
+  -- If the cursor is moved to later keys, no earlier key comes after it.
   left_behind : (z k : List ℕ) (n : ℕ) (es : Entries) → is_lt (R k z) ≡ false → T (below_all R z es) → is_after descending (cursor_at (Some k) (keys_of (take n es))) z ≡ false
   left_behind z k zero es h below = h
   left_behind z k (suc n) [] h below = h
   left_behind z k (suc n) (e ∷ es) h below = left_behind z e.0 n es (not_back z e.0 (less _ (first _ _ below))) (second _ _ below)
 
-  -- after the last of the first `n` entries come the others
+  -- The entries after the last of the first `n` entries are all the others.
   dropped : (n : ℕ) (cursor : Option (List ℕ)) (es : Entries) → T (is_sorted R es) → after descending cursor es ≡ es → after descending (cursor_at cursor (keys_of (take n es))) es ≡ drop n es
   dropped zero cursor es sorted all = all
   dropped (suc n) cursor [] sorted all = refl
@@ -70,7 +70,7 @@ module _ (descending : Bool) where
       (left_behind e.0 e.0 n es (not_less e.0) (first _ _ sorted))
       ∙ dropped n (Some e.0) es (second _ _ sorted) (all_after e.0 es (first _ _ sorted))
 
-  -- the cursor stays, or is the key of an entry
+  -- The cursor is either unchanged or the key of an entry.
   moved_to : (cursor : Option (List ℕ)) (es : Entries) → (cursor_at cursor (keys_of es) ≡ cursor) ⊎ ((e : List ℕ × ℕ) × Contains es e × (cursor_at cursor (keys_of es) ≡ Some e.0))
   moved_to cursor [] = inl refl
   moved_to cursor (e ∷ es) = elim (moved_to (Some e.0) es) [
@@ -82,7 +82,7 @@ module _ (descending : Bool) where
   further None k x h g = refl
   further (Some c) k x h g = ap is_lt ((key_total descending).trans c k x (less_if _ h) (less_if _ g))
 
-  -- what comes after the last of the first `n` entries after a cursor
+  -- The entries after the last of the first `n` entries that follow a cursor.
   pub after_part : (n : ℕ) (cursor : Option (List ℕ)) (es : Entries) → T (is_sorted R (after descending cursor es)) →
       after descending (cursor_at cursor (keys_of (take n (after descending cursor es)))) es ≡ drop n (after descending cursor es)
   after_part n cursor es sorted =

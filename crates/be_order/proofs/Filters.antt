@@ -27,7 +27,7 @@ module _ {X : Type 0} (p : X → Bool) where
       by true r = (suc r.0, omega (arith, r.1), r.2)
       by false r = r
 
-  -- filtering first by a weaker test doesn't change the result
+  -- Filtering by a weaker test first doesn't change the result.
   pub filter_twice : (q : X → Bool) → ((x : X) → p x ≡ true → q x ≡ true) → (xs : List X) → filter p (filter q xs) ≡ filter p xs
   filter_twice q more [] = refl
   filter_twice q more (x ∷ xs) = by (p x) (q x) refl refl (filter_twice q more xs)
@@ -38,7 +38,7 @@ module _ {X : Type 0} (p : X → Bool) where
       by false true e f rest = ap (λ c. cond c (x ∷ filter p (filter q xs)) (filter p (filter q xs))) e ∙ rest
       by false false e f rest = rest
 
--- the nodes that pass
+-- The nodes that pass.
 pub nodes_filter : (p : ℕ → Bool) (xs : List (List ℕ × ℕ)) → nodes_of (filter (λ e. p e.1) xs) ≡ filter p (nodes_of xs)
 nodes_filter p [] = refl
 nodes_filter p (x ∷ xs) = by (p x.1) (nodes_filter p xs)

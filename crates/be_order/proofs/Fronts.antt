@@ -1,4 +1,4 @@
--- The first entries of an ordered list: what comes before all others, and is in it.
+-- The first entries of an ordered list: those that are in it and come before all others.
 use Rattle.std.proofs.Common.{◌≡◌, ◌⊎◌, ◌≤◌, ℕ, zero, suc, Bool, true, false, ◌&&◌, cond, List, [], ◌∷◌, refl, sym, ap, ◌∙◌, arith, Some, None, inl, inr, take, length}
 use Rattle.std.specs.Prelude.{T}
 use Rattle.std.proofs.lemmas.Option.{same_Some}
@@ -48,7 +48,7 @@ module _ (descending : Bool) where
   not_less : (k : List ℕ) → R k k ≡ Less → ⊥
   not_less k e = let same : R k k ≡ Equal = tied_itself (key_total descending) k in cc
 
-  -- a key below all others is not among them
+  -- A key below all keys of a list isn't among them.
   at_below : (q : List ℕ) (es : List (List ℕ × ℕ)) → T (below_all R q es) → at q es ≡ None
   at_below q [] h = refl
   at_below q (e ∷ es) h = ap (λ r. cond (is_eq r) (Some e.1) (at q es)) (less _ (first _ _ h)) ∙ at_below q es (second _ _ h)
@@ -60,7 +60,7 @@ module _ (descending : Bool) where
   at_first : (e : List ℕ × ℕ) (es : List (List ℕ × ℕ)) → at e.0 (e ∷ es) ≡ Some e.1
   at_first e es = ap (λ b. cond b (Some e.1) (at e.0 es)) (is_itself descending e.0)
 
-  -- whatever is found after the first entry has another key
+  -- An entry that is found after the first one has another key.
   apart : (q : List ℕ) (e : List ℕ × ℕ) (es : List (List ℕ × ℕ)) (n : ℕ) → T (below_all R e.0 es) → at q es ≡ Some n → eq_by_cmp R q e.0 ≡ false
   apart q e es n below found = by (eq_by_cmp R q e.0) refl
     where
@@ -80,7 +80,7 @@ module _ (descending : Bool) where
           (0, omega arith, pair)
       by false is f more = let later : Contains es (q, n) = more f in (suc later.0, omega (arith, later.1), later.2)
 
-  -- an entry after others has a key above theirs
+  -- An entry that follows others has a key above theirs.
   below_at : (x q : List ℕ) (n : ℕ) (es : List (List ℕ × ℕ)) → T (below_all R x es) → Contains es (q, n) → R x q ≡ Less
   below_at x q n [] h (k, below, is) = absurd (omega arith)
   below_at x q n (e ∷ es) h (zero, below, is) = let same : e.0 ≡ q = ap (λ (p : List ℕ × ℕ). p.0) is in ap (R x) (sym same) ∙ less _ (first _ _ h)
@@ -105,7 +105,8 @@ module _ (descending : Bool) where
   sorted_keys [] h = tt
   sorted_keys (e ∷ es) h = both _ _ (below_keys e.0 es h.0) (sorted_keys es h.1)
 
-  -- each entry of one list is in the other; entries only in the other come after the first list's `most`
+  -- Each entry of one list is in the other. Entries that are only in the other list come after the
+  -- first `most` entries of the one.
   abbrev Among : List (List ℕ × ℕ) → List (List ℕ × ℕ) → Type 0
   Among es ys = (q : List ℕ) (n : ℕ) → at q es ≡ Some n → at q ys ≡ Some n
 

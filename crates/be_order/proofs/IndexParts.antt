@@ -1,4 +1,4 @@
--- An index in its order, and those of its nodes of which a query is true.
+-- An index in its order, and those of its nodes that satisfy a query.
 use Rattle.std.proofs.Common.{◌≡◌, ◌⊎◌, ◌<◌, ◌+◌, ℕ, zero, suc, Bool, true, false, cond, List, [], ◌∷◌, ◌++◌, ◌&&◌, not, refl, sym, ap, ◌∙◌, subst, arith, Some, None, inl, inr, take, drop, length, filter, length-append, append-nil, append_assoc, nat_lt, min, if◌then◌else◌}
 use Rattle.std.specs.Prelude.{T}
 use Rattle.std.specs.List.{Contains, flat_map}
@@ -57,7 +57,7 @@ second_false a false e = refl
 second_false false true e = cc
 second_false true true e = cc
 
--- the two ways to say that a key lies in a range agree
+-- The two ways to state that a key is in a range agree.
 lies_within : (low : List ℕ) (high : Option (List ℕ)) (k : List ℕ) → Within low high k → is_within low high k ≡ true
 lies_within low high k w = both_false (is_lt (name_cmp k low)) (is_above high k) w.from_low w.to_high
 
@@ -67,7 +67,7 @@ within_range low high k e = record {
   to_high = second_false (is_lt (name_cmp k low)) (is_above high k) e;
 }
 
--- the index has each node that a walk found
+-- Every node that a walk found is in the index.
 pub walked_held : (s : State) (by low : List ℕ) (high : Option (List ℕ)) (descending : Bool) (cursor : Option (List ℕ)) (most : ℕ) (before after_walk : List ℕ) →
     HasWalked (IsEntry s by low high) descending cursor most before after_walk → before ≡ [] → AreHeld s by after_walk
 walked_held s by low high descending cursor most before after_walk walked empty = λ n h.
@@ -89,7 +89,7 @@ module _ (s : State) (sound : IsSound s) (by : List ℕ) (kind : Kind) (is : ind
   abbrev rest_of : Option (List ℕ) → List ℕ → Entries
   rest_of cursor nodes = after descending cursor (in_order s by descending nodes)
 
-  -- a node that the index has is a node of the volume
+  -- A node in the index is a node of the volume.
   in_nodes : (n : ℕ) (value : Value) → sees s n by ≡ Some value → Contains nodes_all n
   in_nodes n value seen =
       let k = key_of_seen s sound by kind is n value seen in
@@ -100,7 +100,7 @@ module _ (s : State) (sound : IsSound s) (by : List ℕ) (kind : Kind) (is : ind
   pub sorted_rest : (cursor : Option (List ℕ)) (nodes : List ℕ) → T (is_sorted (key_cmp descending) (rest_of cursor nodes))
   sorted_rest cursor nodes = is_sorted-where_key (key_cmp descending) (is_after descending cursor) _ (fin.entries_sorted (fin.from_entries {R = key_cmp descending} (flat_map (keyed s by) nodes)))
 
-  -- what is found in the rest is the key of one of the nodes, and comes after the cursor
+  -- Whatever is found in the rest is the key of one of the nodes, and comes after the cursor.
   pub there_is : (cursor : Option (List ℕ)) (nodes q : List ℕ) (n : ℕ) → find (key_cmp descending) q (rest_of cursor nodes) ≡ Some n →
       (is_after descending cursor q ≡ true) × IsOneOf s sound by kind is descending nodes q n
   there_is cursor nodes q n h = step (is_after descending cursor q) refl (sym (found_after descending cursor (flat_map (keyed s by) nodes) q) ∙ h)
@@ -117,7 +117,7 @@ module _ (s : State) (sound : IsSound s) (by : List ℕ) (kind : Kind) (is : ind
       ∙ ap (λ l. find (key_cmp descending) l (flat_map (keyed s by) nodes)) one.3
       ∙ is_found s sound by kind is descending n one.0 one.2 nodes one.1
 
-  -- the cursor after some entries of the index is the key of the last node
+  -- The cursor after some entries of the index is the key of the last node.
   module _ (cursor last : Option (List ℕ)) (front : Entries) (are : (e : List ℕ × ℕ) → Contains front e → IsOneOf s sound by kind is descending nodes_all e.0 e.1) (found : List ℕ) (found_is_front : found ≡ nodes_of front)
       (stays : length found ≡ 0 → last ≡ cursor)
       (moves : (n : ℕ) (first : List ℕ) → found ≡ first ++ n ∷ [] → last ≡ option_map (λ value. key value n) (sees s n by)) where
@@ -135,7 +135,7 @@ module _ (s : State) (sound : IsSound s) (by : List ℕ) (kind : Kind) (is : ind
             ap (λ l. cursor_at cursor (keys_of l)) some.2 ∙ ap (cursor_at cursor) (keys_append init (e ∷ [])) ∙ cursor_last cursor (keys_of init) e.0
             ∙ ap (λ l. Some l) one.3 ∙ sym (ap (option_map (λ value. key value e.1)) one.2) ∙ sym (moves e.1 (nodes_of init) ends)
 
-  -- an entry of the answer is an entry of the index
+  -- An entry of the answer is an entry of the index.
   of_answer : (cursor : Option (List ℕ)) (p : ℕ → Bool) (e : List ℕ × ℕ) → Contains (rest_of cursor (filter p nodes_all)) e → IsOneOf s sound by kind is descending nodes_all e.0 e.1
   of_answer cursor p e h =
       let one = (there_is cursor (filter p nodes_all) e.0 e.1 (at_contained descending e.0 e.1 (rest_of cursor (filter p nodes_all)) (sorted_rest cursor (filter p nodes_all)) h)).1 in
@@ -155,7 +155,7 @@ module _ (s : State) (sound : IsSound s) (by : List ℕ) (kind : Kind) (is : ind
     sorted_ahead cursor = is_sorted-where_key (key_cmp descending) (is_after descending cursor) held
         (sorted_filter descending in_range (in_order s by descending nodes_all) (fin.entries_sorted (fin.from_entries {R = key_cmp descending} (flat_map (keyed s by) nodes_all))))
 
-    -- the range's entries after the cursor are exactly the index's pairs there
+    -- The entries of the range after the cursor are exactly the pairs of the index there.
     held_is : (cursor : Option (List ℕ)) (e : List ℕ × ℕ) → Contains (ahead_of cursor) e →
         (is_after descending cursor e.0 ≡ true) × (is_within low high e.0 ≡ true) × IsOneOf s sound by kind is descending nodes_all e.0 e.1
     held_is cursor e h =
@@ -172,7 +172,7 @@ module _ (s : State) (sound : IsSound s) (by : List ℕ) (kind : Kind) (is : ind
         let all = from_filter Passes (in_order s by descending nodes_all) (q, n) there in
         in_filter Passes held (q, n) (in_filter in_range (in_order s by descending nodes_all) (q, n) all.0 w) e
 
-    -- the two ways to say that an entry of the range comes after the cursor agree
+    -- The two ways to state that an entry of the range comes after the cursor agree.
     entry_held : (cursor : Option (List ℕ)) (q : List ℕ) (n : ℕ) → IsEntry s by low high q n → is_after descending cursor q ≡ true → Contains (ahead_of cursor) (q, n)
     entry_held cursor q n e after =
         let k = e.is_key in
@@ -188,7 +188,7 @@ module _ (s : State) (sound : IsSound s) (by : List ℕ) (kind : Kind) (is : ind
         let E : List ℕ → Type 0 = λ l. IsEntry s by low high l n in
         (subst E (sym one.3) (record { is_key = k.0; within = subst (Within low high) one.3 (within_range low high q held_one.1); node_is = k.1 }), held_one.0)
 
-    -- a walk over the range finds its front
+    -- A walk over the range finds the first entries.
     module _ (cursor : Option (List ℕ)) (most : ℕ) (es : Entries) (firsts : AreFirst (IsEntry s by low high) descending cursor most es) where
       among : (q : List ℕ) (n : ℕ) → find (key_cmp descending) q es ≡ Some n → find (key_cmp descending) q (ahead_of cursor) ≡ Some n
       among q n h =
@@ -207,7 +207,7 @@ module _ (s : State) (sound : IsSound s) (by : List ℕ) (kind : Kind) (is : ind
       pub walked_index : es ≡ take most (ahead_of cursor)
       walked_index = first_are descending most es (ahead_of cursor) (sorted_keys descending es firsts.rising) (sorted_ahead cursor) among reaches firsts.few
 
-    -- a walk that tests its keys finds the first nodes of which the rest of the query is true
+    -- A walk that tests keys finds the first nodes that satisfy the remaining condition.
     module _ (test : KeyTest) (left : Formula) (is_for : IsTestFor s by test left) (cursor : Option (List ℕ)) (most : ℕ) (got : List ℕ)
         (walked : HasWalked (IsPassing s by low high test) descending cursor (suc most) [] got) where
       abbrev is_true : List ℕ × ℕ → Bool
@@ -253,7 +253,7 @@ module _ (s : State) (sound : IsSound s) (by : List ℕ) (kind : Kind) (is : ind
         ];
       }
 
-    -- the index has each node of a front
+    -- Every node of a front is in the index.
     pub front_held : (f : Formula) (cursor : Option (List ℕ)) (most : ℕ) (got : List ℕ) → HasFront most (true_after s f by low high descending cursor) got → AreHeld s by got
     front_held f cursor most got has = λ n h.
         let there : Contains (true_after s f by low high descending cursor) n = subst (λ (l : List ℕ). Contains l n) (sym has.parts) (Contains-append_left got has.rest n h) in
@@ -262,7 +262,7 @@ module _ (s : State) (sound : IsSound s) (by : List ℕ) (kind : Kind) (is : ind
         let k = key_of_seen s sound by kind is e.0.1 one.0 one.2 in
         (key one.0 e.0.1, k.0, k.1 ∙ e.2)
 
-    -- the range's entries of whose nodes the rest is true are the whole answer
+    -- The entries of the range whose nodes satisfy the remaining condition are the whole answer.
     module _ (f left : Formula) (bounding : Bounding f by kind low high (Some left)) (cursor : Option (List ℕ)) where
       abbrev passes : List ℕ × ℕ → Bool
       passes e = sat s left e.1
@@ -308,7 +308,7 @@ module _ (s : State) (sound : IsSound s) (by : List ℕ) (kind : Kind) (is : ind
       pub answer_nodes : nodes_of answer ≡ true_after s left by low high descending cursor
       answer_nodes = ap nodes_of (sym whole_is) ∙ nodes_filter (sat s left) (ahead_of cursor)
 
-    -- a part of the range that was walked
+    -- A part of the range that has been walked.
     module _ (cursor next : Option (List ℕ)) (count : ℕ) (before after_walk found : List ℕ) (walked : HasWalked (IsEntry s by low high) descending cursor count before after_walk) (empty : before ≡ [])
         (kept : found ≡ take count after_walk) (stays : length found ≡ 0 → next ≡ cursor)
         (moves : (n : ℕ) (front : List ℕ) → found ≡ front ++ n ∷ [] → next ≡ option_map (λ value. key value n) (sees s n by)) (more : Bool) (less : more ≡ false → length after_walk < count) where
@@ -340,7 +340,7 @@ module _ (s : State) (sound : IsSound s) (by : List ℕ) (kind : Kind) (is : ind
             drop_of_length-le ahead (omega (arith, less e, count_is));
       }
 
-    -- a page from the front of the nodes of which the query is true
+    -- A page from the first nodes that satisfy the query.
     module _ (f left : Formula) (bounding : Bounding f by kind low high (Some left)) (covers : covered s f ≡ true) (cursor last : Option (List ℕ)) (most : ℕ) (got found : List ℕ) (has : HasFront most (true_after s left by low high descending cursor) got) (kept : found ≡ take most got)
         (stays : length found ≡ 0 → last ≡ cursor)
         (moves : (n : ℕ) (front : List ℕ) → found ≡ front ++ n ∷ [] → last ≡ option_map (λ value. key value n) (sees s n by)) (more : Bool) (more_is : more ≡ nat_lt most (length got)) where
@@ -380,7 +380,7 @@ module _ (s : State) (sound : IsSound s) (by : List ℕ) (kind : Kind) (is : ind
           (result_map_both (in_order s by descending) (λ e. e) (if b then Ok nodes_true else Err NotCovered))) covers
           ∙ ap (λ p. Ok p) whole_page
 
--- the nodes that a part adds
+-- The nodes that a part adds.
 module _ (s : State) (f : Formula) (by low : List ℕ) (high : Option (List ℕ)) (descending : Bool) (count : ℕ) (cursor next : Option (List ℕ)) (nodes : List ℕ) (more : Bool) (part : IsPart s by low high descending count cursor next nodes more) where
   pub stepped : true_after s f by low high descending cursor ≡ filter (sat s f) nodes ++ true_after s f by low high descending next
   stepped =
@@ -394,7 +394,7 @@ module _ (s : State) (f : Formula) (by low : List ℕ) (high : Option (List ℕ)
   pub none_left : more ≡ false → true_after s f by low high descending next ≡ []
   none_left e = ap (λ l. filter (sat s f) (nodes_of l)) (part.rest_is ∙ part.ended e)
 
--- one part after another
+-- One part after another.
 pub joined : (all before rest piece later found : List ℕ) → all ≡ before ++ rest → rest ≡ piece ++ later → found ≡ before ++ piece → all ≡ found ++ later
 joined all before rest piece later found whole split more =
     whole ∙ ap (λ l. before ++ l) split ∙ sym (append_assoc before piece later) ∙ ap (λ l. l ++ later) (sym more)

@@ -37,7 +37,7 @@ is_equal Equal h = refl
 is_equal Greater h = cc
 
 module _ (descending : Bool) where
-  -- the key is one of these
+  -- The list contains the key.
   abbrev pub is_key_in : List ℕ → List (List ℕ) → Bool
   is_key_in k ks = list_any (eq_by_cmp (key_cmp descending) k) ks
 
@@ -75,7 +75,7 @@ module _ (descending : Bool) where
       (λ h. is_in_contained xs k (g k (contained_is_in ys k h)))
 
   module _ (g : List ℕ → ℕ) where
-    -- each key with its node
+    -- Each key with its node.
     abbrev pub with_nodes : List (List ℕ) → List (List ℕ × ℕ)
     with_nodes ks = map (λ k. (k, g k)) ks
 
@@ -97,7 +97,7 @@ module _ (descending : Bool) where
         by true e h = ap (λ k. Some (g k)) (sym (is_same q x e))
         by false e h = h
 
-  -- the node that a list has for a key
+  -- The node that a list has for a key.
   abbrev pub node_for : List (List ℕ × ℕ) → List ℕ → ℕ
   node_for es k = unwrap_or (find (key_cmp descending) k es) 0
 
@@ -119,7 +119,7 @@ module _ (descending : Bool) where
         ∙ ap (λ (o : Option ℕ). cond (in_reach q) o None) (sym (fin.get-from_entries (key_total descending) es q) ∙ fin.get-entries ranked q)
         ∙ sym (find-where_key (key_cmp descending) in_reach q (alike q) (fin.entries ranked))
 
-    -- what is found after the cursor in an ordered answer
+    -- What is found after the cursor in an ordered answer.
     pub found_after : (q : List ℕ) → find (key_cmp descending) q (after descending cursor (fin.entries (fin.from_entries {R = key_cmp descending} es))) ≡
         cond (in_reach q) (find (key_cmp descending) q es) None
     found_after q = find-where_key (key_cmp descending) in_reach q (alike q) (fin.entries ranked)
@@ -131,7 +131,7 @@ module _ (descending : Bool) where
       found_in q (Some n) e = ap (λ b. cond b (Some (node_for left q)) None) (members q ∙ sym (is_some-find (key_cmp descending) q left) ∙ ap is_some e)
           ∙ ap (λ (o : Option ℕ). Some (unwrap_or o 0)) e ∙ sym e
 
-      -- ordered keys that are exactly those of a list are its entries in order
+      -- If ordered keys are exactly the keys of a list, they are its entries in order.
       pub in_order_is : IsStrictlySortedBy (key_cmp descending) ks →
           with_nodes (node_for left) ks ≡ after descending cursor (fin.entries (fin.from_entries {R = key_cmp descending} es))
       in_order_is sorted =

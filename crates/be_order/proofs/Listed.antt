@@ -1,4 +1,4 @@
--- A list of all nodes of which a formula is true, and lookups in it.
+-- A list of all nodes that satisfy a formula, and lookups in it.
 use Rattle.std.proofs.Common.{◌≡◌, ◌⊎◌, inl, inr, nat_cmp, ◌<◌, ◌≤◌, ◌+◌, ◌-◌, ℕ, zero, suc, Bool, true, false, List, [], refl, sym, ap, ◌∙◌, subst, arith, Some, None, Ok, Err, filter, is_ok, get_or, length, if◌then◌else◌}
 use Rattle.std.proofs.lemmas.List.Sorted.{searched}
 use Rattle.std.proofs.lemmas.List.{get_or_default}
@@ -31,7 +31,7 @@ rises xs rising i j less below =
     let same : i + (j - i) ≡ j = omega (arith, less) in
     subst (λ k. get_or xs i 0 ≤ get_or xs k 0) same (not_falling xs rising i (j - i) (omega (arith, below, same)))
 
--- a number is found in the list exactly if the formula is true of it
+-- The list contains a number if and only if the node with this number satisfies the formula.
 module _ (s : State) (f : Formula) (nodes : List ℕ) (n : ℕ) (lists : Lists s f nodes) where
   not_there : (i : ℕ) → ((k : ℕ) → k < i → get_or nodes k 0 < n) → ((k : ℕ) → i ≤ k → k < length nodes → n < get_or nodes k 0) → Contains nodes n → false ≡ true
   not_there i below above (k, inside, at) =
@@ -62,7 +62,7 @@ nodes_in (Ok nodes) = nodes
 nodes_in (Err e) = []
 
 module _ (s : State) (sound : IsSound s) where
-  -- the scan lists all of them
+  -- The scan lists all of these nodes.
   pub scan_lists : (f : Formula) (found : List ℕ) → IsStrictlyIncreasing found → scan s f ≡ Ok found → Lists s f found
   unfolding nodes_in
   scan_lists f found rising is = by (covered s f) is

@@ -1,4 +1,4 @@
--- A page's keys: what becomes of an answer's nodes.
+-- The keys of a page, derived from the nodes of an answer.
 use Rattle.std.proofs.Common.{◌≡◌, ◌<◌, ◌≤◌, ◌^◌, ℕ, zero, suc, Bool, true, false, cond, ◌||◌, List, [], ◌∷◌, ◌++◌, refl, sym, ap, ◌∙◌, subst, arith, Some, None, map, unwrap_or, take, length, length-append, nat_lt, nat_eq, append-nil}
 use Rattle.std.specs.List.{Contains, AllByRecursion, flat_map, dedup}
 use Rattle.std.specs.List.Retain.{IsFiltered, DiffersFromLast}
@@ -55,7 +55,7 @@ module _ {X Y : Type 0} (f : X → Y) where
       let found : (z : X) × Contains xs z × (f z ≡ y) = mapped_contains xs y (k, omega arith, is) in
       (found.0, (suc found.1.0, omega (arith, found.1.1), found.1.2), found.2)
 
--- keys with the same bytes are the same
+-- Keys with the same bytes are the same.
 abbrev same_bytes : ArrayVec ℕ → ArrayVec ℕ → Bool
 same_bytes a b = pointwise nat_eq a.items b.items
 
@@ -74,7 +74,7 @@ ties : (descending : Bool) (a b : ArrayVec ℕ) → same_bytes a b ≡ eq_by_cmp
 ties true a b = nat_list_eq_equiv.symm a.items b.items ∙ texts_ties b.items a.items
 ties false a b = texts_ties a.items b.items
 
--- keys that are sorted and then freed of repetitions
+-- Keys that have been sorted and then deduplicated.
 module _ (descending : Bool) (xs ys zs : List (ArrayVec ℕ)) (moved : IsPermutation xs ys)
     (up : IsSortedBy (λ (x : ArrayVec ℕ) (y : ArrayVec ℕ). is_lt (key_cmp descending x.items y.items)) ys) (left : IsFiltered (DiffersFromLast same_bytes) [] ys zs) where
   once : zs ≡ dedup same_bytes ys
@@ -98,7 +98,7 @@ module _ (descending : Bool) (xs ys zs : List (ArrayVec ℕ)) (moved : IsPermuta
       let there : Contains ys found.0 = Contains-from_dedup same_bytes ys found.0 (subst (λ l. Contains l found.0) once found.1) in
       subst (Contains (bytes_of xs)) found.2 (contains_mapped (λ (v : ArrayVec ℕ). v.items) xs found.0 (Contains-permutation ys xs found.0 (IsPermutation-sym xs ys moved) there))
 
--- a node without an attribute of this name has no pair in the name's index
+-- A node without an attribute of this name has no pair in the name's index.
 pub seen_nothing : (s : State) → IsSound s → (name : List ℕ) (node : ℕ) → attribute s node name ≡ None → None ≡ sees s node name
 seen_nothing s sound name node is = by (fin.get s.indices name) refl
   where
@@ -113,7 +113,7 @@ seen_nothing s sound name node is = by (fin.get s.indices name) refl
     by None there = sym is
     by (Some index) there = pair index there _ refl
 
--- a node under a key
+-- A key with its node.
 abbrev pub entry : ℕ → List ℕ → List (List ℕ × ℕ)
 entry node k = (k, node) ∷ []
 
@@ -121,7 +121,7 @@ abbrev pub bytes_if : Option (ArrayVec ℕ) → Option (List ℕ)
 bytes_if = option_map (λ (k : ArrayVec ℕ). k.items)
 
 module _ (s : State) (by : List ℕ) where
-  -- a node's entry, from the key found for it
+  -- The entry of a node, given the key that was found for it.
   keyed_by : (node : ℕ) (found : Option (ArrayVec ℕ)) → bytes_if found ≡ option_map (λ value. key value node) (sees s node by) →
       keyed s by node ≡ option_map_or (entry node) (bytes_if found) []
   keyed_by node found e = at (sees s node by) ∙ ap (λ (o : Option (List ℕ)). option_map_or (entry node) o []) (sym e)
@@ -131,7 +131,7 @@ module _ (s : State) (by : List ℕ) where
       at (Some value) = refl
 
   module _ (descending : Bool) (cursor : Option (List ℕ)) where
-    -- the keys of some nodes
+    -- The keys of these nodes.
     abbrev pub keys_for : List ℕ → List (List ℕ)
     keys_for nodes = keys_of (after descending cursor (flat_map (keyed s by) nodes))
 
@@ -145,7 +145,7 @@ module _ (s : State) (by : List ℕ) where
         ∙ ap keys_of (filter-append (λ (e : List ℕ × ℕ). is_after descending cursor e.0) (flat_map (keyed s by) nodes) (keyed s by node))
         ∙ first_append (after descending cursor (flat_map (keyed s by) nodes)) (after descending cursor (keyed s by node))
 
-    -- the key of one more node
+    -- The key of one more node.
     pub found_more : (nodes : List ℕ) (node : ℕ) (found : Option (ArrayVec ℕ)) → bytes_if found ≡ option_map (λ value. key value node) (sees s node by) →
         keys_for (nodes ++ node ∷ []) ≡ keys_for nodes ++ key_after descending cursor (bytes_if found)
     found_more nodes node found e =
@@ -161,7 +161,7 @@ module _ (s : State) (by : List ℕ) where
         at None = refl
         at (Some k) = chosen k (is_after descending cursor k)
 
--- each key ends with its node
+-- Every key ends with its node.
 abbrev Ends : List (List ℕ × ℕ) → Type 0
 Ends = AllByRecursion (λ (e : List ℕ × ℕ). EndsWith e.0 e.1)
 
@@ -248,7 +248,7 @@ contains_take (suc n) (x ∷ ks) k (suc i, below, is) =
     let later : Contains ks k = contains_take n ks k (i, omega arith, is) in
     (suc later.0, omega (arith, later.1), later.2)
 
--- the page made from an answer's nodes, by the keys that they have after the cursor
+-- The page made from the nodes of an answer, using the keys that they have after the cursor.
 module _ (s : State) (sound : IsSound s) (by : List ℕ) (kind : Kind) (is : index_kind s by ≡ Some kind) (descending : Bool) (cursor : Option (List ℕ)) (nodes : List ℕ) (first last : List (ArrayVec ℕ))
     (keys : bytes_of first ≡ keys_of (after descending cursor (flat_map (keyed s by) nodes)))
     (keeps : (k : List ℕ) → Contains (bytes_of first) k → Contains (bytes_of last) k)
@@ -259,7 +259,7 @@ module _ (s : State) (sound : IsSound s) (by : List ℕ) (kind : Kind) (is : ind
   members : (k : List ℕ) → is_key_in descending k (bytes_of last) ≡ is_key_in descending k (keys_of left)
   members k = same_members descending (bytes_of last) (bytes_of first) only keeps k ∙ ap (is_key_in descending k) keys
 
-  -- each key ends with the node that it belongs to
+  -- Every key ends with the node that it belongs to.
   pub last_ends : (k : List ℕ) → Contains (bytes_of last) k → EndsWith k (node_for descending left k)
   last_ends k h = node_ends descending left (ends_after descending cursor _ (ends_keyed s sound by kind is nodes)) k
       (sym (members k) ∙ is_in_contained descending (bytes_of last) k h)
@@ -290,7 +290,7 @@ module _ (s : State) (sound : IsSound s) (by : List ℕ) (kind : Kind) (is : ind
         (cursor_is ∙ ap (cursor_at cursor) kept_is)
         (more_is ∙ ap (nat_lt most) (sym (length_bytes last)))
 
--- where the cursor is left
+-- The cursor after the last key.
 pub cursor_last : (cursor : Option (List ℕ)) (ks : List (List ℕ)) (k : List ℕ) → cursor_at cursor (ks ++ k ∷ []) ≡ Some k
 cursor_last cursor [] k = refl
 cursor_last cursor (x ∷ ks) k = cursor_last (Some x) ks k
@@ -306,7 +306,7 @@ pub cursor_stays : (cursor : Option (List ℕ)) (keys : List (ArrayVec ℕ)) →
 cursor_stays cursor [] e = refl
 cursor_stays cursor (k ∷ keys) e = absurd (omega arith)
 
--- the nodes of the keys so far, and of one more
+-- The nodes of the keys so far, and of one more key.
 pub nodes_more : (g : List ℕ → ℕ) (keys : List (ArrayVec ℕ)) (k : ArrayVec ℕ) → map g (bytes_of (keys ++ k ∷ [])) ≡ map g (bytes_of keys) ++ g k.items ∷ []
 nodes_more g [] k = refl
 nodes_more g (x ∷ keys) k = ap (λ l. g x.items ∷ l) (nodes_more g keys k)

@@ -1,4 +1,4 @@
--- Any few members of an ascending list.
+-- Arbitrary members of an ascending list.
 use Rattle.std.proofs.Common.{◌≡◌, ◌<◌, ℕ, zero, suc, List, [], ◌∷◌, ap, ◌∙◌, subst, arith, take, length, min}
 use Rattle.std.specs.List.{Contains}
 use Rattle.std.specs.List.Sorted.{IsStrictlyIncreasing}

@@ -1,4 +1,5 @@
--- If an index's range decides a query, a walk over it in order finds the front of the answer.
+-- If a range of an index decides a query, a walk over it in order finds the first nodes of the
+-- answer.
 use Rattle.std.proofs.Common.{◌≡◌, ◌⊎◌, ◌<◌, ◌+◌, ◌^◌, ℕ, zero, suc, Bool, true, false, cond, List, [], ◌∷◌, ◌++◌, refl, sym, ap, ◌∙◌, subst, arith, Some, None, inl, inr, take, length, filter, IsTrue, if◌then◌else◌}
 use Rattle.std.specs.List.{Contains, flat_map}
 use Rattle.std.specs.Option.{option_map, option_map_or}
@@ -36,7 +37,7 @@ use Rattle.be_order.proofs.KeyLists.{found_after, is_itself, is_same}
 use Rattle.be_order.proofs.PageKeys.{entry}
 use Rattle.be_order.proofs.Fronts.{first_are, contained_at, at_contained, sorted_keys}
 
--- the value that comparisons on one name see is one that they allow
+-- If comparisons on one name are true, they allow the value that they see.
 allowed : (s : State) (f : Formula) (name : List ℕ) (n : ℕ) (value : Value) (pick at : ℕ) → AreAllOn f name → sat s f n ≡ true → sees s n name ≡ Some value → Allows pick at f name value
 allowed s (Leaf own op literal) name n value pick at on h seen = λ _. sym (ap (λ (o : Option Value). option_map_or (λ v. holds op v literal) o false) (ap (sees s n) on ∙ seen)) ∙ h
 allowed s (And a b) name n value pick at on h seen = (
@@ -45,7 +46,7 @@ allowed s (And a b) name n value pick at on h seen = (
 )
 allowed s (Or a b) name n value pick at on h seen = absurd on
 
--- a node's value in an index is its attribute, which is of an indexable kind
+-- The value of a node in an index is its attribute, whose kind is indexable.
 pub held_value : (s : State) → IsSound s → (by : List ℕ) (n : ℕ) → IsHeld s by n → (value : Value) × (attribute s n by ≡ Some value) × (sees s n by ≡ Some value) × IsTrue (is_indexable (kind_of value))
 held_value s sound by n held =
     let h = held.1 in
@@ -60,7 +61,7 @@ held_value s sound by n held =
     )
 
 module _ (s : State) (sound : IsSound s) (by : List ℕ) (kind : Kind) (is : index_kind s by ≡ Some kind) where
-  -- the key of the value seen at a node
+  -- The key of the value seen for the node.
   pub key_of_seen : (n : ℕ) (value : Value) → sees s n by ≡ Some value → (h : IsKey s by (key value n)) × (h.node ≡ n) × IsPair kind value n
   key_of_seen n value seen = at (fin.get s.indices by) refl is seen
     where
@@ -75,7 +76,7 @@ module _ (s : State) (sound : IsSound s) (by : List ℕ) (kind : Kind) (is : ind
             record { is_value = p.is_value; kind_is = p.kind_is ∙ kinds; node_fits = p.node_fits },
           )
 
-  -- the value seen at a key's node
+  -- The value seen for the node of a key.
   pub seen_of_key : (k : List ℕ) (h : IsKey s by k) → (sees s h.node by ≡ Some h.value) × (h.node < 2 ^ 64)
   seen_of_key k h =
       let p : IsPaired s by h.index.kind h.node h.value = sound.pairs by h.index h.node h.value h.there h.paired in
@@ -107,12 +108,12 @@ module _ (s : State) (sound : IsSound s) (by : List ℕ) (kind : Kind) (is : ind
     one_at m nodes q n None e h more = one_later m nodes q n (more h)
     one_at m nodes q n (Some value) e h more = one_here m nodes q n value e (eq_by_cmp R q (key value m)) refl h more
 
-    -- what is found among the nodes' keys is the key of one of them
+    -- Whatever is found among the keys of the nodes is the key of one of them.
     pub found_is : (nodes q : List ℕ) (n : ℕ) → find R q (entries_of nodes) ≡ Some n → IsOneOf nodes q n
     found_is [] q n h = cc
     found_is (m ∷ nodes) q n h = one_at m nodes q n (sees s m by) refl h (λ g. found_is nodes q n g)
 
-    -- each of them is found
+    -- Every one of them is found.
     module _ (n : ℕ) (value : Value) (seen : sees s n by ≡ Some value) where
       key_here : (m : ℕ) (w : Value) → sees s m by ≡ Some w → m ≡ n → eq_by_cmp R (key value n) (key w m) ≡ true
       key_here m w there same =
@@ -142,7 +143,7 @@ module _ (s : State) (sound : IsSound s) (by : List ℕ) (kind : Kind) (is : ind
       is_found (m ∷ nodes) (suc k, below, at) = found_seen m nodes (sees s m by) refl (inr (is_found nodes (k, omega arith, at)))
 
 module _ (s : State) (sound : IsSound s) (f : Formula) (by : List ℕ) (kind : Kind) (is : index_kind s by ≡ Some kind) (on : AreAllOn f by) (low : List ℕ) (high : Option (List ℕ)) (decides : Decides f kind low high) where
-  -- the scan's nodes
+  -- The nodes of the scan.
   abbrev pub scanned : List ℕ
   scanned = filter (sat s f) (fin.keys s.nodes)
 
@@ -156,7 +157,7 @@ module _ (s : State) (sound : IsSound s) (f : Formula) (by : List ℕ) (kind : K
   in_scan n value there h = contains_of_is_in scanned n (in_filter (sat s f) (fin.keys s.nodes) n (sym (fin.contains_key-keys s.nodes n) ∙ has_attribute s n by value there) h)
 
   module _ (descending : Bool) (cursor : Option (List ℕ)) where
-    -- the whole answer after the cursor
+    -- The whole answer after the cursor.
     abbrev rest : List (List ℕ × ℕ)
     rest = after descending cursor (in_order s by descending scanned)
 

@@ -1,4 +1,4 @@
--- A page from the front that a walk found.
+-- A page from the first entries that a walk found.
 use Rattle.std.proofs.Common.{◌≡◌, ◌⊎◌, ℕ, zero, suc, Bool, true, List, [], ◌∷◌, ◌++◌, refl, sym, ap, ◌∙◌, subst, arith, Some, None, inl, inr, is_some, take, length, nat_lt, min, if◌then◌else◌}
 use Rattle.std.specs.List.{Contains}
 use Rattle.std.specs.Option.{option_map}
@@ -60,7 +60,7 @@ contains_front (suc n) (x ∷ es) e (suc i, below, is) =
     let later : Contains es e = contains_front n es e (i, omega arith, is) in
     (suc later.0, omega (arith, later.1), later.2)
 
--- a list is empty or ends with an entry
+-- A list is either empty or ends with an entry.
 abbrev pub Ended : List (List ℕ × ℕ) → Type 0
 Ended es = (es ≡ []) ⊎ ((init : List (List ℕ × ℕ)) × (e : List ℕ × ℕ) × (es ≡ init ++ e ∷ []))
 

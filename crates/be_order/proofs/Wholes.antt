@@ -1,4 +1,4 @@
--- Pages one after another are the whole list.
+-- Successive pages form the whole list.
 use Rattle.std.proofs.Common.{◌≡◌, ◌≢◌, ◌<◌, ◌≤◌, ◌-◌, ℕ, zero, suc, Bool, true, false, List, [], ◌∷◌, ◌++◌, refl, sym, ap, ◌∙◌, subst, arith, Some, None, take, drop, length, nat_lt, append-nil, if◌then◌else◌}
 use Rattle.std.specs.Prelude.{T, slice_index}
 use Rattle.std.specs.List.{Contains, flat_map}
@@ -29,7 +29,7 @@ use Rattle.be_order.proofs.WalkedPages.{nodes_append}
 abbrev Entries : Type 0
 Entries = List (List ℕ × ℕ)
 
--- what a call returned, or a default if it was an error
+-- The value that a call returned, or a default if it returned an error.
 abbrev got : {X : Type 0} → Result X Refusal → X → X
 got (Ok x) otherwise = x
 got (Err e) otherwise = otherwise
@@ -37,13 +37,13 @@ got (Err e) otherwise = otherwise
 same_Ok : {X : Type 0} (r : Result X Refusal) (x y : X) → r ≡ Ok x → r ≡ Ok y → x ≡ y
 same_Ok r x y p q = ap (λ a. got a x) (sym p ∙ q)
 
--- without a cursor everything comes after it
+-- Without a cursor, everything comes after it.
 all_ahead : (descending : Bool) (es : Entries) → after descending None es ≡ es
 all_ahead descending [] = refl
 all_ahead descending (e ∷ es) = ap (λ l. e ∷ l) (all_ahead descending es)
 
 module _ (s : State) (f : Formula) (by : List ℕ) (descending : Bool) (list : Entries) (is : ordered s f by descending ≡ Ok list) where
-  -- the list is made from some nodes
+  -- The list is made from some nodes.
   made : (nodes : List ℕ) × (in_order s by descending nodes ≡ list)
   made = at (has_index s by) (scan s f) is
     where
@@ -55,7 +55,7 @@ module _ (s : State) (f : Formula) (by : List ℕ) (descending : Bool) (list : E
   sorted : T (is_sorted (key_cmp descending) list)
   sorted = subst (λ (l : Entries). T (is_sorted (key_cmp descending) l)) made.1 (fin.entries_sorted (fin.from_entries {R = key_cmp descending} (flat_map (keyed s by) made.0)))
 
-  -- no node comes twice
+  -- No node occurs twice.
   pub list_once : IsSound s → (kind : Kind) → index_kind s by ≡ Some kind → (i j : ℕ) → i < j → j < length (nodes_of list) → slice_index (nodes_of list) i ≢ slice_index (nodes_of list) j
   list_once sound kind there = places_apart (nodes_of list) (nodes_once s by descending list sorted (λ k n h.
       let ahead : after descending None (in_order s by descending made.0) ≡ list = all_ahead descending (in_order s by descending made.0) ∙ made.1 in
@@ -103,7 +103,7 @@ module _ (s : State) (f : Formula) (by : List ℕ) (descending : Bool) (list : E
     one_page : (cursor : Option (List ℕ)) → nat_lt most (length (ahead cursor)) ≡ false → (pages : List Page) × ArePages s f by descending most cursor pages
     one_page cursor e = (next cursor ∷ [], (page_is cursor, λ t. let no : true ≡ false = sym t ∙ e in cc, λ _. refl))
 
-    -- one page more than there are nodes is enough
+    -- One page more than there are nodes is enough.
     pub pages_end : 0 < most → (n : ℕ) (cursor : Option (List ℕ)) → length (ahead cursor) ≤ n → (pages : List Page) × ArePages s f by descending most cursor pages
     pages_end some zero cursor few = one_page cursor (le-ltb most (length (ahead cursor)) (omega (arith, few)))
     pages_end some (suc n) cursor few = at (nat_lt most (length (ahead cursor))) refl (λ c h. pages_end some n c h)

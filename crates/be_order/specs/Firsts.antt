@@ -1,4 +1,4 @@
--- The first nodes of an answer by number, and any few of its nodes.
+-- The first nodes of an answer by number, and arbitrary nodes of an answer.
 use Rattle.std.specs.Prelude.{◌≡◌, ◌≢◌, ℕ, ◌<◌, List, Ok, filter, length, min, nat_le, take}
 use Rattle.std.specs.Prelude.{slice_index}
 use Rattle.std.specs.List.{Contains}
@@ -9,12 +9,12 @@ use Rattle.be_query.specs.Grammar.{Formula}
 use Rattle.be_volume.specs.Query.{scan}
 use Rattle.be_volume.specs.Volume.{State}
 
--- the scan's nodes from this number on, at most `most`
+-- The first `most` nodes of the scan whose number is at least `first`.
 abbrev pub from_number : State → Formula → ℕ → ℕ → Result (List ℕ) Refusal
 from_number s f first most = result_map_both (λ nodes. take most (filter (nat_le first) nodes))
     (λ e. e) (scan s f)
 
--- The nodes are some of an answer's, none of them twice: `most`, or all if there are fewer.
+-- The nodes belong to the answer and are distinct: `most` of them, or all if there are fewer.
 pub record IsAnyOf (answer : Result (List ℕ) Refusal) (most : ℕ) (nodes : List ℕ) : Type 0 where
   pub all : List ℕ
   pub is : answer ≡ Ok all

@@ -1,4 +1,4 @@
--- What a walk over an index in its order finds.
+-- What a walk over an index finds, in the order of the index.
 use Rattle.std.specs.Prelude.{◌≡◌, ◌⊎◌, ℕ, ◌≤◌, Bool, true, List, ◌++◌, length}
 use Rattle.std.specs.List.{Contains}
 use Rattle.std.specs.List.Sorted.{IsStrictlySortedBy}
@@ -11,14 +11,14 @@ use Rattle.be_plan.specs.Narrow.{Within}
 use Rattle.be_plan.specs.declared.keytests.KeyTest.{KeyTest}
 use Rattle.be_order.specs.Ordered.{is_after, key_cmp, keys_of, nodes_of}
 
--- the key is in the name's index, lies from `low` to `high`, and belongs to this node
+-- The index of that name contains the key, which is from `low` to `high` and belongs to this node.
 pub record IsEntry (s : State) (name low : List ℕ) (high : Option (List ℕ)) (k : List ℕ)
     (node : ℕ) : Type 0 where
   pub is_key : IsKey s name k
   pub within : Within low high k
   pub node_is : is_key.node ≡ node
 
--- These are the first entries after the cursor, at most `most`, in order.
+-- These are the first `most` entries after the cursor, in order.
 pub record AreFirst (Is : List ℕ → ℕ → Type 0) (descending : Bool) (cursor : Option (List ℕ))
     (most : ℕ) (es : List (List ℕ × ℕ)) : Type 0 where
   pub rising : IsStrictlySortedBy (key_cmp descending) (keys_of es)
@@ -29,19 +29,19 @@ pub record AreFirst (Is : List ℕ → ℕ → Type 0) (descending : Bool) (curs
       → Contains es (k, node) ⊎ ((length es ≡ most)
       × ((x : List ℕ) (n : ℕ) → Contains es (x, n) → key_cmp descending x k ≡ Less))
 
--- the nodes of such entries were added
+-- The nodes of the first `most` entries after the cursor were added to the list.
 pub record HasWalked (Is : List ℕ → ℕ → Type 0) (descending : Bool) (cursor : Option (List ℕ))
     (most : ℕ) (before after : List ℕ) : Type 0 where
   pub entries : List (List ℕ × ℕ)
   pub first : AreFirst Is descending cursor most entries
   pub added : after ≡ before ++ nodes_of entries
 
--- an entry whose node passes a test
+-- The entry's node passes a test.
 abbrev pub IsPassing : State → List ℕ → List ℕ → Option (List ℕ) → KeyTest → List ℕ → ℕ → Type 0
 IsPassing s name low high test k node = IsEntry s name low high k node
     × (passes_node s name test node ≡ true)
 
--- the name's index has a pair for the node
+-- The index of that name has a pair for the node.
 abbrev pub IsHeld : State → List ℕ → ℕ → Type 0
 IsHeld s name node = (k : List ℕ) × (h : IsKey s name k) × (h.node ≡ node)
 

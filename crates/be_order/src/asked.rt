@@ -1,11 +1,11 @@
-//! Pages found by walking the index and asking each node whether the rest of the query is true of
-//! it.
+//! Pages found by walking the index and testing nodes against the query's remaining condition.
 //!
-//! The walk goes in parts. It ends when the page is full or the range has no more keys. Once it has
-//! passed as many keys as its limit, it gives up, and another way is taken.
+//! The walk proceeds in parts. It ends when the page is full or the range is exhausted. If it
+//! reaches its limit on visited keys before that, it gives up, and another method is tried.
 //!
-//! The walk asks the source about each node, or looks the node up in a list of all nodes of which
-//! the rest is true. A single comparison is prepared before it is asked of many nodes.
+//! The source evaluates the condition on each node, or the node is looked up in a list of all nodes
+//! that satisfy the condition. A condition that is a single comparison is prepared before it is
+//! applied to many nodes.
 ghost use Rattle.std.specs.Prelude.{◌≡◌, ◌++◌, ◌∷◌, [], None, OnErr, OnOk, IfErr, IfOk, IfSome};
 ghost use Rattle.std.specs.Prelude.{Some, filter, true};
 ghost use Rattle.std.specs.Option.{option_copied};
@@ -27,10 +27,10 @@ use be_query::Tree;
 use be_value::{Kind, Refusal};
 use std::alloc::{AllocError, Global};
 
-/// The most parts that a walk has. Parts of 64 keys suffice for 2^26 keys.
+/// The maximum number of parts in a walk. With 64 keys per part, this is enough for 2^26 keys.
 const PARTS: usize = 1 << 20;
 
-/// The keys that a walk passes in an index of this kind, in either direction.
+/// The keys that a walk visits in an index of this kind, in either direction.
 #[derive(Clone, Copy)]
 pub(crate) struct Walk<'a> {
     pub(crate) keys: KeyRange<'a>,
@@ -38,8 +38,9 @@ pub(crate) struct Walk<'a> {
     pub(crate) descending: bool,
 }
 
-/// The rest of the query, which is asked of each node. If it is one comparison, `test` may be that
-/// comparison, prepared. `listed` may be a list of all nodes of which it is true.
+/// The condition that remains to be tested on each node. If it is a single comparison, `test` may
+/// be that comparison in prepared form. `listed` may be a list of all nodes that satisfy the
+/// condition.
 #[derive(Clone, Copy)]
 pub(crate) struct Left<'t, 'r, 'n> {
     pub(crate) tree: &'t Tree,
@@ -47,9 +48,9 @@ pub(crate) struct Left<'t, 'r, 'n> {
     pub(crate) listed: Option<&'n [u64]>,
 }
 
-/// Puts the nodes of a walk's next keys into a list, replacing what it had, and moves the cursor to
-/// the last of these keys. It returns whether there may be more, or `None` if the source can't walk
-/// in order.
+/// Replaces the content of a list with the nodes of the walk's next keys, and moves the cursor to
+/// the last of these keys. Returns whether there may be more keys, or `None` if the source can't
+/// walk in order.
 fn next_part<S: OrderedSource>(
     source: &mut S,
     walk: Walk<'_>,
@@ -81,8 +82,8 @@ fn next_part<S: OrderedSource>(
     Ok(Some(more))
 }
 
-/// Whether a part of a query is true of the node. If the part is one comparison, `test` may be that
-/// comparison, prepared.
+/// Returns `true` if the node satisfies a part of the query. If the part is a single comparison,
+/// `test` may be that comparison in prepared form.
 fn is_part_true<S: Source>(
     source: &mut S,
     tree: &Tree,
@@ -105,7 +106,7 @@ fn is_part_true<S: Source>(
     }
 }
 
-/// Whether the rest of the query is true of the node.
+/// Returns `true` if the node satisfies the remaining condition.
 fn is_left_true<S: Source>(source: &mut S, left: Left<'_, '_, '_>, node: u64) -> bool
     ghost volume: { State }
     requires answers { S.answers_for source.old volume }
@@ -121,7 +122,7 @@ fn is_left_true<S: Source>(source: &mut S, left: Left<'_, '_, '_>, node: u64) ->
     }
 }
 
-/// Adds the node, if the rest of the query is true of it.
+/// Adds the node if it satisfies the remaining condition.
 fn push_if_true<S: Source>(
     source: &mut S,
     left: Left<'_, '_, '_>,
@@ -143,7 +144,7 @@ fn push_if_true<S: Source>(
     Ok(())
 }
 
-/// Adds those nodes of which the rest of the query is true.
+/// Adds those nodes that satisfy the remaining condition.
 fn push_true<S: Source>(
     source: &mut S,
     left: Left<'_, '_, '_>,
@@ -165,9 +166,9 @@ fn push_true<S: Source>(
     Ok(())
 }
 
-/// Walks on from a cursor, and puts the nodes of which the rest of the query is true into a list,
-/// replacing what it had. The list gets the first of these nodes: more than `most`, or all of them.
-/// It returns false if the walk gave up or the source can't walk in order.
+/// Continues a walk from a cursor, and replaces the content of a list with the first nodes that
+/// satisfy the remaining condition: more than `most` of them, or all if there aren't that many.
+/// Returns `false` if the walk gave up or the source can't walk in order.
 fn ask_parts<S: OrderedSource>(
     alloc: Global,
     left: Left<'_, '_, '_>,
@@ -215,7 +216,7 @@ fn ask_parts<S: OrderedSource>(
     Ok(false)
 }
 
-/// A copy of the cursor.
+/// Returns a copy of the cursor.
 fn copy_of(cursor: &Option<ArrayVec<u8, 264>>) -> Option<ArrayVec<u8, 264>>
     ensures { cursor_bytes result ≡ cursor_bytes cursor.now }
 {
@@ -229,8 +230,8 @@ fn copy_of(cursor: &Option<ArrayVec<u8, 264>>) -> Option<ArrayVec<u8, 264>>
     }
 }
 
-/// A page of a query that an index covers, by a walk that asks each node about the rest. It
-/// returns `None` if the source can't walk in order, or if the walk gave up.
+/// Returns a page of a query that the indices cover, using a walk that tests each node against the
+/// remaining condition. Returns `None` if the source can't walk in order or the walk gave up.
 pub(crate) fn ask_page<S: OrderedSource>(
     alloc: Global,
     left: Left<'_, '_, '_>,

@@ -1,9 +1,9 @@
-//! Estimates what a page costs in each way, if the keys of the order's own index don't decide the
-//! query.
+//! Estimates the cost of each method of finding a page.
 //!
-//! A walk may ask each node about the rest of the query. It may look each node up in a list of all
-//! nodes of which the rest is true. Or the whole answer is found and sorted. These numbers only
-//! decide which way is taken, so no number can make a page wrong.
+//! If the keys of the order's own index don't decide the query, there are three methods. A walk can
+//! test each node against the remaining condition of the query, or look up each node in a list of
+//! all nodes that satisfy the condition. Or the whole answer can be found and sorted. The estimates
+//! only select the method, so a wrong estimate can't make a page wrong.
 ghost use Rattle.std.specs.Prelude.{◌≡◌};
 ghost use Rattle.be_plan.specs.Sources.{StillAnswers};
 ghost use Rattle.be_volume.specs.Volume.{State};
@@ -12,39 +12,42 @@ use crate::OrderedSource;
 use be_plan::{KeyBounds, KeyRange};
 use be_query::{Cmp, Comparison, Literal, Tree};
 
-/// Asking about one node takes as many instructions as walking over this many keys.
+/// A probe of a node reads its attribute or looks for it in an index. It takes as many instructions
+/// as walking over this many keys.
 const KEYS_A_QUESTION: u64 = 32;
 
-/// A sort needs each node's key and its place, which costs as much as asking about this many nodes.
+/// Sorting requires the key of each node and its position in the order, which together cost as much
+/// as this many probes.
 const QUESTIONS_A_KEY: u64 = 4;
 
-/// Testing a key's text takes as many instructions as walking over this many other keys.
+/// Testing the string in a key takes as many instructions as walking over this many keys without a
+/// test.
 const KEYS_A_TEXT: u64 = 4;
 
-/// The largest part, in keys, of a walk that asks each node for a short page. It is also the
-/// smallest part of a walk that looks each node up.
+/// The maximum number of keys in a part of a walk that tests each node for a short page. It is also
+/// the minimum for a walk that looks up each node.
 const SHORT_PART: usize = 64;
 
-/// The largest part, in keys, of a walk that looks each node up.
+/// The maximum number of keys in a part of a walk that looks up each node.
 const LONG_PART: usize = 4096;
 
-/// A pattern is taken to match one in this many texts.
+/// A pattern is assumed to match one in this many strings.
 const TEXTS_A_HIT: u64 = 8;
 
-/// What it costs to answer a part of a query.
+/// The cost of answering a part of a query.
 #[derive(Clone, Copy)]
 struct Cost {
-    /// About how many keys a walk passes to list the nodes, or as many as would cost the same.
-    /// Without an index it is the largest number.
+    /// The approximate number of keys that a walk visits to list the nodes, with any other work
+    /// counted as the number of keys of equal cost. Without an index, it is the highest number.
     keys: u64,
-    /// About how many nodes the list has.
+    /// The approximate number of nodes in the list.
     hits: u64,
-    /// What it costs to ask about one node instead, in questions.
+    /// The number of probes needed to test one node instead.
     asking: u64,
 }
 
 impl Cost {
-    /// The cost of two sides that are both needed.
+    /// Returns the cost of two sides if both are needed.
     fn and(self, other: Cost) -> Cost {
         Cost {
             keys: self.keys.saturating_add(other.keys),
@@ -53,7 +56,8 @@ impl Cost {
         }
     }
 
-    /// The cost of two sides of which one suffices: that of the side with the shorter walk.
+    /// Returns the cost of two sides if one of them is enough to find the nodes. The walk is that
+    /// of the side with fewer keys, but testing a node takes the probes of both sides.
     fn or(self, other: Cost) -> Cost {
         let asking = self.asking.saturating_add(other.asking);
         let shorter = if other.keys < self.keys { other } else { self };
@@ -61,22 +65,24 @@ impl Cost {
     }
 }
 
-/// How many keys a walk takes at a time, and how many it may pass before it gives up.
+/// The number of keys that a walk takes at a time, and the number of keys that it may visit before
+/// it gives up.
 #[derive(Clone, Copy)]
 pub(crate) struct Pace {
     pub(crate) part: usize,
     pub(crate) limit: u64,
 }
 
-/// The paces of a walk that asks each node, and of a walk that looks each node up in a list. A walk
-/// with limit 0 isn't begun.
+/// The paces of a walk that tests each node and of a walk that looks up each node in a list. A walk
+/// with a limit of 0 isn't started.
 #[derive(Clone, Copy)]
 pub(crate) struct Paces {
     pub(crate) asking: Pace,
     pub(crate) looking_up: Pace,
 }
 
-/// Whether most texts that begin as the comparison requires are expected to fail it.
+/// Returns `true` if the comparison is expected to fail for most strings that begin with its
+/// literal prefix.
 fn is_loose(comparison: &Comparison) -> bool {
     match &comparison.literal {
         Literal::Pattern(pattern) => {
@@ -86,7 +92,8 @@ fn is_loose(comparison: &Comparison) -> bool {
     }
 }
 
-/// The cost of a comparison. `whole` is the comparison with everything that `&&` joins to it.
+/// Returns the cost of a comparison. `whole` is the comparison together with everything that `&&`
+/// joins to it.
 fn cost_of_comparison<S: OrderedSource>(
     source: &mut S,
     bounds: &mut KeyBounds,
@@ -121,7 +128,8 @@ fn cost_of_comparison<S: OrderedSource>(
     }
 }
 
-/// The cost of a part of a query. `whole` is the part with everything that `&&` joins to it.
+/// Returns the cost of a part of a query. `whole` is the part together with everything that `&&`
+/// joins to it.
 fn cost_of<S: OrderedSource>(
     source: &mut S,
     bounds: &mut KeyBounds,
@@ -148,7 +156,7 @@ fn cost_of<S: OrderedSource>(
     }
 }
 
-/// About how many of `all` keys a walk passes until it has found `most` nodes.
+/// Returns approximately how many of `all` keys a walk visits before it has found `most` nodes.
 fn passed_for(most: u64, all: u64, hits: u64) -> u64 {
     match most.saturating_mul(all).checked_div(hits) {
         Some(passed) => passed.min(all),
@@ -156,8 +164,8 @@ fn passed_for(most: u64, all: u64, hits: u64) -> u64 {
     }
 }
 
-/// The pace of a walk that asks each node. A part has one key more than the page, so that a page
-/// whose nodes all pass takes one part.
+/// Returns the pace of a walk that tests each node. Each part has one key more than the page, so
+/// that one part is enough if all nodes pass.
 fn asking_pace(most: usize, limit: u64) -> Pace {
     Pace {
         part: most.saturating_add(1).min(SHORT_PART).max(most / 8),
@@ -165,7 +173,7 @@ fn asking_pace(most: usize, limit: u64) -> Pace {
     }
 }
 
-/// The pace of a walk over about `passed` keys that looks each node up.
+/// Returns the pace of a walk that looks up each node and is expected to visit `passed` keys.
 fn looking_up_pace(passed: u64, limit: u64) -> Pace {
     let part = match usize::try_from(passed / 4) {
         Ok(part) => part.max(SHORT_PART).min(LONG_PART),
@@ -174,7 +182,7 @@ fn looking_up_pace(passed: u64, limit: u64) -> Pace {
     Pace { part, limit }
 }
 
-/// The paces of walks over `all` keys, for a page of `most` nodes.
+/// Returns the paces of walks over `all` keys for a page of `most` nodes.
 fn paces_for(cost: Cost, all: u64, most: usize) -> Paces {
     let passed = passed_for(most as u64, all, cost.hits);
     let list = (cost.keys / KEYS_A_QUESTION).saturating_add(passed / KEYS_A_QUESTION);
@@ -193,8 +201,8 @@ fn paces_for(cost: Cost, all: u64, most: usize) -> Paces {
     }
 }
 
-/// The paces of walks over these keys, for a page of a query with this rest. Neither walk is begun
-/// if the rest's list is expected to fit into the page.
+/// Returns the paces of walks over these keys for a page of a query with this remaining condition.
+/// Neither walk is started if all nodes that satisfy the condition are expected to fit on the page.
 pub(crate) fn paces_of<S: OrderedSource>(
     source: &mut S,
     keys: KeyRange<'_>,

@@ -1,4 +1,4 @@
-//! The first nodes of an answer by number, and any few of its nodes.
+//! The first nodes of an answer by node number, and arbitrary nodes of an answer.
 ghost use Rattle.std.specs.Prelude.{◌≡◌, ℕ, List, IfErr, IfOk, IfSome, OnOk, Some};
 ghost use Rattle.std.specs.Prelude.{filter, nat_le, take, true};
 ghost use Rattle.std.specs.Option.{option_copied};
@@ -18,7 +18,7 @@ use be_query::Query;
 use be_value::{Kind, Refusal};
 use std::alloc::Global;
 
-/// Keeps the numbers from `first` on, and at most `most` of them.
+/// Removes numbers below `first`, and all but the first `most` of the others.
 fn keep_from(numbers: &mut Vec<u64>, first: u64, most: usize)
     ensures { numbers.new.items ≡ take most (filter (nat_le first) numbers.old.items) }
 {
@@ -26,13 +26,13 @@ fn keep_from(numbers: &mut Vec<u64>, first: u64, most: usize)
     numbers.truncate(most);
 }
 
-/// Finds the first `most` nodes from the number `first` on that satisfy the query, in ascending
-/// order. It puts them into a list, replacing what that had. To continue, ask from the number after
-/// the last.
+/// Replaces the content of a list with the first `most` nodes that satisfy the query and have a
+/// number of `first` or above, in ascending order. To get the next nodes, pass the last node number
+/// plus one as `first`.
 ///
-/// If no index covers the query, the error is `NotCovered`. After an error the source still
-/// answers for the volume, and the list may have any numbers. The call costs as much as the whole
-/// answer.
+/// Returns `NotCovered` if the indices don't cover the query. After an error the source still
+/// represents the volume, but the content of the list is unspecified. The call costs as much as
+/// finding the whole answer.
 pub fn first_by_number<S: Source>(
     alloc: Global,
     query: &Query,
@@ -53,9 +53,9 @@ pub fn first_by_number<S: Source>(
     Ok(())
 }
 
-/// Puts nodes that satisfy the query into a list, replacing what that had. They may be any of the
-/// answer's nodes, none of them twice: `most`, or all if there are fewer. Errors, and what they
-/// leave, are those of `first_by_number`.
+/// Replaces the content of a list with `most` distinct nodes that satisfy the query, or with all of
+/// them if there are fewer. It is unspecified which nodes are chosen. The errors and their effects
+/// are the same as for `first_by_number`.
 pub fn any_into<S: Source>(
     alloc: Global,
     query: &Query,
@@ -96,8 +96,8 @@ pub fn first_prepared_into<S: Source>(
     first_by_number(alloc, prepared.query(), source, first, most, found)
 }
 
-/// If all comparisons of the query are on one name, prepares its range for that name's index. It
-/// returns that index's kind, if there is such an index.
+/// Prepares the query's range for the index of the name that all its comparisons are on. Returns
+/// the kind of that index, or `None` if there is no such name or index.
 fn meet_own<S: Source>(prepared: &mut PreparedQuery, source: &mut S) -> Option<Kind>
     ghost volume: { State }
     requires { S.answers_for source.old volume }
@@ -118,8 +118,8 @@ fn meet_own<S: Source>(prepared: &mut PreparedQuery, source: &mut S) -> Option<K
     Some(kind)
 }
 
-/// Finds any few nodes of a range that decides a query, by one walk. It returns false if the source
-/// can't walk in order.
+/// Finds up to `most` arbitrary nodes in a range that decides a query, with a single walk. Returns
+/// `false` if the source can't walk in order.
 fn walk_any<S: OrderedSource>(
     source: &mut S,
     keys: KeyRange<'_>,
@@ -151,9 +151,9 @@ fn walk_any<S: OrderedSource>(
 
 /// Does what `any_into` does, for a prepared query.
 ///
-/// If the range of one index decides the query and the source walks in order, it returns the
-/// range's first nodes. That costs a walk over as many keys, and allocates only for the list.
-/// Otherwise it costs as much as the whole answer.
+/// If the range of one index decides the query and the source walks in order, the first nodes in
+/// the range are returned. This costs a walk over as many keys as there are nodes returned, and
+/// allocates memory only for the list. Otherwise it costs as much as finding the whole answer.
 pub fn any_prepared_into<S: OrderedSource>(
     alloc: Global,
     prepared: &mut PreparedQuery,

@@ -1,6 +1,6 @@
-//! Laws of pages.
+//! Laws about pages.
 //!
-//! The functions do nothing; their contracts are the laws.
+//! These functions do nothing; their contracts state the laws.
 ghost use Rattle.std.specs.Prelude.{◌≡◌, ◌≢◌, ◌<◌, ℕ, Bool, List, None, Ok, Some, drop, length};
 ghost use Rattle.std.specs.Prelude.{slice_index};
 ghost use Rattle.std.specs.declared.option.Option.{Option};
@@ -12,9 +12,9 @@ ghost use Rattle.be_volume.specs.Volume.{State};
 ghost use Rattle.be_order.specs.Ordered.{Page, after, in_order, nodes_of, ordered, page_of};
 ghost use Rattle.be_order.specs.Pages.{ArePages, nodes_in};
 
-/// What comes after the cursor that a page leaves is what came after the page's own cursor, without
-/// the page's nodes. So in the same snapshot, the next page begins with the node after this page's
-/// last.
+/// The entries after the cursor that a page leaves are the entries after the cursor that it started
+/// from, minus those on the page. So within one snapshot, the next page starts with the node after
+/// the last node on this page.
 pub fn next_page_goes_on()
     ensures { (s : State) (by nodes : List ℕ) (descending : Bool) (cursor : Option (List ℕ))
         (most : ℕ) →
@@ -23,9 +23,9 @@ pub fn next_page_goes_on()
         after descending (page_of cursor most ahead).cursor list ≡ drop most ahead }
 {}
 
-/// Each page of one snapshot is asked for with the cursor that the previous page left. Together the
-/// pages are then the whole list in its order, and each node is in it once. If a page may have at
-/// least one node, the pages come to an end.
+/// If the pages of one snapshot are requested one after another, each with the cursor that the
+/// previous page left, then together they form the whole list in order, and each node occurs once.
+/// If pages may have at least one node, the sequence of pages ends.
 pub fn pages_are_the_whole()
     ensures whole { (s : State) (f : Formula) (by : List ℕ) (descending : Bool) (most : ℕ)
         (list : List (List ℕ × ℕ)) (pages : List Page) → ordered s f by descending ≡ Ok list

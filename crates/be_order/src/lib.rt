@@ -1,9 +1,9 @@
-//! Answers in the order of an index, a page at a time.
+//! Query results in index order, one page at a time.
 //!
-//! A plan finds the nodes that satisfy a query, in ascending order of their numbers. Here they come
-//! in the order of an index, ascending or descending, from a cursor on. A page has a limited number
-//! of them: the newest 50 of a folder, and then the next 50. The answer doesn't depend on the plan:
-//! it is the scan of the volume, in this order.
+//! A plan finds the nodes that satisfy a query, in ascending order of their numbers. This crate
+//! returns them in the order of an index, ascending or descending, starting after a cursor. The
+//! number of nodes per page is limited: for example, the newest 50 in a folder, and then the next
+//! 50. The result doesn't depend on the plan: it is the volume's scan, sorted in this order.
 #![tactic(auto)]
 
 mod asked;

@@ -1,8 +1,8 @@
-//! Answers in the order of an index, a page at a time.
+//! Answers in the order of an index, one page at a time.
 //!
-//! A page has the nodes after a cursor, at most `most` of them. The cursor is the last key of the
-//! previous page. It is a place, not a count, so a page of a later snapshot continues from there,
-//! whatever was written in between.
+//! A page contains up to `most` nodes after a cursor. The cursor is the last key of the previous
+//! page. It is a position and not a count, so a page of a later snapshot continues from the same
+//! point, whatever has been written since.
 ghost use Rattle.std.specs.Prelude.{◌≡◌, OnErr, IfOk};
 ghost use Rattle.be_value.specs.Refusal.{Answers};
 ghost use Rattle.be_volume.specs.Reading.{index_kind};
@@ -16,8 +16,8 @@ use be_query::Query;
 use be_value::{Name, Refusal};
 use std::alloc::{AllocError, Global};
 
-/// An order of nodes, by the index of a name, ascending or exactly the reverse; and the most nodes
-/// that a page may have.
+/// The order of the nodes and the size of a page: the name whose index determines the order,
+/// whether the order is reversed, and the maximum number of nodes per page.
 #[derive(Clone, Copy)]
 pub struct Order<'a> {
     pub by: &'a Name,
@@ -25,8 +25,8 @@ pub struct Order<'a> {
     pub most: usize,
 }
 
-/// Puts those nodes that have a pair in the index into the index's order, and keeps the first of
-/// them after the cursor. It returns whether there are more, and leaves the cursor at the last node
+/// Sorts those nodes that have a pair in the index into the order of the index, and keeps the first
+/// of them after the cursor. Returns whether there are more, and leaves the cursor at the last node
 /// kept.
 fn keep_page<S: Source>(
     alloc: Global,
@@ -58,17 +58,17 @@ fn keep_page<S: Source>(
     Ok(more)
 }
 
-/// Puts a page of the answer into a list, replacing what that had. The page has the first `most`
-/// nodes after the cursor that satisfy the query and have a pair in the order's index. It returns
-/// whether more come after them. The cursor is then the last node's key. If the page is empty, or
-/// after an error, the cursor is unchanged. The first page has no cursor.
+/// Replaces the content of a list with a page of the answer: the first `most` nodes after the
+/// cursor that satisfy the query and have a pair in the order's index. Returns whether more nodes
+/// follow. The cursor is moved to the key of the last node; if the page is empty, or after an
+/// error, it is unchanged. For the first page, pass no cursor.
 ///
-/// If the name has no index, the error is `NoSuchIndex`. If no index covers the query, it is
-/// `NotCovered`. After an error the source still answers for the volume, and the list may have any
-/// numbers.
+/// Returns `NoSuchIndex` if the name has no index, and `NotCovered` if the indices don't cover the
+/// query. After an error the source still represents the volume, but the content of the list is
+/// unspecified.
 ///
-/// The whole query is answered first (`answer_into`). Then each node's value is read, and the index
-/// is checked for it. Memory is allocated for the keys after the cursor.
+/// The whole query is answered first (`answer_into`). The value of each node is then read and
+/// checked against the index. Memory is allocated for all keys after the cursor.
 pub fn ordered_into<S: Source>(
     alloc: Global,
     query: &Query,

@@ -30,8 +30,8 @@ use be_query::{Query, Tree};
 use be_value::{Kind, Name, Refusal};
 use std::alloc::Global;
 
-/// Keeps the first `most` nodes, all of which the index has, and moves the cursor to the last of
-/// them.
+/// Keeps the first `most` nodes and moves the cursor to the last of them. All the nodes must be in
+/// the index.
 pub(crate) fn keep_first<S: OrderedSource>(
     source: &mut S,
     name: &Name,
@@ -57,8 +57,8 @@ pub(crate) fn keep_first<S: OrderedSource>(
     }
 }
 
-/// A page of a query that the keys of a range decide, by one walk. It returns `None` if the source
-/// can't walk in order.
+/// Finds a page of a query that the keys of a range decide, with a single walk. Returns `None` if
+/// the source can't walk in order.
 fn walk_page<S: OrderedSource>(
     source: &mut S,
     keys: KeyRange<'_>,
@@ -96,8 +96,8 @@ fn walk_page<S: OrderedSource>(
     Ok(Some(more))
 }
 
-/// A list of all nodes of which a part of a query is true. It returns `None` if no index covers
-/// the part, or if memory runs out.
+/// Returns a list of all nodes that satisfy a part of the query, or `None` if the indices don't
+/// cover the part or memory runs out.
 fn list_true<S: Source>(alloc: Global, tree: &Tree, source: &mut S) -> Option<Vec<u64>>
     ghost volume: { State }
     requires answers { S.answers_for source.old volume }
@@ -113,9 +113,9 @@ fn list_true<S: Source>(alloc: Global, tree: &Tree, source: &mut S) -> Option<Ve
     }
 }
 
-/// A page of a query that an index covers, by a walk that looks up each node. It lists all nodes
-/// of which the rest of the query is true, and looks nodes up by their marks or in that list. It
-/// returns `None` if these nodes can't be listed, or if the walk gave up.
+/// Finds a page of a query that the indices cover, using a walk that looks up each node. It first
+/// lists all nodes that satisfy the remaining condition, and looks nodes up by their marks or in
+/// that list. Returns `None` if these nodes can't be listed or the walk gave up.
 fn look_up_page<S: OrderedSource>(
     alloc: Global,
     tree: &Tree,
@@ -159,8 +159,8 @@ fn look_up_page<S: OrderedSource>(
     ask_page(alloc, left, source, walk, most, pace, cursor, found)
 }
 
-/// The comparison that a part of a query consists of, prepared for many texts. It returns `None` if
-/// the part has several.
+/// Prepares the comparison that a part of the query consists of, so that it can be applied to many
+/// strings. Returns `None` if the part has more than one comparison.
 fn ready_test(alloc: Global, tree: &Tree) -> Result<Option<TextTest<'_>>, Refusal>
     ensures test { IfOk result (λ test. IfSome test (IsTestOf (formula tree.now))) }
     ensures memory { IfErr result (λ e. e ≡ OutOfMemory) }
@@ -171,7 +171,7 @@ fn ready_test(alloc: Global, tree: &Tree) -> Result<Option<TextTest<'_>>, Refusa
     }
 }
 
-/// The same page, by a walk that asks each node.
+/// Finds the same page as `look_up_page`, but with a walk that tests each node.
 fn asking_page<S: OrderedSource>(
     alloc: Global,
     tree: &Tree,
@@ -208,7 +208,8 @@ fn asking_page<S: OrderedSource>(
     ask_page(alloc, left, source, walk, most, pace, cursor, found)
 }
 
-/// Whether an index covers the query. It is also false if memory ran out.
+/// Returns `true` if the indices cover the query. Returns `false` if they don't, or if memory runs
+/// out.
 fn rests_on_index<S: Source>(alloc: Global, query: &Query, source: &mut S) -> bool
     ghost volume: { State }
     requires { S.answers_for source.old volume }
@@ -219,9 +220,9 @@ fn rests_on_index<S: Source>(alloc: Global, query: &Query, source: &mut S) -> bo
     choose_from(alloc, query, source).is_ok()
 }
 
-/// A page of a query with a rest, by a walk over the keys of the order's own index. It returns
-/// `None` if another way has to be taken. That is so if the source can't walk in order, no index
-/// covers the query, or sorting the whole answer is cheaper.
+/// Finds a page of a query with a remaining condition, by walking over the keys of the order's own
+/// index. Returns `None` if another method has to be used: the source can't walk in order, the
+/// indices don't cover the query, or sorting the whole answer is cheaper.
 fn find_page<S: OrderedSource>(
     alloc: Global,
     query: &Query,
@@ -272,8 +273,8 @@ fn find_page<S: OrderedSource>(
     )
 }
 
-/// A page of a query, by the keys that the query leaves in the order's own index, which is of this
-/// kind. It returns `None` if another way has to be taken.
+/// Finds a page of a query by walking over the keys that the query allows in the order's own index,
+/// which has this kind. Returns `None` if another method has to be used.
 fn page_beside<S: OrderedSource>(
     alloc: Global,
     query: &Query,
@@ -308,8 +309,8 @@ fn page_beside<S: OrderedSource>(
     find_page(alloc, query, source, walk, tree, order.most, cursor, found)
 }
 
-/// Prepares the query's range for the order's index, of this kind, if all the query's comparisons
-/// are on that name.
+/// Prepares the query's range for the order's index, which has this kind, if all comparisons in the
+/// query are on its name.
 fn meet_by(prepared: &mut PreparedQuery, by: &Name, kind: Kind)
     ensures { prepared.new ≡ prepared.old }
 {
@@ -324,20 +325,22 @@ fn meet_by(prepared: &mut PreparedQuery, by: &Name, kind: Kind)
 
 /// Does what `ordered_into` does, for a prepared query.
 ///
-/// If the query's range on the order's own index decides it, and the source walks in order, the
-/// page is one walk. It passes one key more than the page has nodes, and allocates only for the
-/// list.
+/// If the query's range on the order's own index decides the query, and the source walks in order,
+/// a single walk finds the page. It visits one key more than there are nodes on the page, and
+/// memory is allocated only for the list.
 ///
-/// One comparison with texts on the order's name may be left. A source that tests keys in place
-/// then walks over the keys and tests their texts.
+/// If the remaining condition is a single comparison with a string, on the order's own name, a
+/// source that tests keys in place walks over the keys and tests their strings.
 ///
-/// Otherwise there are three ways. A walk over the keys that the query leaves in the order's index
-/// asks each node about the rest of the query. Or it looks each node up in a list of all nodes of
-/// which the rest is true. Or the whole answer is found and sorted, as by `ordered_into`.
+/// Otherwise there are three methods. A walk over the keys that the query allows in the order's
+/// index can test each node against the remaining condition, or look up each node in a list of all
+/// nodes that satisfy the condition. Or the whole answer can be found and sorted, as in
+/// `ordered_into`.
 ///
-/// Two descents for each comparison estimate which way is the cheapest. A walk that asks gives up
-/// once it has cost twice the list's estimate. A walk that looks nodes up in the list gives up once
-/// it has cost as much as sorting. Then the next way is taken.
+/// To estimate which method is the cheapest, two tree descents are made for each comparison. A walk
+/// that tests nodes gives up once it has cost twice as much as the list is estimated to cost. A
+/// walk that looks nodes up in the list gives up once it has cost as much as sorting. The next
+/// method is then tried.
 pub fn ordered_prepared_into<S: OrderedSource>(
     alloc: Global,
     prepared: &mut PreparedQuery,

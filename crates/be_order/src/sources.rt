@@ -11,7 +11,7 @@ use arrayvec::ArrayVec;
 use be_plan::{KeyRange, KeyTest, Source};
 use be_value::Refusal;
 
-/// The keys of an index's range, in either direction, strictly after a cursor.
+/// The keys in a range of an index that come strictly after a cursor, in either direction.
 #[derive(Clone, Copy)]
 pub struct OrderedKeys<'a> {
     pub keys: KeyRange<'a>,
@@ -21,9 +21,9 @@ pub struct OrderedKeys<'a> {
 
 /// A source that may be able to walk an index in its order.
 pub trait OrderedSource: Source {
-    /// If the source can walk in order, adds the nodes of the first of these keys, at most `most`
-    /// and in order, and returns true. Otherwise it adds nothing and returns false, and the caller
-    /// sorts.
+    /// If the source can walk in order, adds the nodes of the first `most` of these keys, in order,
+    /// and returns `true`. Otherwise it adds nothing and returns `false`, and the caller has to
+    /// sort.
     fn first_nodes(
         &mut self,
         keys: OrderedKeys<'_>,
@@ -45,11 +45,11 @@ pub trait OrderedSource: Source {
         Ok(false)
     }
 
-    /// Finds the nodes of the first of these keys that pass a test, at most `most`, in the keys'
-    /// order. It puts them into a list, replacing what that had, and returns true.
+    /// Replaces the content of a list with the nodes of the first `most` of these keys that pass a
+    /// test, in the order of the keys, and returns `true`.
     ///
-    /// It returns false if the source doesn't test keys in place, or if the test is of texts and
-    /// the index has none. The list may then have any numbers.
+    /// Returns `false` if the source doesn't test keys in place, or if the test is for strings and
+    /// the index doesn't hold strings. The content of the list is then unspecified.
     fn first_passing(
         &mut self,
         keys: OrderedKeys<'_>,
@@ -70,8 +70,8 @@ pub trait OrderedSource: Source {
         Ok(false)
     }
 
-    /// About how many keys the range has. This only decides which way a page is found, so no number
-    /// is wrong. The default is the largest number.
+    /// Returns the approximate number of keys in the range. The estimate only selects the method
+    /// that finds a page, so any number is correct. The default is the highest number.
     fn about(&mut self, _keys: KeyRange<'_>) -> u64
         requires { (volume : State) × Self.answers_for self.old volume }
         ensures stays { Self.kept self.new ≡ Self.kept self.old }

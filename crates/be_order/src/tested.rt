@@ -1,8 +1,8 @@
 //! Pages found by walking the index and testing its own keys.
 //!
-//! The rest of a query may be one comparison with texts on the order's own name, such as a pattern.
-//! Then the keys' texts decide it. If all nodes are known of which the rest is true, marks for
-//! these nodes decide it. So the walk reads no node.
+//! The remaining condition of a query may be a single comparison with a string, such as a pattern,
+//! on the order's own name. The strings in the keys then decide it. If all nodes that satisfy the
+//! condition are known, marks for these nodes decide it. In both cases, the walk reads no node.
 ghost use Rattle.std.specs.Prelude.{◌≡◌, IfErr, IfOk, IfSome, None, OnErr, Some};
 ghost use Rattle.std.specs.Option.{option_copied};
 ghost use Rattle.be_value.specs.declared.refusals.Refusal.TheVariants.{OutOfMemory};
@@ -22,9 +22,9 @@ use be_query::Tree;
 use be_value::Refusal;
 use std::alloc::Global;
 
-/// A page of a query that an index covers, by a walk that tests each key for the rest of the
-/// query. It costs one test for each key passed until the page is full. It returns `None` if the
-/// source doesn't test keys in place.
+/// Finds a page of a query that the indices cover, using a walk that tests each key against the
+/// remaining condition. It costs one test per visited key until the page is full. Returns `None` if
+/// the source doesn't test keys in place.
 fn test_page<S: OrderedSource>(
     source: &mut S,
     walk: Walk<'_>,
@@ -63,9 +63,9 @@ fn test_page<S: OrderedSource>(
     Ok(Some(more))
 }
 
-/// A page of a query that an index covers and whose rest is one comparison with the texts of the
-/// order's own index. The walk tests these texts. It returns `None` if the rest is something else,
-/// or if the source doesn't test texts in place.
+/// Finds a page of a query that the indices cover and whose remaining condition is a single
+/// comparison with the strings of the order's own index. The walk tests these strings. Returns
+/// `None` if the condition is anything else, or if the source doesn't test strings in place.
 pub(crate) fn text_page<S: OrderedSource>(
     alloc: Global,
     tree: &Tree,
@@ -95,9 +95,9 @@ pub(crate) fn text_page<S: OrderedSource>(
     test_page(source, walk, KeyTest::Text(&test), most, cursor, found)
 }
 
-/// A page of a query that an index covers, by a walk that looks each node up among `nodes`. These
-/// are all nodes of which the rest is true. It returns `None` if they are few or far apart, if
-/// memory runs out, or if the source doesn't test keys in place.
+/// Finds a page of a query that the indices cover, using a walk that looks up each node in `nodes`:
+/// all nodes that satisfy the remaining condition. Returns `None` if there are only a few of them
+/// or they are far apart, if memory runs out, or if the source doesn't test keys in place.
 pub(crate) fn marked_page<S: OrderedSource>(
     alloc: Global,
     nodes: &[u64],

@@ -1,4 +1,4 @@
--- An operation on a version, and a list of them.
+-- One operation on a version, and a list of operations.
 pub mod Stepping
 pub mod Replacing
 pub mod Hand

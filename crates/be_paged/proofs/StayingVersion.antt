@@ -1,4 +1,4 @@
--- A version stays while its pages and their words stay.
+-- A version is preserved while its pages and their words are.
 use Rattle.std.proofs.Common.{◌≡◌, ℕ, zero, suc, ◌≤◌, List, [], ◌∷◌, ◌++◌, map, refl, sym, ap, ◌∙◌, subst, inl, inr, arith, IsTrue}
 use Rattle.std.proofs.lemmas.Bool.{cases_eq}
 use Rattle.std.specs.Prelude.{All, slice_index_or}
@@ -79,7 +79,7 @@ stays_kept GivenUp used = used
 stays_kept Taken used = refl
 stays_kept Filled used = refl
 
--- a version stays when its write is kept
+-- a version is preserved when its write is kept
 pub version_kept : (s t : ℕ → PageState) (words : ℕ → ℕ → ℕ) → ((q : ℕ) → t q ≡ after_keep (s q)) → (page : ℕ) (volume : State) → IsVersion s words page volume → IsVersion t words page volume
 version_kept s t words kept page volume h = record {
   in_use = subst (λ (x : PageState). IsTrue (is_kept x)) (sym (kept page)) (stays_kept (s page) h.in_use);

@@ -1,3 +1,3 @@
--- A version as its page stores it, and what the page says.
+-- A version as its page stores it, and what that page says.
 pub mod EmptyVolume
 pub mod OneVolume

@@ -1,4 +1,4 @@
--- What a write does to the contents in hand, and to the version it began with.
+-- What a write does to the contents in hand, and to the version that it started from.
 use Rattle.std.specs.Prelude.{◌≡◌, ◌⊎◌, ℕ, ◌+◌, ◌^◌, ◌<◌, ◌≤◌, List, [], All, Some, IsTrue, IsOk}
 use Rattle.std.specs.Prelude.{Ok, Err, true}
 use Rattle.std.specs.FinMap as map
@@ -36,12 +36,12 @@ abbrev pub repaired : Index → ℕ → Option Value → Index
 repaired index node options.None = unpaired index node
 repaired index node (options.Some value) = paired index node value
 
--- the indices after that change to the index of a name
+-- the indices after that change to the index with this name
 abbrev pub with_change : Indices → List ℕ → ℕ → Option Value → Indices
 with_change indices name node options.None = without_pair indices name node
 with_change indices name node (options.Some value) = with_pair indices name node value
 
--- the volume after that change to its indices; its nodes stay
+-- the volume after that change to its indices; its nodes are unchanged
 abbrev pub with_indices : State → List ℕ → ℕ → Option Value → State
 with_indices s name node value = record {
   next = s.next;
@@ -88,7 +88,7 @@ abbrev pub IsInHandFor : (page_state : ℕ → PageState) (words : ℕ → ℕ �
 IsInHandFor page_state words more c = IsInHand page_state words c × (c.next + more < 2 ^ 64)
 
 -- a write has changed the contents in hand, and exchanged the pages of their trees for those of the
--- new ones
+-- new trees
 pub record Changes {S K : Type 0} (kept_of : S → K) (page_state_of : S → ℕ → PageState)
     (words_of : S → ℕ → ℕ → ℕ)
     (before after : Contents) (old new : S) : Type 0 where
@@ -103,7 +103,7 @@ pub record Steps (words : ℕ → ℕ → ℕ) (after : Contents) (volume : Stat
   pub stepped : step volume op ≡ Ok (made, done)
   pub encodes : Encodes words after made
 
--- the same for a list of operations; the resulting volume is sound
+-- as in `Steps`, for a list of operations; the resulting volume is sound
 pub record Reaches (words : ℕ → ℕ → ℕ) (after : Contents) (volume : State) (ops : List Op)
     (dones : List Done) : Type 0 where
   pub made : State
@@ -127,8 +127,8 @@ pub record IsBare (words : ℕ → ℕ → ℕ) (c : Contents) (volume : State) 
   pub leaves : Leaves volume left node
   pub bare : map.len (attributes_of left.nodes node) ≡ 0
 
--- the operation sets what is already set: a Set that leaves the volume as it is, including its
--- indices
+-- the operation sets what is already set: it is a Set that leaves the volume unchanged, including
+-- its indices
 abbrev pub SetsSameValue : State → Op → Type 0
 SetsSameValue volume New = ⊥
 SetsSameValue volume (Set node name value) = step volume (Set node name value)

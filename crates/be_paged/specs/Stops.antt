@@ -1,4 +1,4 @@
--- What a write has in hand when it stops because no page is free.
+-- What a write holds when it stops because no page is free.
 use Rattle.std.specs.Prelude.{◌≡◌, ℕ, suc, ◌+◌, ◌*◌, ◌^◌, ◌<◌, ◌≤◌, List, [], length}
 use Rattle.std.specs.Prelude.{IfErr, IsOk, OnErr, Result}
 use Rattle.be_value.specs.declared.refusals.Refusal.{Refusal}
@@ -20,14 +20,14 @@ use Rattle.be_paged_reading.specs.Version.{Encodes}
 abbrev pub pair_count : (words : ℕ → ℕ → ℕ) → Contents → ℕ
 pair_count words c = length (pairs_of_all words (roots c))
 
--- contents have gained at most `more` pairs, and have as many trees as before
+-- contents have gained at most `more` pairs, and have the same number of trees as before
 abbrev pub Gains : (more : ℕ) → (old_words new_words : ℕ → ℕ → ℕ) → (before after : Contents)
     → Type 0
 Gains more old_words new_words before after =
     (pair_count new_words after ≤ pair_count old_words before + more)
     × (length after.entries ≡ length before.entries)
 
--- a tree has become one that has gained at most `more` pairs
+-- a tree has been replaced by one that has gained at most `more` pairs
 abbrev pub GrowsTree : {S K : Type 0} → (S → K) → (S → ℕ → PageState) → (S → ℕ → ℕ → ℕ)
     → (more root now : ℕ) → (old new : S) → Type 0
 GrowsTree kept_of page_state_of words_of more root now old new =
@@ -36,7 +36,8 @@ GrowsTree kept_of page_state_of words_of more root now old new =
     (pages (words_of new) now) old new
     × (length (pairs (words_of new) now) ≤ length (pairs (words_of old) root) + more)
 
--- contents have become others that have gained at most `more` pairs, and have as many trees
+-- contents have become others that have gained at most `more` pairs, and have the same number of
+-- trees
 abbrev pub Grows : {S K : Type 0} → (S → K) → (S → ℕ → PageState) → (S → ℕ → ℕ → ℕ) → (more : ℕ)
     → (before after : Contents) → (old new : S) → Type 0
 Grows kept_of page_state_of words_of more before after old new =
@@ -52,7 +53,7 @@ RefusesAt kept_of page_state_of words_of full stop result old new =
     × IfErr result (IsFullOf (full new)) × OnErr result (stop old new)
 
 -- A change to a tree stops: the tree had become one with no more pairs than before, and a change to
--- that one was refused.
+-- the new one was refused.
 pub record StopsTree {S K : Type 0} (kept_of : S → K) (page_state_of : S → ℕ → PageState)
     (words_of : S → ℕ → ℕ → ℕ) (root : ℕ) (old new : S) : Type 0 where
   pub between : S
@@ -78,14 +79,14 @@ pub record Stops {S K : Type 0} (kept_of : S → K) (page_state_of : S → ℕ �
   pub can_be_high : CanBeHigh level most
   pub takes : TakesFewer (most_taken level) (page_state_of between) (page_state_of new)
 
--- the same, with at most `more` pairs more than before, and as many indices
+-- as in `Stops`, with at most `more` more pairs than before, and the same number of indices
 abbrev pub StopsNear : {S K : Type 0} → (S → K) → (S → ℕ → PageState) → (S → ℕ → ℕ → ℕ)
     → (more : ℕ) (before : Contents) → (old new : S) → Type 0
 StopsNear kept_of page_state_of words_of more before old new =
     Stops kept_of page_state_of words_of (pair_count (words_of old) before + more)
     (length before.entries) before old new
 
--- a change to contents that is refused stops like that
+-- a change to contents that is refused stops as in `StopsNear`
 abbrev pub RefusesNear : {S K A : Type 0} → (S → K) → (S → ℕ → PageState) → (S → ℕ → ℕ → ℕ)
     → (full : S → ℕ → Type 0) → (more : ℕ) (before : Contents) → Result A Refusal → (old new : S)
     → Type 0
@@ -104,8 +105,8 @@ StopsList kept_of page_state_of words_of ops before old new =
     → IsOk (steps volume ops) → StaysWithin most indices volume ops
     → Stops kept_of page_state_of words_of (most + 1) indices before old new
 
--- A list of operations takes few pages, if nothing was in hand before it. It takes at most one per
--- five items, one per index, two per level of a tree of that size, and three more.
+-- A list of operations takes few pages if nothing was in hand before it. It takes at most one page
+-- per five items, one per index, two per level of a tree of that size, and three more.
 abbrev pub TakesFew : State → List Op → (old new : ℕ → PageState) → Type 0
 TakesFew volume ops old new = (most indices high : ℕ) → StaysWithin most indices volume ops
     → most + 1 < 2 * 6 ^ suc high → HasInHand old [] → (n : ℕ)

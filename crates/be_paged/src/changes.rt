@@ -1,8 +1,8 @@
 //! Changes to the trees of a version that is being written.
 //!
 //! A node's attribute and its pair in an index change one after the other. Between the two changes,
-//! the contents encode a volume in which the index and the attribute disagree. So the invariant
-//! between changes is only that the trees are well formed, whatever their pairs say.
+//! the contents encode a volume whose index and attribute disagree. So the invariant between
+//! changes is only that the trees are well formed, whatever pairs they hold.
 ghost use Rattle.std.specs.Option.{option_copied};
 ghost use Rattle.std.specs.Prelude.{◌≡◌, ℕ, ◌<◌, length, IsTrue, IfOk, IfErr, OnOk};
 ghost use Rattle.std.specs.Prelude.{OnErr, IfSome, IfNone, Some, None, option_map, true, is_some};
@@ -33,7 +33,7 @@ use be_pages::{Look, Room};
 use be_tree::{has_key, insert, remove};
 use be_value::{Kind, Name, Refusal, Value, key_of, valid};
 
-/// The key of the node's pair in an index of this kind, if there is a value of that kind.
+/// Returns the key of the node's pair in an index of this kind, if there is a value of that kind.
 fn key_in(kind: Kind, value: Option<&Value>, node: u64) -> Option<ArrayVec<u8, 264>>
     ensures some { IfSome result (λ k. (v : AnyValue) × (option_copied value.entry ≡ Some v)
         × (kind_in v ≡ kind) × IsValue v × (k.items ≡ key v node)) }
@@ -52,8 +52,8 @@ fn key_in(kind: Kind, value: Option<&Value>, node: u64) -> Option<ArrayVec<u8, 2
     }
 }
 
-/// Whether the two keys are equal and the tree has that key. If they differ, the tree isn't
-/// searched.
+/// Returns `true` if the two keys are equal and the tree has that key. If they differ, the tree
+/// isn't searched.
 fn holds_both<L: Look>(
     look: &mut L,
     root: u64,
@@ -81,7 +81,7 @@ enum Turn {
     Enters,
 }
 
-/// If there is a key, removes it from a tree, or inserts it without a payload.
+/// If there is a key, removes it from a tree or inserts it without a payload.
 fn turn_key<R: Room>(
     room: &mut R,
     root: u64,
@@ -112,7 +112,7 @@ fn turn_key<R: Room>(
 /// Changes the node's pair in an index's tree: it removes the old value's pair and inserts the new
 /// value's, if they are of the index's kind. If the tree already has the new pair, the root and the
 /// page writer are unchanged. The tree is searched for it only if the old value has the same pair,
-/// since an index has no pair of any other value.
+/// because an index has no pair of any other value.
 fn change_root<R: Room>(
     room: &mut R,
     root: u64,
@@ -149,7 +149,7 @@ fn change_root<R: Room>(
     Ok(last)
 }
 
-/// Changes the node's pair in the index at a place on the version page.
+/// Changes the node's pair in the index at a position on the version page.
 fn change_at<R: Room>(
     room: &mut R,
     version: &mut Version,
@@ -188,8 +188,8 @@ fn change_at<R: Room>(
     Ok(())
 }
 
-/// Changes the node's pair in the index of a name, if there is one. Only then is the node's old
-/// value read, and it is searched for only if `known` doesn't say where it is.
+/// Changes the node's pair in the index with this name, if there is one. Only then is the node's
+/// old value read, and it is searched for only if `known` doesn't say where it is.
 pub(crate) fn change_entry<R: Room>(
     room: &mut R,
     version: &mut Version,

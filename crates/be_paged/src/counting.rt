@@ -7,8 +7,8 @@ ghost use Rattle.be_volume.specs.Volume.{State};
 ghost use Rattle.be_paged_reading.specs.Page.{reach};
 ghost use Rattle.be_paged_reading.specs.Version.{IsVersion};
 
-/// A law: a version has at most its version page and, for each tree, one page per five items and
-/// one for the rest.
+/// A law: a version has at most its version page plus, for each tree, one page per five items and
+/// one for the remainder.
 pub fn version_pages()
     ensures { (page_state : ℕ → AnyPageState) (words : ℕ → ℕ → ℕ) (page : ℕ) (volume : State)
         → IsVersion page_state words page volume

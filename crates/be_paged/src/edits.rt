@@ -1,8 +1,8 @@
 //! Operations on a version that is being written.
 //!
-//! The volume's refusals have been found beforehand. So each operation only does its work, and the
-//! only error is that no page is free. The write is then undone, so the contracts say only one
-//! thing about what such an error leaves: few pages are in hand (`Stops`).
+//! The volume's refusals have already been found. So each operation only does its work, and the
+//! only possible error is that no page is free. The write is then undone, so the contracts say only
+//! one thing about the state after such an error: the write holds few pages (`Stops`).
 ghost use Rattle.std.specs.Prelude.{◌≡◌, [], ◌+◌, ◌≤◌, ◌<◌, ◌^◌, All, length, IsTrue, IfOk};
 ghost use Rattle.std.specs.Prelude.{OnOk, IsOk};
 ghost use Rattle.be_volume.specs.Sound.{IsSound};
@@ -25,7 +25,7 @@ use be_tree::{clear, insert, remove};
 use be_value::{Kind, Name, Refusal, Value};
 use be_volume::{Done, MAX_ATTRIBUTES, MAX_INDICES, Op};
 
-/// Makes a node: its mark is inserted into the catalog.
+/// Creates a node by inserting its mark into the catalog.
 fn add_node<R: Room>(room: &mut R, version: &mut Version) -> Result<Done, Refusal>
     requires in_hand { IsInHandFor (R.page_state room.old) (R.words room.old) 1
         (contents version.old) }
@@ -45,7 +45,7 @@ fn add_node<R: Room>(room: &mut R, version: &mut Version) -> Result<Done, Refusa
     Ok(Done::Node(node))
 }
 
-/// Sets an attribute: first its pair in an index changes, then the catalog.
+/// Sets an attribute: its pair in an index changes first, then the catalog.
 fn set_value<R: Room>(
     room: &mut R,
     version: &mut Version,
@@ -78,7 +78,7 @@ fn set_value<R: Room>(
     Ok(Done::Unit)
 }
 
-/// Removes an attribute, and its pair in an index first.
+/// Removes an attribute, after removing its pair from an index.
 fn unset_value<R: Room>(
     room: &mut R,
     version: &mut Version,
@@ -105,7 +105,7 @@ fn unset_value<R: Room>(
     Ok(Done::Unit)
 }
 
-/// Makes an index. It is empty, whatever the nodes have, and takes no page.
+/// Creates an index. The index is empty, whatever the nodes have, and takes no page.
 fn make_index<R: Room>(room: &mut R, version: &mut Version, name: &Name, kind: Kind) -> Done
     requires in_hand { IsInHand (R.page_state room.old) (R.words room.old) (contents version.old) }
     ensures room { room.new ≡ room.old }
@@ -167,7 +167,7 @@ fn unset_all<R: Room>(room: &mut R, version: &mut Version, node: u64) -> Result<
     Ok(())
 }
 
-/// Drops a node: first each attribute with its pair, then the node's mark.
+/// Drops a node: removes each attribute with its pair, and then the node's mark.
 fn drop_node<R: Room>(room: &mut R, version: &mut Version, node: u64) -> Result<Done, Refusal>
     requires in_hand { IsInHand (R.page_state room.old) (R.words room.old) (contents version.old) }
     requires open { IsTrue (R.is_open (R.kept room.old)) }
@@ -186,7 +186,8 @@ fn drop_node<R: Room>(room: &mut R, version: &mut Version, node: u64) -> Result<
     Ok(Done::Unit)
 }
 
-/// Performs one operation. `asked` is what is known about some attribute, perhaps not its own.
+/// Performs one operation. `asked` is what is known about some attribute, possibly not the
+/// operation's own.
 fn edit<R: Room>(
     room: &mut R,
     version: &mut Version,
@@ -227,10 +228,10 @@ fn edit<R: Room>(
     }
 }
 
-/// Performs a list of operations that the volume accepts, one after the other. Their outcomes are
-/// added to an empty list. The list is filled in place, since passing it by value costs its whole
-/// capacity. What `asked` knows about an attribute serves only the first operation, since the trees
-/// change after it.
+/// Performs a list of operations that the volume accepts, one after another. Appends their outcomes
+/// to an empty list. The list is filled in place, because passing it by value costs its whole
+/// capacity. What `asked` knows about an attribute serves only the first operation, because the
+/// trees change after it.
 pub(crate) fn edit_all<R: Room>(
     room: &mut R,
     version: &mut Version,

@@ -2,7 +2,7 @@
 ghost use Rattle.std.specs.Prelude.{◌≡◌, ℕ, ◌+◌, ◌*◌, ◌<◌};
 ghost use Rattle.be_paged_reading.specs.Page.{contents_of, IsVersionPage};
 
-/// A law: the contents of a version page (its next number, roots and indices) determine each word
+/// A law: the contents of a version page (its next number, roots and indices) determine every word
 /// that it uses. The function does nothing.
 pub fn one_encoding()
     ensures { (words others : ℕ → ℕ) → IsVersionPage words → IsVersionPage others

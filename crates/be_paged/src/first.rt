@@ -7,8 +7,8 @@ ghost use Rattle.be_paged_reading.specs.Version.{IsVersion};
 
 use be_pages::PAGE_WORDS;
 
-/// The words of a version page that encodes the empty volume, on any page. It reaches no other
-/// page.
+/// Returns the words of a version page that encodes the empty volume, on any page. The page reaches
+/// no other page.
 pub fn first_page() -> [u64; PAGE_WORDS]
     ensures { (page_state : ℕ → PageState) (words : ℕ → ℕ → ℕ) (page : ℕ)
         → IsTrue (is_kept (page_state page)) →

@@ -1,8 +1,8 @@
-//! Laws: what happens to versions when a write is undone or kept, and that a page encodes only one
-//! volume.
+//! Laws about versions: undoing a later write restores them, keeping a write preserves them, and a
+//! page encodes only one volume.
 //!
-//! Each law is a function that does nothing and whose contract is the law. A caller gets the law by
-//! calling it.
+//! Each law is a function that does nothing; its contract is the law. A caller gets the law by
+//! calling the function.
 ghost use Rattle.std.specs.Prelude.{◌≡◌, ℕ};
 ghost use Rattle.be_pages.specs.declared.room.PageState.{PageState as AnyPageState};
 ghost use Rattle.be_pages.specs.Pages.{after_keep};
@@ -10,7 +10,7 @@ ghost use Rattle.be_tree_reading.specs.Forest.{IsUndone, IsWriteStart};
 ghost use Rattle.be_volume.specs.Volume.{State};
 ghost use Rattle.be_paged_reading.specs.Version.{IsVersion};
 
-/// A version that existed when the write began encodes the same volume once the write is undone.
+/// A version that existed when the write began encodes the same volume after the write is undone.
 #[tactic(auto, using(crate::proofs::StayingVersion::version_stays))]
 pub fn version_undone()
     ensures { (start undone : ℕ → AnyPageState) (before words : ℕ → ℕ → ℕ) (page : ℕ)
@@ -19,7 +19,7 @@ pub fn version_undone()
         → IsVersion undone words page volume }
 {}
 
-/// A version encodes the same volume once its write is kept.
+/// A version encodes the same volume after its write is kept.
 #[tactic(auto, using(crate::proofs::StayingVersion::version_kept))]
 pub fn version_kept()
     ensures { (page_state kept : ℕ → AnyPageState) (words : ℕ → ℕ → ℕ) (page : ℕ) (volume : State)
@@ -27,7 +27,7 @@ pub fn version_kept()
         → IsVersion page_state words page volume → IsVersion kept words page volume }
 {}
 
-/// A page encodes only one volume: a reader of its words can't find another.
+/// A page encodes only one volume: no reader of its words can find another.
 #[tactic(auto, using(crate::proofs::Stored::OneVolume::one_volume))]
 pub fn one_volume()
     ensures { (page_state other : ℕ → AnyPageState) (words : ℕ → ℕ → ℕ) (page : ℕ) (a b : State)

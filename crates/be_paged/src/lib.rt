@@ -1,8 +1,8 @@
 //! Writes to a volume that is stored in pages.
 //!
-//! be_paged_reading says what a version of a volume is, and which volume a page encodes
-//! (`IsVersion`). Writes go through a `Room`, a page writer, so they serve both a pool in memory
-//! and a shared table. The trees are copied on write, page by page, and the version page is written
+//! be_paged_reading defines what a version of a volume is, and which volume a page encodes
+//! (`IsVersion`). Writes go through a `Room`, a page writer, so they work on both a pool in memory
+//! and a shared table. The trees are copied on write, page by page; the version page is written
 //! once, at the end. A write gives up exactly the pages that only the old version has, and takes
 //! exactly those that only the new one has.
 #![tactic(auto)]

@@ -21,9 +21,9 @@ use be_pages::{Look, Room};
 use be_value::Refusal;
 use be_volume::{Done, Op, first_refusal};
 
-/// The error, from NoNode to NotIndexable, with which the volume refuses the list, if it does. It
-/// depends only on the list and the old version, and nothing changes. `asked` gets the first
-/// attribute that was looked up, unless it already has one.
+/// Returns the error, from NoNode to NotIndexable, with which the volume refuses the list, if it
+/// does. The error depends only on the list and the old version, and finding it changes nothing.
+/// `asked` receives the first attribute that was looked up, unless it already has one.
 fn refusal<L: Look>(
     look: &mut L,
     version: &Version,
@@ -85,16 +85,17 @@ fn replace_version<R: Room>(room: &mut R, old_page: u64, version: &Version) -> R
     Ok(page)
 }
 
-/// Applies 1 to 64 operations to the version on a page, all or none, and returns the new version
-/// page. It adds an outcome for each operation to an empty list. The new page is one that this
-/// write has taken, even if nothing changed. The list is filled in place, since passing it by value
-/// costs its whole capacity.
+/// Applies 1 to 64 operations to the version on a page, either all or none, and returns the new
+/// version page. Appends an outcome for each operation to an empty list. The new page is one that
+/// this write has taken, even if nothing changed. The list is filled in place, because passing it
+/// by value costs its whole capacity.
 ///
-/// The errors from NoNode to NotIndexable are the volume's: they come before a page is taken, and
-/// leave the page writer unchanged. If no page is free, the error is Full, and undoing the write
-/// restores what was there when it began. Until then it has few pages in hand, if it had none
-/// before: about as many as the trees of all items have. It takes no memory. `version` is scratch
-/// space for the version's contents: its value before and after means nothing.
+/// The errors from NoNode to NotIndexable are the volume's: they are found before a page is taken,
+/// and leave the page writer unchanged. If no page is free, the error is Full, and undoing the
+/// write restores what was there when it began. Until it is undone, the write holds few pages, if
+/// it held none before: about the number in the trees of all items. It allocates no memory.
+/// `version` is scratch space for the version's contents: its value before and after the call is
+/// meaningless.
 pub fn apply_into<R: Room>(
     room: &mut R,
     version: &mut Version,
@@ -125,7 +126,7 @@ pub fn apply_into<R: Room>(
     Ok(page)
 }
 
-/// The same as `apply_into`, with a list of its own for the outcomes and scratch space of its own.
+/// Does the same as `apply_into`, with its own list of outcomes and its own scratch space.
 pub fn apply<R: Room>(
     room: &mut R,
     version_page: u64,

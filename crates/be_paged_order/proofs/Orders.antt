@@ -1,4 +1,5 @@
--- Lists of pairs in ascending or descending order of keys: parts of them, and which pair comes first.
+-- Lists of pairs in ascending or descending order of keys: parts of such lists, and the pair that
+-- comes first.
 use Rattle.std.proofs.Common.{◌≡◌, ◌⊎◌, ◌≤◌, ℕ, zero, suc, Bool, true, false, cond, List, [], ◌∷◌, ◌++◌, refl, sym, ap, ◌∙◌, subst, arith, inl, inr, take, length, map, reverse}
 use mathlib.Core.List.{reverse-cons}
 use Rattle.std.proofs.lemmas.List.Elements.{Contains-append_cases, Contains-append_left, Contains-append_right}
@@ -11,7 +12,7 @@ use Rattle.be_tree_reading.specs.Range.{number_of}
 use Rattle.be_tree_reading.proofs.Order.{key_cmp_flip}
 use Rattle.be_order.specs.Ordered.{key_cmp, keys_of}
 
--- the pair's key and the node's number in it
+-- The key of the pair, and the number of the node in it.
 abbrev pub entry : Pair → List ℕ × ℕ
 entry x = (x.key, number_of x.key)
 
@@ -90,7 +91,7 @@ unfolding IsStrictlySortedBy
 keys_ordered d [] h = tt
 keys_ordered d (x ∷ xs) h = (keys_over d x xs h.0, keys_ordered d xs h.1)
 
--- which pairs parts of a list have
+-- The pairs in parts of a list.
 pub from_filter : (p : Pair → Bool) (xs : List Pair) (y : Pair) → Contains (filter p xs) y → Contains xs y × (p y ≡ true)
 from_filter p [] y (k, below, is) = absurd (omega arith)
 from_filter p (x ∷ xs) y h = by (p x) refl h (from_filter p xs y)
@@ -139,7 +140,7 @@ few_taken zero xs = omega arith
 few_taken (suc n) [] = omega arith
 few_taken (suc n) (x ∷ xs) = omega (arith, few_taken n xs)
 
--- a pair is among the first n, or there are n and it comes after all of them
+-- Either the pair is among the first n, or there are n pairs and it comes after all of them.
 abbrev pub IsFirstOr : Bool → ℕ → List Pair → Pair → Type 0
 IsFirstOr d n xs y = Contains (take n xs) y ⊎ ((length (take n xs) ≡ n) × ((x : Pair) → Contains (take n xs) x → key_cmp d x.key y.key ≡ Less))
 

@@ -1,4 +1,4 @@
--- Which entries of an index a walk over its tree passes.
+-- The entries of an index that a walk over its tree visits.
 use Rattle.std.proofs.Common.{◌≡◌, ◌⊎◌, ◌≤◌, ℕ, zero, suc, Bool, true, false, cond, ◌&&◌, IfNone, IfSome, List, [], ◌∷◌, ◌++◌, None, Some, refl, sym, ap, ◌∙◌, subst, arith, inl, inr, take, length, map, get_or, if◌then◌else◌}
 use Rattle.std.specs.FinMap as fin
 use Rattle.std.specs.List.{Contains, filter}
@@ -61,7 +61,7 @@ numbers_taken zero xs = refl
 numbers_taken (suc n) [] = refl
 numbers_taken (suc n) (x ∷ xs) = ap (λ l. number_of x.key ∷ l) (numbers_taken n xs)
 
--- the nodes of the keys that pass
+-- The nodes of the keys that pass.
 one_passing : (x : Pair) (rest : List Pair) (more : List ℕ) (b : Bool) → more ≡ numbers_in rest → (if b then number_of x.key ∷ [] else []) ++ more ≡ numbers_in (cond b (x ∷ rest) rest)
 one_passing x rest more true same = ap (λ l. number_of x.key ∷ l) same
 one_passing x rest more false same = same
@@ -71,7 +71,7 @@ numbers_passing test [] = refl
 numbers_passing test (x ∷ xs) =
     one_passing x (filter (λ y. passes_key test y.key (number_of y.key)) xs) (nodes_passing test xs) (passes_key test x.key (number_of x.key)) (numbers_passing test xs)
 
--- a walk when there is no index
+-- A walk when there is no index.
 none_walked : (Is : List ℕ → ℕ → Type 0) (descending : Bool) (cursor : Option (List ℕ)) (most : ℕ) (before : List ℕ) → ((k : List ℕ) (n : ℕ) → Is k n → ⊥) → HasWalked Is descending cursor most before before
 none_walked Is descending cursor most before none = record {
   entries = [];
@@ -132,7 +132,7 @@ module _ (w : ℕ → ℕ → ℕ) (c : Contents) (s : State) (name : List ℕ) 
       let fits = (sound.pairs name q.index q.node q.value q.there q.paired).node_fits in
       (x.0, x.1, x.2, ap number_of q.is ∙ node_of_key q.value q.node fits ∙ h.node_is)
 
-  -- the pairs on a way that pass a test are the wanted entries
+  -- The pairs on a way that pass a test are the wanted entries.
   module _ (Is : List ℕ → ℕ → Type 0) (test : Pair → Bool) (wanted : (x : Pair) → IsEntry s name low high x.key (number_of x.key) → test x ≡ true → Is x.key (number_of x.key))
       (entry_of : (k : List ℕ) (n : ℕ) → Is k n → IsEntry s name low high k n) (tested : (k : List ℕ) (n : ℕ) → Is k n → (x : Pair) → x.key ≡ k → number_of k ≡ n → test x ≡ true)
       (descending : Bool) (cursor : Option (List ℕ)) (way : Way) (is : IsWayOf low high descending cursor way) (most : ℕ) where
@@ -188,7 +188,7 @@ module _ (w : ℕ → ℕ → ℕ) (c : Contents) (s : State) (name : List ℕ) 
 nowhere : Entry
 nowhere = record { name = []; kind = kinds.Cstr; root = 0 }
 
--- the numbers of the keys on a way over an index, if there is one
+-- The numbers of the keys on a way over an index, if there is one.
 module _ (page_state : ℕ → PageState) (w : ℕ → ℕ → ℕ) (page : ℕ) (s : State) (version : IsVersion page_state w page s) (name low : List ℕ) (high : Option (List ℕ)) (descending : Bool) (cursor : Option (List ℕ))
     (way : Way) (is : IsWayOf low high descending cursor way) (most : ℕ) (before after : List ℕ) where
   abbrev contents : Contents
@@ -212,7 +212,7 @@ module _ (page_state : ℕ → PageState) (w : ℕ → ℕ → ℕ) (page : ℕ)
   pub numbers_walked : HasNumbers w contents.entries name way most before after → Walked
   numbers_walked h = walked_by h.index h.found h.added h.same
 
--- the nodes of the keys on a way over an index that pass a test
+-- The nodes of the keys that are on a way over an index and pass a test.
 module _ (page_state : ℕ → PageState) (w : ℕ → ℕ → ℕ) (page : ℕ) (s : State) (version : IsVersion page_state w page s) (name low : List ℕ) (high : Option (List ℕ)) (test : KeyTest) (descending : Bool)
     (cursor : Option (List ℕ)) (way : Way) (is : IsWayOf low high descending cursor way) (most : ℕ) (nodes : List ℕ) where
   pub passing_walked : HasPassing w (contents_of (w page)).entries name way test most nodes → HasWalked (IsPassing s name low high test) descending cursor most [] nodes

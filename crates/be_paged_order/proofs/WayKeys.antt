@@ -1,4 +1,4 @@
--- Which keys lie on a way.
+-- The keys on a way.
 use Rattle.std.proofs.Common.{◌≡◌, ℕ, Bool, true, false, ◌&&◌, List, Some, None, refl, sym, ap, ◌∙◌}
 use Rattle.std.specs.declared.cmp.Ordering.{Ordering}
 use Rattle.std.specs.declared.cmp.Ordering.TheVariants.{Less, Equal, Greater}
@@ -53,7 +53,7 @@ le_gt Greater e = cc
 flip : (a b : List ℕ) (o : Ordering) → name_cmp a b ≡ o → name_cmp b a ≡ ordering_reverse o
 flip a b o e = nat_list_cmp_total.antisymm b a ∙ ap ordering_reverse e
 
--- if a < b and b ≤ c, then a < c
+-- If a < b and b ≤ c, then a < c.
 below : (a b c : List ℕ) → name_cmp a b ≡ Less → is_le (name_cmp b c) ≡ true → name_cmp a c ≡ Less
 below a b c lt le = by (name_cmp b c) refl le
   where
@@ -62,7 +62,7 @@ below a b c lt le = by (name_cmp b c) refl le
     by Equal e h = ap (name_cmp a) (sym (key_apart false b c e)) ∙ lt
     by Greater e h = cc
 
--- if a ≤ b and b < c, then a < c
+-- If a ≤ b and b < c, then a < c.
 at_most : (a b c : List ℕ) → is_le (name_cmp a b) ≡ true → name_cmp b c ≡ Less → name_cmp a c ≡ Less
 at_most a b c le lt = by (name_cmp a b) refl le
   where
@@ -83,7 +83,7 @@ both : (a b : Bool) → a ≡ true → b ≡ true → (a && b) ≡ true
 both true b h k = k
 both false b h k = cc
 
--- both crates mean the same by their bounds
+-- The bounds mean the same in both crates.
 until_above : (high : Option (List ℕ)) (k : List ℕ) → is_until high false k ≡ true → is_above high k ≡ false
 unfolding key_cmp
 until_above None k h = refl
@@ -102,7 +102,7 @@ low_from : (low k : List ℕ) → is_lt (name_cmp k low) ≡ false → is_from l
 unfolding key_cmp
 low_from low k h = ge_lt (name_cmp k low) h
 
--- without a cursor, the keys of the range lie on the way
+-- Without a cursor, the keys of the range are on the way.
 pub plain_only : (back : Bool) (low : List ℕ) (high : Option (List ℕ)) (k : List ℕ) → lies_on back false low high k ≡ true → Within low high k
 plain_only false low high k h = record { from_low = from_low low k (and_first _ _ h); to_high = until_above high k (and_second _ _ h) }
 plain_only true low high k h = record { from_low = from_low low k (and_second _ _ h); to_high = until_above high k (and_first _ _ h) }
@@ -111,7 +111,7 @@ pub plain_all : (back : Bool) (low : List ℕ) (high : Option (List ℕ)) (k : L
 plain_all false low high k w = both _ _ (low_from low k w.from_low) (above_until high k w.to_high)
 plain_all true low high k w = both _ _ (above_until high k w.to_high) (low_from low k w.from_low)
 
--- up from the cursor, or from the low end if that is above the cursor
+-- Up from the cursor, or from the low end if that is above the cursor.
 module _ (low : List ℕ) (high : Option (List ℕ)) (cursor k : List ℕ) where
   pub up_only : is_ge (name_cmp cursor low) ≡ true → lies_on false true cursor high k ≡ true → Within low high k × (is_after false (Some cursor) k ≡ true)
   unfolding key_cmp
@@ -133,7 +133,7 @@ module _ (low : List ℕ) (high : Option (List ℕ)) (cursor k : List ℕ) where
       let le : is_le (name_cmp low k) ≡ true = le_flip k low (ge_lt _ w.from_low) in
       (w, ap is_lt (below cursor low k (less _ (lt_not_ge _ e)) le))
 
--- down from the cursor, or from the high end if that is below the cursor
+-- Down from the cursor, or from the high end if that is below the cursor.
 module _ (low cursor k : List ℕ) where
   pub down_only : (high : Option (List ℕ)) → is_up_to high cursor ≡ true → lies_on true true low (Some cursor) k ≡ true → Within low high k × (is_after true (Some cursor) k ≡ true)
   unfolding key_cmp

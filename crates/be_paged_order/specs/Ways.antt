@@ -10,13 +10,13 @@ use Rattle.be_volume.specs.Maps.{name_cmp}
 use Rattle.be_plan.specs.Narrow.{Within}
 use Rattle.be_order.specs.Ordered.{is_after}
 
--- the key lies on a way with these ends
+-- The key is on a way with these ends.
 abbrev pub lies_on : (back strict : Bool) → (low : List ℕ) → (high : Option (List ℕ)) → List ℕ
     → Bool
 lies_on false strict low high k = is_from low strict k && is_until high false k
 lies_on true strict low high k = is_until high strict k && is_from low false k
 
--- the key is at most the bound, if there is a bound
+-- The key isn't above the bound, or there is no bound.
 abbrev pub is_up_to : Option (List ℕ) → List ℕ → Bool
 is_up_to high k = option_map_or (λ h. is_ge (name_cmp h k)) high true
 

@@ -1,8 +1,8 @@
-//! Answers in an index's order, read from pages.
+//! Query results in index order, read from pages.
 //!
-//! be_paged_reading's source reads a version in pages, and walks an index in either direction. The
-//! source in this crate has the same calls and also be_order's. A page in order is a walk over a
-//! range of keys, starting after a cursor.
+//! The source in be_paged_reading reads a version from pages and walks an index in either
+//! direction. The source in this crate offers the same calls, plus those of be_order. To find a
+//! page in order, it walks over a range of keys, starting after a cursor.
 #![tactic(auto)]
 
 mod pages;

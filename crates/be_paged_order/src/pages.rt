@@ -12,15 +12,15 @@ use be_plan::{KeyRange, KeyTest, Source, TextTest};
 use be_query::Comparison;
 use be_value::{Kind, Name, Refusal, Value};
 
-/// Reads one version, and also walks its indices in their order. It has the version's page and a
-/// page reader, and takes no other memory.
+/// Reads a version and walks its indices in their order. It consists of the page of the version and
+/// a page reader, and uses no other memory.
 #[derive(Drop)]
 pub struct OrderedPages<L> {
     reader: PagedSource<L>,
 }
 
-/// The version on a page, as a source that walks in order. It reads nothing yet, and keeps the page
-/// reader until `into_look`.
+/// Returns the version on a page as a source that walks in order. No page is read yet. The source
+/// holds the page reader until `into_look` is called.
 pub fn ordered_source<L: Look>(look: L, version_page: u64) -> OrderedPages<L>
     requires version { HasVersion L.page_state L.words look version_page }
     ensures answers { (volume : State)
@@ -35,7 +35,7 @@ pub fn ordered_source<L: Look>(look: L, version_page: u64) -> OrderedPages<L>
 }
 
 impl<L: Look> OrderedPages<L> {
-    /// Returns the page reader, with the facts that it had.
+    /// Returns the page reader, for which all facts still hold.
     pub fn into_look(self) -> L
         ensures look { (L.kept result, (L.page_state result, L.words result))
             ≡ ⟦<OrderedPages<L> as Source>⟧.kept self }

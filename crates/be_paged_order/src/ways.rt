@@ -9,14 +9,14 @@ ghost use Rattle.be_paged_order.specs.Ways.{IsWayOf, is_up_to};
 use arrayvec::ArrayVec;
 use be_tree_reading::Way;
 
-/// Whether the first key is equal to the second or comes after it.
+/// Returns `true` if the first key is equal to the second or comes after it.
 fn is_at_or_after(a: &[u8], b: &[u8]) -> bool
     ensures { result ≡ is_ge (name_cmp a.now b.now) }
 {
     a.cmp(&b).is_ge()
 }
 
-/// Whether the key is at most the bound, if there is a bound.
+/// Returns `true` if the key isn't above the bound, or if there is no bound.
 fn is_up_to(high: Option<&[u8]>, key: &[u8]) -> bool
     ensures { result ≡ is_up_to (option_copied high.entry) key.now }
 {
@@ -26,7 +26,8 @@ fn is_up_to(high: Option<&[u8]>, key: &[u8]) -> bool
     }
 }
 
-/// The way up from the cursor, or over the whole range if the range begins after the cursor.
+/// Returns the way up from the cursor, or over the whole range if the range begins after the
+/// cursor.
 fn way_up<'a>(low: &'a [u8], high: Option<&'a [u8]>, cursor: &'a [u8]) -> Way<'a>
     ensures { IsWayOf low.now (option_copied high.entry) false (Some cursor.now) result }
 {
@@ -46,7 +47,8 @@ fn way_up<'a>(low: &'a [u8], high: Option<&'a [u8]>, cursor: &'a [u8]) -> Way<'a
     }
 }
 
-/// The way down from the cursor, or over the whole range if the range ends before the cursor.
+/// Returns the way down from the cursor, or over the whole range if the range ends before the
+/// cursor.
 fn way_down<'a>(low: &'a [u8], high: Option<&'a [u8]>, cursor: &'a [u8]) -> Way<'a>
     ensures { IsWayOf low.now (option_copied high.entry) true (Some cursor.now) result }
 {
@@ -66,8 +68,8 @@ fn way_down<'a>(low: &'a [u8], high: Option<&'a [u8]>, cursor: &'a [u8]) -> Way<
     }
 }
 
-/// The way over those keys of a range that come after the cursor, up or down. Without a cursor it
-/// is the whole range.
+/// Returns the way over those keys of a range that come after the cursor, up or down. Without a
+/// cursor, it covers the whole range.
 pub(crate) fn way_of<'a>(
     low: &'a [u8],
     high: Option<&'a [u8]>,

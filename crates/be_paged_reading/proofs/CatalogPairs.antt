@@ -1,4 +1,4 @@
--- The catalog's pairs, and the nodes and attributes that they encode.
+-- The pairs of the catalog, and the nodes and attributes that they encode.
 pub mod Finding
 pub mod Places
 pub mod Validity

@@ -1,4 +1,4 @@
--- A version's indices: their entries and keys, and how both change.
+-- The indices of a version: their entries and keys, and how both change.
 pub mod Indexing
 pub mod IndexKeys
 pub mod RootSetting

@@ -1,4 +1,4 @@
--- What is written for nodes at names, cell by cell; and where a walk over names finds them.
+-- What is written for nodes and names, cell by cell, and where a walk over the names finds them.
 use Rattle.std.proofs.Common.{◌≡◌, ◌≢◌, ℕ, zero, suc, ◌+◌, ◌-◌, ◌≤◌, ◌<◌, ◌^◌, Bool, true, false, cond, List, [], ◌∷◌, ◌++◌, drop, take, length, map, Some, None, Ok, Err, unwrap_or, is_some, ap, sym, subst, ◌∙◌, refl, inl, inr, arith, get_or}
 use Rattle.std.specs.FinMap as fin
 use Rattle.std.specs.Int.{to_be_bytes, w64}
@@ -44,7 +44,7 @@ use Rattle.be_paged_reading.proofs.CatalogPairs.Validity.{named}
 abbrev pub Found : Type 0
 Found = Result Value Refusal
 
--- one more result
+-- The bytes of one more result.
 pub data_more : (xs : List Found) (x : Found) → all_data (xs ++ x ∷ []) ≡ all_data xs ++ data_in x
 data_more [] x = append-nil (data_in x)
 data_more (y ∷ ys) x = ap (λ (l : List ℕ). data_in y ++ l) (data_more ys x) ∙ sym (append_assoc (data_in y) (all_data ys) (data_in x))
@@ -59,13 +59,13 @@ pub cells_length : (at : ℕ) (xs : List Found) → length (cells_from at xs) �
 cells_length at [] = refl
 cells_length at (x ∷ xs) = ap suc (cells_length (at + length (data_in x)) xs)
 
--- the first pair that a cursor passes is in the tree
+-- The first pair that a cursor passes is in the tree.
 module _ (v : ℕ → ℕ → ℕ) (root : ℕ) where
   pub among_lies : (cursor : Cursor) (x : Pair) → IsAmong v root cursor → slice_get (remaining v cursor) 0 ≡ Some x → payload_at (pairs v root) x.key ≡ Some x.payload
   among_lies cursor x (inl empty) first = absurd (let e = subst (λ (xs : List Pair). slice_get xs 0 ≡ Some x) empty first in cc)
   among_lies cursor x (inr h) first = first_lies (pairs v root) h.0 h.1 (remaining v cursor) x h.2 first
 
-  -- and past it, the cursor is among the pairs as before
+  -- After passing it, the cursor is still among the pairs.
   pub among_next : (before after : Cursor) → IsRising (pairs v root) → remaining v after ≡ drop 1 (remaining v before) → IsAmong v root before → IsAmong v root after
   among_next before after rising rest (inl empty) = inl (rest ∙ ap (λ (xs : List Pair). drop 1 xs) empty)
   among_next before after rising rest (inr h) = by (remaining v before) refl
@@ -74,7 +74,7 @@ module _ (v : ℕ → ℕ → ℕ) (root : ℕ) where
       by [] is = inl (rest ∙ ap (λ (xs : List Pair). drop 1 xs) is)
       by (x ∷ xs) is = inr (x.key, true, rest ∙ ap (λ (ys : List Pair). drop 1 ys) is ∙ sym (next_from (pairs v root) h.0 h.1 x xs rising (sym h.2 ∙ is)))
 
--- a list whose first pair has another key
+-- The first pair of the list has another key.
 pub elsewhere : (key : List ℕ) (xs : List Pair) (x : Pair) → slice_get xs 0 ≡ Some x → is_eq (key_cmp x.key key) ≡ false → StartsElsewhere key xs
 elsewhere key [] x first other = tt
 elsewhere key (y ∷ ys) x first other = λ same. absurd (untied (ap (λ (k : List ℕ). is_eq (key_cmp k key)) same ∙ ap is_eq (tied_itself key_total key)) (ap (λ (z : Pair). is_eq (key_cmp z.key key)) (some_same y x first) ∙ other))
@@ -85,7 +85,7 @@ elsewhere key (y ∷ ys) x first other = λ same. absurd (untied (ap (λ (k : Li
     untied : {b : Bool} → b ≡ true → b ≡ false → ⊥
     untied e f = cc
 
--- if the pairs from a key on begin with another key, the key isn't there
+-- If the pairs from a key on begin with another key, the key isn't there.
 pub absent_from : (xs : List Pair) (key : List ℕ) → IsRising xs → StartsElsewhere key (pairs_from xs key false) → payload_at xs key ≡ None
 absent_from xs key rising other = sym marked ∙ none (pairs_from xs key false) refl other
   where
@@ -113,7 +113,7 @@ absent_from xs key rising other = sym marked ∙ none (pairs_from xs key false) 
             by Equal t = absurd (far (key_same y.key key (ap is_eq t)))
             by Greater t = refl
 
--- the payload at the key of a node and a name is that of the node's value
+-- The payload at the key for a node and a name is that of the node's value.
 stored_named : (nodes : Nodes) (node : ℕ) (name : List ℕ) → 0 < length name → stored nodes node name ≡ option_map payload_of (value_at nodes node name)
 stored_named nodes node [] some = absurd (omega (arith, some))
 stored_named nodes node (c ∷ name) some = refl
@@ -136,7 +136,7 @@ module _ (items : List Pair) (nodes : Nodes) (node : ℕ) (name key : List ℕ) 
       by None same e = absurd (let f = e in cc)
       by (Some v) same e = (v, same, (valid node name v same).1, ap (λ o. unwrap_or o []) e)
 
--- no attribute has an empty name
+-- No attribute has an empty name.
 pub value_unnamed : (nodes : Nodes) (node : ℕ) (name : List ℕ) → AreValid nodes → length name ≡ 0 → value_at nodes node name ≡ None
 value_unnamed nodes node name valid empty = by (value_at nodes node name) refl
   where
@@ -144,7 +144,7 @@ value_unnamed nodes node name valid empty = by (value_at nodes node name) refl
     by None same = refl
     by (Some v) same = absurd (named name (valid node name v same).0.0 (nil_from_length name empty))
 
--- a node with an attribute exists
+-- A node with an attribute exists.
 pub value_there : (nodes : Nodes) (node : ℕ) (name : List ℕ) (v : Value) → value_at nodes node name ≡ Some v → fin.contains_key nodes node ≡ true
 value_there nodes node name v = by (fin.get nodes node)
   where
@@ -159,7 +159,7 @@ pub found_none : (nodes : Nodes) (node : ℕ) (name : List ℕ) (there : Bool) �
 found_none nodes node name there e known =
     ap (λ (o : Option Value). option_map_or (λ (value : Value). Ok value) o (Err (why_none (fin.contains_key nodes node)))) e ∙ ap (λ (b : Bool). Err (why_none b)) (sym known)
 
--- a text's bytes are its payload's after the first
+-- The bytes of a string are those of its payload after the first byte.
 pub data_past : (v : Value) (n : ℕ) → length (data_of v) ≡ n → n ≢ 0 → drop 1 (payload_of v) ≡ data_of v
 data_past (Cstr t) n e some = refl
 data_past (Long k) n e some = absurd (some (sym e))
@@ -169,7 +169,7 @@ data_past (Rawt t) n e some = refl
 data_past (Ulng k) n e some = absurd (some (sym e))
 data_past (Ullg k) n e some = absurd (some (sym e))
 
--- one more cell and its bytes are written after the others
+-- One more cell and its bytes are written after the others.
 pub reported_more : (xs : List Found) (x : Found) (cell : Cell) (content : List ℕ) (cp cs ds : List Cell) (bp bs es : List ℕ) (f g : Filled)
     → ((before all : List Cell) → length before ≡ f.cells → cs ≡ over before all → ds ≡ over (before ++ cell ∷ []) all)
     → ((before all : List ℕ) → length before ≡ f.bytes → bs ≡ over before all → es ≡ over (before ++ content) all)
@@ -182,17 +182,17 @@ reported_more xs x cell content cp cs ds bp bs es f g put_cell put_bytes g_cells
   byte_count = omega (arith, g_bytes, reported.byte_count, ap length (data_more xs x), length-append (all_data xs) (data_in x), ap length is_content);
 }
 
--- the results for one more node at the names
+-- The results for one more node and all names.
 pub found_more : (nodes : Nodes) (ns : List ℕ) (n : ℕ) (names : List (List ℕ)) → found_in nodes (ns ++ n ∷ []) names ≡ found_in nodes ns names ++ map (found_at nodes n) names
 found_more nodes [] n names = append-nil (map (found_at nodes n) names)
 found_more nodes (m ∷ ns) n names =
     ap (λ (l : List Found). map (found_at nodes m) names ++ l) (found_more nodes ns n names) ∙ sym (append_assoc (map (found_at nodes m) names) (found_in nodes ns names) (map (found_at nodes n) names))
 
--- a write doesn't change the number of places
+-- A write doesn't change the number of places.
 over_length : {T : Type 0} (xs all : List T) → length (over xs all) ≡ length all
 over_length xs all = omega (arith, length-append (take (length all) xs) (drop (length xs) all), length-take (length all) xs, length-drop (length xs) all)
 
--- only the first of the items fit
+-- Only the first of the items fit.
 pub over_cut : {T : Type 0} (before all items some places : List T) (at : ℕ) → length before ≡ at → places ≡ over before all → at < length places → length places - at < length items
     → some ≡ take (length places - at) items → put_mid at (length places - at) places some ≡ over (before ++ items) all
 over_cut before all items some places at len is inside more cut =
@@ -219,11 +219,11 @@ take_none : {T : Type 0} (n : ℕ) → ◌≡◌ {A = List T} (take n []) []
 take_none zero = refl
 take_none (suc n) = refl
 
--- a write of nothing
+-- Writing nothing changes nothing.
 pub over_none : {T : Type 0} (places : List T) → places ≡ over [] places
 over_none places = ap (λ l. l ++ places) (sym (take_none (length places)))
 
--- an attribute that the walk meets is in the tree
+-- An attribute that the walk visits is in the tree.
 pub place_met : (s t : ℕ → PageState) (v w : ℕ → ℕ → ℕ) (root : ℕ) (key : List ℕ) (cursor : Cursor) (found : ℕ × ℕ) → t ≡ s → w ≡ v → IsAmong v root cursor → IsReadableAt s v found.0 found.1
     → slice_get (remaining v cursor) 0 ≡ Some (item_at (v found.0) found.1) → (item_at (v found.0) found.1).key ≡ key → IsPlaceOf t w root key found.0 found.1
 place_met s t v w root key cursor found page_state words among item first same =
@@ -232,7 +232,7 @@ place_met s t v w root key cursor found page_state words among item first same =
       there = ap (payload_at (pairs v root)) (sym same) ∙ among_lies v root cursor (item_at (v found.0) found.1) among first;
     })
 
--- what a step finds right after a descent to the key
+-- What a step finds immediately after a descent to the key.
 pub place_sought : (s t : ℕ → PageState) (v w : ℕ → ℕ → ℕ) (root : ℕ) (key : List ℕ) (cursor : Cursor) (found : Option (ℕ × ℕ)) → t ≡ s → w ≡ v → IsRising (pairs v root)
     → remaining v cursor ≡ pairs_from (pairs v root) key false → IfSome found (λ at. IsReadableAt s v at.0 at.1) → IfSome found (λ at. slice_get (remaining v cursor) 0 ≡ Some (item_at (v at.0) at.1))
     → IfSome found (λ at. (item_at (v at.0) at.1).key ≡ key) → IfNone found (StartsElsewhere key (remaining v cursor)) → IsFoundAt t w root key found
@@ -241,7 +241,7 @@ place_sought s t v w root key cursor None page_state words rising rest item firs
 place_sought s t v w root key cursor (Some at) page_state words rising rest item first same none =
     place_met s t v w root key cursor at page_state words (inr (key, false, rest)) item first same
 
--- at the place where the key was found there is the payload of the node's value
+-- The payload at the location where the key was found is that of the node's value.
 pub payload_had : (s : ℕ → PageState) (v w : ℕ → ℕ → ℕ) (root : ℕ) (nodes : Nodes) (node : ℕ) (name key : List ℕ) (found : Option (ℕ × ℕ)) → IsCatalog (pairs v root) nodes → node < 2 ^ 64 → 0 < length name
     → key ≡ catalog_key node name → AreValid nodes → w ≡ v → IsFoundAt s w root key found → IfSome found (λ at. HasPayload nodes node name (item_at (w at.0) at.1).payload)
 payload_had s v w root nodes node name key None catalog fits some is valid words found = tt
@@ -266,7 +266,7 @@ item_of_place s w root key (Some at) found = found.item
 pub same_cell : (a b : Cell) → Some a ≡ Some b → a ≡ b
 same_cell a b e = cc
 
--- one more name
+-- One more name.
 pub row_more : (f : List ℕ → Found) (names : List HeldName) (i : ℕ) (d : HeldName) (found : List Found) → i < length names
     → (found ++ map f (map name_in (take i names))) ++ f (name_in (get_or names i d)) ∷ [] ≡ found ++ map f (map name_in (take (i + 1) names))
 row_more f names i d found lt =
@@ -275,21 +275,21 @@ row_more f names i d found lt =
     ∙ ap (λ (l : List (List ℕ)). map f l) (map-append name_in (take i names) (get_or names i d ∷ []))
     ∙ map-append f (map name_in (take i names)) (name_in (get_or names i d) ∷ [])))
 
--- one more node
+-- One more node.
 pub table_more : (nodes : Nodes) (ns : List ℕ) (i d : ℕ) (names : List (List ℕ)) → i < length ns
     → found_in nodes (take i ns) names ++ map (found_at nodes (get_or ns i d)) names ≡ found_in nodes (take (i + 1) ns) names
 table_more nodes ns i d names lt = sym (ap (λ (l : List ℕ). found_in nodes l names) (take_more ns i d lt) ∙ found_more nodes (take i ns) (get_or ns i d) names)
 
--- what is written for a node is written for an equal one
+-- What is written for a node is also written for an equal one.
 pub reported_of : (nodes : Nodes) (m n : ℕ) (name : List ℕ) (xs : List Found) (cp cs : List Cell) (bp bs : List ℕ) (f : Filled) → m ≡ n → AreReported (xs ++ found_at nodes m name ∷ []) cp cs bp bs f
     → AreReported (xs ++ found_at nodes n name ∷ []) cp cs bp bs f
 reported_of nodes m n name xs cp cs bp bs f same reported = subst (λ (k : ℕ). AreReported (xs ++ found_at nodes k name ∷ []) cp cs bp bs f) same reported
 
--- a tree in pages that were only read
+-- The tree is unchanged after pages were only read.
 pub tree_since : (s t : ℕ → PageState) (v w : ℕ → ℕ → ℕ) (root : ℕ) → t ≡ s → w ≡ v → IsTree s v root → IsTree t w root
 tree_since s t v w root page_state words h = subst (λ (u : ℕ → PageState). IsTree u w root) (sym page_state) (subst (λ (x : ℕ → ℕ → ℕ). IsTree s x root) (sym words) h)
 
--- and a walk in it
+-- The cursor can still continue in the tree after pages were only read.
 pub walks_since : (s t : ℕ → PageState) (v w : ℕ → ℕ → ℕ) (root : ℕ) (cursor : Cursor) → t ≡ s → w ≡ v → WalksIn s v root cursor → WalksIn t w root cursor
 walks_since s t v w root cursor page_state words h =
     subst (λ (u : ℕ → PageState). WalksIn u w root cursor) (sym page_state) (subst (λ (x : ℕ → ℕ → ℕ). WalksIn s x root cursor) (sym words) h)

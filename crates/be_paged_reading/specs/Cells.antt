@@ -1,4 +1,4 @@
--- What is written for nodes at names: a cell for each, and the bytes of texts one after another.
+-- What is written for nodes and names: a cell for each pair, and the bytes of all strings.
 use Rattle.std.specs.Prelude.{◌≡◌, ◌≢◌, ◌≤◌, ◌⊎◌, ◌+◌, ◌*◌, ℕ, Bool, List, [], ◌∷◌, ◌++◌, None}
 use Rattle.std.specs.Prelude.{Some, Ok, Err, IfNone, IfSome, length, take, drop, map as each}
 use Rattle.std.specs.Prelude.{if◌then◌else◌}
@@ -31,30 +31,31 @@ use Rattle.be_paged_reading.specs.declared.cells.Filled.{Filled}
 use Rattle.be_paged_reading.specs.declared.cells.HeldName.{HeldName}
 use Rattle.be_paged_reading.specs.declared.rows.Row.{Row}
 
--- The first places have these, as many as fit; the others are as they were.
+-- The items replace the first places of the list, as many as fit. All other places are unchanged.
 abbrev pub over : {X : Type 0} → List X → List X → List X
 over xs places = take (length places) xs ++ drop (length xs) places
 
--- the name that a caller holds: as many of the bytes as its length says
+-- The name in a caller's memory: the first `length` of its bytes.
 abbrev pub name_in : HeldName → List ℕ
 name_in held = take held.length held.bytes
 
--- why a node doesn't have an attribute: the node doesn't exist, or it exists without it
+-- The reason why a node has no attribute with a name: either the node doesn't exist, or it exists
+-- without the attribute.
 abbrev pub why_none : Bool → Refusal
 why_none there = if there then NoAttr else NoNode
 
--- the node's value at the name, or why there is none
+-- The node's value for the name, or the reason why there is none.
 abbrev pub found_at : Nodes → ℕ → List ℕ → Result Value Refusal
 found_at nodes node name = option_map_or (λ value. Ok value) (value_at nodes node name)
     (Err (why_none (map.contains_key nodes node)))
 
--- the same for each node at each name: the names of the first node, then those of the second, and
--- so on
+-- `found_at` for each node and each name: all names of the first node, then those of the second,
+-- and so on.
 abbrev pub found_in : Nodes → List ℕ → List (List ℕ) → List (Result Value Refusal)
 found_in nodes [] names = []
 found_in nodes (node ∷ rest) names = each (found_at nodes node) names ++ found_in nodes rest names
 
--- a text's bytes or raw bytes; a number has none
+-- The bytes of a string or of raw bytes. A number has none.
 abbrev pub data_of : Value → List ℕ
 data_of (Cstr text) = text
 data_of (Long n) = []
@@ -64,7 +65,7 @@ data_of (Rawt bytes) = bytes
 data_of (Ulng n) = []
 data_of (Ullg n) = []
 
--- a number, in two's complement if it is signed; a text has 0
+-- A number, in two's complement if it is signed. For a string it is 0.
 abbrev pub number_of : Value → ℕ
 number_of (Cstr text) = 0
 number_of (Long n) = cast_unsigned w64 n
@@ -78,8 +79,8 @@ abbrev pub data_in : Result Value Refusal → List ℕ
 data_in (Ok value) = data_of value
 data_in (Err why) = []
 
--- The cell of a result whose bytes begin at an offset. If there is no value, it has the error's
--- number.
+-- The cell for a result whose bytes begin at an offset. If the result is an error, the cell
+-- contains the error's number.
 abbrev pub cell_of : ℕ → Result Value Refusal → Cell
 cell_of offset (Ok value) = record {
   error = 0;
@@ -96,18 +97,18 @@ cell_of offset (Err why) = record {
   length = 0;
 }
 
--- the bytes of all results, one after another
+-- The bytes of all results, one after another.
 abbrev pub all_data : List (Result Value Refusal) → List ℕ
 all_data [] = []
 all_data (x ∷ xs) = data_in x ++ all_data xs
 
--- the cells of all results; each result's bytes begin after those of the one before
+-- The cells for all results. The bytes of each result begin after those of the previous one.
 abbrev pub cells_from : ℕ → List (Result Value Refusal) → List Cell
 cells_from offset [] = []
 cells_from offset (x ∷ xs) = cell_of offset x ∷ cells_from (offset + length (data_in x)) xs
 
--- The results' cells and bytes are written: how many of each there are, and as many of both as
--- there are places.
+-- The cells and bytes of the results have been written, as many as there was room for. `filled` has
+-- the total numbers of both.
 pub record AreReported (found : List (Result Value Refusal)) (cell_places cells : List Cell)
     (byte_places bytes : List ℕ) (filled : Filled) : Type 0 where
   pub cells_are : cells ≡ over (cells_from 0 found) cell_places
@@ -115,50 +116,51 @@ pub record AreReported (found : List (Result Value Refusal)) (cell_places cells 
   pub cell_count : filled.cells ≡ length found
   pub byte_count : filled.bytes ≡ length (all_data found)
 
--- the counts are small enough that no sum of them overflows
+-- The counts are so small that no sum of them overflows.
 pub record IsFew (filled : Filled) : Type 0 where
   pub few : filled.bytes ≤ 512 * filled.cells
 
--- the cursor is past all pairs, or before those from some key on
+-- The cursor is either past all pairs, or before those that start at some key.
 abbrev pub IsAmong : (words : ℕ → ℕ → ℕ) (root : ℕ) → Cursor → Type 0
 IsAmong words root cursor =
     (remaining words cursor ≡ []) ⊎ ((from : List ℕ) × (after : Bool)
     × (remaining words cursor ≡ pairs_from (pairs words root) from after))
 
--- if there is a first pair, it has another key
+-- If there is a first pair, its key is a different one.
 abbrev pub StartsElsewhere : List ℕ → List Pair → Type 0
 StartsElsewhere key [] = Unit {0}
 StartsElsewhere key (x ∷ xs) = x.key ≢ key
 
--- the cursor can continue, and is in this tree
+-- The cursor can continue, and it is in this tree.
 pub record WalksIn (page_state : ℕ → PageState) (words : ℕ → ℕ → ℕ) (root : ℕ) (cursor : Cursor) :
     Type 0 where
   pub walks : IsCursor page_state words cursor
   pub among : IsAmong words root cursor
 
--- What is known about a row of the catalog's tree: where the cursor is, and whether the node
--- exists, if that was asked.
+-- What is known about a row of the catalog tree: the position of the cursor, and possibly whether
+-- the node exists.
 pub record IsInRow (page_state : ℕ → PageState) (words : ℕ → ℕ → ℕ) (row : Row) : Type 0 where
   pub tree : IsTree page_state words row.catalog
   pub cursor : WalksIn page_state words row.catalog row.cursor
   pub is_known : (nodes : Nodes) → IsCatalog (pairs words row.catalog) nodes → AreValid nodes
       → IfSome row.known (λ there. there ≡ map.contains_key nodes row.node)
 
--- the row continues with the same node
+-- The row continues with the same node.
 pub record GoesOn (page_state : ℕ → PageState) (words : ℕ → ℕ → ℕ) (old new : Row) : Type 0 where
   pub in_row : IsInRow page_state words new
   pub same_catalog : new.catalog ≡ old.catalog
   pub same_node : new.node ≡ old.node
 
--- The cells of nodes at names in a volume are written, one for each node and name, and the bytes of
--- all texts: as many of both as there are places. `needed` is how many bytes the texts take.
+-- For each node and each name, the cell for the node's value in the volume has been written, and so
+-- have the bytes of all strings, as many of both as there was room for. `needed` is the total
+-- length of the strings.
 pub record ReportsColumns (volume : State) (nodes : List ℕ) (names : List (List ℕ))
     (cell_places cells : List Cell) (byte_places bytes : List ℕ) (needed : ℕ) : Type 0 where
   pub cells_are : cells ≡ over (cells_from 0 (found_in volume.nodes nodes names)) cell_places
   pub bytes_are : bytes ≡ over (all_data (found_in volume.nodes nodes names)) byte_places
   pub needed_is : needed ≡ length (all_data (found_in volume.nodes nodes names))
 
--- What a read of an attribute writes: its cell, and as many of its bytes as there are places. For a
+-- What reading an attribute writes: its cell, and as many of its bytes as there is room for. For a
 -- missing attribute it writes nothing.
 abbrev pub IsReadInto : Option Value → Option Cell → List ℕ → List ℕ → Type 0
 IsReadInto None reported places bytes = (reported ≡ None) × (bytes ≡ places)
@@ -166,28 +168,29 @@ IsReadInto (Some value) reported places bytes = IsValue value
     × (reported ≡ Some (cell_of 0 (Ok value)))
     × (bytes ≡ over (data_of value) places)
 
--- the node has an attribute with this name, whose value has this payload
+-- The node has an attribute with this name, and the attribute's value has this payload.
 pub record HasPayload (nodes : Nodes) (node : ℕ) (name payload : List ℕ) : Type 0 where
   pub value : Value
   pub there : value_at nodes node name ≡ Some value
   pub is_value : IsValue value
   pub is : payload ≡ payload_of value
 
--- if a look-up of a node's attribute found an item, its payload is the attribute's
+-- If looking up a node's attribute found an item, the payload of the item is that of the attribute.
 abbrev pub IsValuePlace : (old new : ℕ → ℕ → ℕ) (catalog node : ℕ) (name : List ℕ)
     → Option (ℕ × ℕ) → Type 0
 IsValuePlace old new catalog node name place = (nodes : Nodes) → IsCatalog (pairs old catalog) nodes
     → AreValid nodes
     → IfSome place (λ at. HasPayload nodes node name (item_at (new at.0) at.1).payload)
 
--- if it found none, the node has no such attribute
+-- If looking up a node's attribute found no item, the node has no such attribute.
 abbrev pub IsValueAbsent : (words : ℕ → ℕ → ℕ) (catalog node : ℕ) (name : List ℕ)
     → Option (ℕ × ℕ) → Type 0
 IsValueAbsent words catalog node name place = (nodes : Nodes)
     → IsCatalog (pairs words catalog) nodes → AreValid nodes
     → IfNone place (value_at nodes node name ≡ None)
 
--- the call writes these answers, from the nodes of the catalog, after what was written before
+-- The call writes these results, which depend on the nodes in the catalog, after what has already
+-- been written.
 abbrev pub Reports : (words : ℕ → ℕ → ℕ) (catalog : ℕ) → (Nodes → List (Result Value Refusal))
     → (old_cells new_cells : List Cell) (old_bytes new_bytes : List ℕ) (old new : Filled) → Type 0
 Reports words catalog answers old_cells new_cells old_bytes new_bytes old new = (nodes : Nodes)

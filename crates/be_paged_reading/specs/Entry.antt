@@ -1,4 +1,4 @@
--- An index as a version page has it.
+-- An index as it is stored on a version page.
 use Rattle.std.specs.Prelude.{◌≡◌, ℕ, ◌*◌, ◌^◌, ◌<◌, List, map, slice_index}
 use Rattle.std.specs.Int.{to_be_bytes, w64}
 use Rattle.std.specs.List.{range_with_len}
@@ -9,8 +9,8 @@ pub record Entry : Type 0 where
   pub kind : Kind
   pub root : ℕ
 
--- The eight words hold a text's bytes, with the first byte as the most significant of the first
--- word, and zeros after the last byte.
+-- The eight words contain the bytes of the string. The first byte is the most significant byte of
+-- the first word, and the bytes after the last one are zeros.
 pub record HaveText (words : ℕ → ℕ) (text : List ℕ) : Type 0 where
   pub small : (j : ℕ) → j < 8 → words j < 2 ^ 64
   pub bytes : (j : ℕ) → j < 8 → to_be_bytes w64 (words j)

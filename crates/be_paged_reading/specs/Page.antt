@@ -12,17 +12,17 @@ use Rattle.be_tree_reading.specs.Forest.{pages_of}
 use Rattle.be_paged_reading.specs.Entry.{Entry, HaveText}
 use Rattle.be_paged_reading.specs.declared.version.Version.{Version}
 
--- the kind with this number on pages, from 1 to 7
+-- The kind that has this number on pages, from 1 to 7.
 abbrev pub kind_numbered : ℕ → Kind
 kind_numbered n = kind_at (n - 1)
 
--- a version page's contents
+-- The contents of a version page.
 pub record Contents : Type 0 where
   pub next : ℕ
   pub catalog : ℕ
   pub entries : List Entry
 
--- the contents of a loaded version
+-- The contents of a loaded version.
 abbrev pub contents : Version → Contents
 contents version = record {
   next = version.next;
@@ -30,12 +30,12 @@ contents version = record {
   entries = version.entries.items;
 }
 
--- index i takes the eleven words from here on
+-- The offset of the eleven words for index i.
 abbrev pub entry_place : ℕ → ℕ
 entry_place i = 4 + 11 * i
 
--- the index in the eleven words from a place on: the name's length, its bytes in eight words, the
--- kind's number, the root
+-- The index in the eleven words at an offset: the length of the name, the bytes of the name in
+-- eight words, the number of the kind, and the root.
 unfoldable pub entry_at : (words : ℕ → ℕ) (at : ℕ) → Entry
 entry_at words at = record {
   name = bytes_at words (at + 1) (words at);
@@ -50,35 +50,36 @@ contents_of words = record {
   entries = map (λ i. entry_at words (entry_place i)) (range_with_len 0 (words 1));
 }
 
--- these eleven words encode an index
+-- These eleven words encode an index.
 pub record IsEntry (words : ℕ → ℕ) (at : ℕ) : Type 0 where
   pub short : words at ≤ 63
   pub named : IsName (entry_at words at).name
   pub text : HaveText (λ j. words (at + 1 + j)) (entry_at words at).name
   pub kind : (1 ≤ words (at + 9)) × (words (at + 9) ≤ 7)
 
--- the words encode a version page
+-- The words encode a version page.
 pub record IsVersionPage (words : ℕ → ℕ) : Type 0 where
   pub tag : words 0 ≡ 255
   pub few : words 1 ≤ 32
   pub fits : words 2 < 2 ^ 64
   pub each : (i : ℕ) → i < words 1 → IsEntry words (entry_place i)
 
--- all roots: the catalog's, and then one for each index
+-- All roots: that of the catalog, followed by those of the indices.
 abbrev pub roots : Contents → List ℕ
 roots c = c.catalog ∷ map (λ e. e.root) c.entries
 
--- the pages of a version: its own, and those of its trees
+-- The pages of a version: its own page and those of its trees.
 abbrev pub reach : (words : ℕ → ℕ → ℕ) (page : ℕ) → List ℕ
 reach words page = page ∷ pages_of words (roots (contents_of (words page)))
 
--- the entry at place i has the name, and those before it have lower ones
+-- The entry at position i has this name, and all entries before it have lower names.
 pub record IsNamedAt (entries : List Entry) (name : List ℕ) (i : ℕ) : Type 0 where
   pub in_range : i < length entries
   pub below : (j : ℕ) (d : Entry) → j < i → name_cmp (slice_index_or entries j d).name name ≡ Less
   pub here : (d : Entry) → (slice_index_or entries i d).name ≡ name
 
--- the entries before place i have lower names, and the one there, if any, has a higher one
+-- All entries before position i have lower names, and the entry at this position, if there is one,
+-- has a higher name.
 pub record IsGapAt (entries : List Entry) (name : List ℕ) (i : ℕ) : Type 0 where
   pub in_range : i ≤ length entries
   pub below : (j : ℕ) (d : Entry) → j < i → name_cmp (slice_index_or entries j d).name name ≡ Less

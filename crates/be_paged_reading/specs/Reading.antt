@@ -1,4 +1,4 @@
--- What a reader of the catalog relies on, and what a walk over a node's attributes finds.
+-- What a reader of the catalog relies on, and what a walk over the attributes of a node finds.
 use Rattle.std.specs.Prelude.{◌≡◌, ℕ, Bool, List, [], ◌∷◌, Some, map as each, nat_eq, if◌then◌else◌}
 use Rattle.std.specs.FinMap as map
 use Rattle.std.specs.Int.{to_be_bytes, w64}
@@ -10,24 +10,24 @@ use Rattle.be_volume.specs.Maps.{Attributes, Nodes}
 use Rattle.be_volume.specs.Sound.{IsName}
 use Rattle.be_paged_reading.specs.Catalog.{catalog_key, payload_of, value_at}
 
--- each attribute has a valid name and a valid value
+-- Every attribute has a valid name and a valid value.
 abbrev pub AreValid : Nodes → Type 0
 AreValid nodes = (node : ℕ) (name : List ℕ) (value : Value) → value_at nodes node name ≡ Some value
     → IsName name × IsValue value
 
--- the key begins with the node
+-- The key begins with the node.
 abbrev pub is_of : ℕ → List ℕ → Bool
 is_of node k = starts_with nat_eq k (to_be_bytes w64 node)
 
--- the pairs at the beginning whose keys begin with the node
+-- The leading pairs whose keys begin with the node.
 abbrev pub front_of_node : ℕ → List Pair → List Pair
 front_of_node node [] = []
 front_of_node node (x ∷ xs) = if is_of node x.key then x ∷ front_of_node node xs else []
 
--- the catalog's pair of an attribute
+-- The catalog's pair for an attribute.
 abbrev pub attribute_pair : ℕ → List ℕ × Value → Pair
 attribute_pair node e = record { key = catalog_key node e.0; payload = payload_of e.1 }
 
--- the pairs of a node's attributes, in ascending order of their names
+-- The pairs for the attributes of a node, in ascending order of their names.
 abbrev pub attribute_pairs : ℕ → Attributes → List Pair
 attribute_pairs node attributes = each (attribute_pair node) (map.entries attributes)

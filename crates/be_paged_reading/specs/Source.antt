@@ -1,4 +1,4 @@
--- What an index reader of a version knows and keeps.
+-- What an index reader for a version knows and remembers.
 use Rattle.std.specs.Prelude.{◌≡◌, ℕ, ◌<◌, ◌&&◌, Bool, IfSome, IfNone, List, Some, true}
 use Rattle.std.specs.Prelude.{◌++◌, is_some, length, slice_index_or, take}
 use Rattle.std.specs.declared.option.Option.{Option}
@@ -26,12 +26,12 @@ use Rattle.be_paged_reading.specs.KeyTests.{nodes_passing}
 use Rattle.be_paged_reading.specs.Version.{IsVersion}
 use Rattle.be_paged_reading.specs.declared.on_page.FoundIndex.{FoundIndex}
 
--- if a look-up found a place, there is a readable item
+-- If a lookup found a location, there is a readable item at it.
 abbrev pub HasItem : (page_state : ℕ → PageState) (words : ℕ → ℕ → ℕ) → Option (ℕ × ℕ) → Type 0
 HasItem page_state words place = IfSome place (λ at. IsReadableAt page_state words at.0 at.1)
 
--- the cursor is in the tree of the index at this place, just past the key of the last item; if the
--- place is past the indices, the cursor is in no tree
+-- The cursor is in the tree of the index at this position, just past the key of the last item. If
+-- there is no index at this position, the cursor is in no tree.
 pub record LiesAfter (page_state : ℕ → PageState) (words : ℕ → ℕ → ℕ) (entries : List Entry)
     (cursor : Cursor) (place : ℕ) (last_page last_at : ℕ) : Type 0 where
   pub can_go_on : place < length entries → IsCursor page_state words cursor
@@ -40,7 +40,7 @@ pub record LiesAfter (page_state : ℕ → PageState) (words : ℕ → ℕ → �
       ≡ pairs_from (pairs words (slice_index_or entries place d).root)
       (item_at (words last_page) last_at).key true
 
--- the index with this name among the entries, or that there is none
+-- The index with this name among the entries, or None if there is no such index.
 pub record IsFound (entries : List Entry) (name : List ℕ) (found : Option FoundIndex) : Type 0 where
   pub named : IfSome found (λ index. IsNamedAt entries name index.place)
   pub kind : IfSome found (λ index. (d : Entry) → index.kind
@@ -49,14 +49,14 @@ pub record IsFound (entries : List Entry) (name : List ℕ) (found : Option Foun
       ≡ (slice_index_or entries index.place d).root)
   pub absent : IfNone found ((i : ℕ) × IsGapAt entries name i)
 
--- what is remembered about an index is what the entries say
+-- What is remembered about an index matches the entries.
 pub record IsIndexOf (entries : List Entry) (index : FoundIndex) : Type 0 where
   pub in_range : index.place < length entries
   pub kind : (d : Entry) → index.kind ≡ (slice_index_or entries index.place d).kind
   pub root : (d : Entry) → index.root ≡ (slice_index_or entries index.place d).root
 
--- The list has gained the numbers of the keys on a way over the index with this name, in the way's
--- order, up to `most`; without an index it is as before.
+-- The numbers of the first `most` keys on a way over the index with this name were added to the
+-- list, in the order of the way. If there is no such index, the list is unchanged.
 pub record HasNumbers (words : ℕ → ℕ → ℕ) (entries : List Entry) (name : List ℕ) (way : Way)
     (most : ℕ) (before after : List ℕ) : Type 0 where
   pub index : Option FoundIndex
@@ -68,18 +68,18 @@ pub record HasNumbers (words : ℕ → ℕ → ℕ) (entries : List Entry) (name
 abbrev pub IsKnown : List Entry → Option FoundIndex → Type 0
 IsKnown entries known = IfSome known (λ last. IsIndexOf entries last)
 
--- whether the index's pairs have the key of the value and the node
+-- Whether the pairs of the index contain the key for the value and the node.
 abbrev pub has_pair : List Pair → ℕ → Value → Bool
 has_pair items node v = is_indexable (kind_of v) && is_some (payload_at items (key v node))
 
--- whether an index has the pair of a node and the value that an item encodes
+-- Whether an index has a pair for the node and the value that an item encodes.
 abbrev pub DecidesPair : (words : ℕ → ℕ → ℕ) (index node page at : ℕ) → Bool → Type 0
 DecidesPair words index node page at has = (v : Value) → IsValue v
     → (item_at (words page) at).payload ≡ payload_of v
     → has ≡ has_pair (pairs words index) node v
 
--- the page encodes the volume, what is remembered is about that page, and the cursor is where it
--- says
+-- The page encodes the volume, what is remembered matches that page, and the cursor is where
+-- `place` and the last item say.
 pub record SourceOf (page_state : ℕ → PageState) (words : ℕ → ℕ → ℕ) (page : ℕ)
     (known : Option FoundIndex)
     (cursor : Cursor) (place : ℕ) (last_page last_at : ℕ) (volume : State) : Type 0 where
@@ -88,8 +88,9 @@ pub record SourceOf (page_state : ℕ → PageState) (words : ℕ → ℕ → �
   pub beyond : LiesAfter page_state words (contents_of (words page)).entries cursor place last_page
       last_at
 
--- A walk over the index with this name tests its keys. The list has the nodes of the first keys
--- that pass, in the way's order, up to `most`. If the test reads texts, the index has texts.
+-- A walk over the index with this name has tested its keys. The list contains the nodes of the
+-- first `most` keys that pass, in the order of the way. If the test reads strings, the index
+-- contains strings.
 pub record HasPassing (words : ℕ → ℕ → ℕ) (entries : List Entry) (name : List ℕ) (way : Way)
     (test : KeyTest) (most : ℕ) (nodes : List ℕ) : Type 0 where
   pub index : FoundIndex

@@ -1,4 +1,4 @@
--- Texts in an index's keys, and the nodes of the keys whose texts satisfy a comparison.
+-- The strings in the keys of an index, and the nodes whose strings satisfy a comparison.
 use Rattle.std.specs.Prelude.{ℕ, ◌≤◌, Bool, List, [], ◌∷◌, All, IsUtf8, length, if◌then◌else◌}
 use Rattle.std.specs.List.{flat_map}
 use Rattle.std.specs.declared.option.Option.{Option}
@@ -9,23 +9,23 @@ use Rattle.be_tree_reading.specs.Pair.{Pair}
 use Rattle.be_tree_reading.specs.Range.{number_of, pairs_to}
 use Rattle.be_volume.specs.Query.{holds_of_text}
 
--- the key has a text, and a node's bytes
+-- The key contains a string and the bytes of a node.
 pub record IsTextKey (key : List ℕ) : Type 0 where
   pub long : 8 ≤ length key
   pub is_text : IsUtf8 (text_in key)
 
--- each key has a text
+-- Every key contains a string.
 abbrev pub AreTexts : List Pair → Type 0
 AreTexts xs = All (λ x. IsTextKey x.key) xs
 
--- the comparison is true of the key's text
+-- The comparison is true of the string in the key.
 abbrev pub passes : Cmp → Literal → List ℕ → Bool
 passes op literal key = holds_of_text op (text_in key) literal
 
--- the key's node, if the key's text passes
+-- The node of the key if the string in the key passes.
 abbrev pub node_if_passing : Cmp → Literal → Pair → List ℕ
 node_if_passing op literal x = if passes op literal x.key then number_of x.key ∷ [] else []
 
--- the nodes of the keys whose texts pass, up to a bound
+-- The nodes of the keys whose strings pass, up to a bound.
 abbrev pub nodes_passing_to : Cmp → Literal → List Pair → (high : Option (List ℕ)) → List ℕ
 nodes_passing_to op literal xs high = flat_map (node_if_passing op literal) (pairs_to xs high)

@@ -1,7 +1,7 @@
-//! The first attribute that the search for refusals looked up.
+//! The first attribute that was looked up while checking whether operations must be refused.
 //!
-//! That search ends before the first change. If the first operation of a list changes this
-//! attribute, it doesn't have to look it up again.
+//! All operations are checked before the first change is made. If the first operation in a list
+//! changes this attribute, it can use the result instead of looking up the attribute again.
 ghost use Rattle.std.specs.Prelude.{◌≡◌, ℕ, Some};
 ghost use Rattle.std.specs.Option.{option_or};
 ghost use Rattle.be_pages.specs.declared.room.PageState.{PageState as AnyPageState};
@@ -9,7 +9,8 @@ ghost use Rattle.be_paged_reading.specs.Place.{IsAsked, IsKnownOf};
 
 use be_value::Name;
 
-/// A node's attribute that was looked up, and its page and place in the catalog if the node has it.
+/// An attribute of a node that was looked up. If the node has it, `place` is its page and its
+/// offset in the catalog tree.
 #[derive(Drop)]
 pub struct Asked {
     node: u64,
@@ -17,7 +18,7 @@ pub struct Asked {
     place: Option<(u64, usize)>,
 }
 
-/// Remembers what a look-up of an attribute found, unless something is remembered already.
+/// Stores the result of looking up an attribute, unless a result is already stored.
 pub fn remember(asked: &mut Option<Asked>, node: u64, name: &Name, place: Option<(u64, usize)>)
     ensures { asked.new ≡ option_or asked.old
         (Some (record { node = node; name = name.now; place = place })) }
@@ -31,7 +32,7 @@ pub fn remember(asked: &mut Option<Asked>, node: u64, name: &Name, place: Option
     }
 }
 
-/// What a look-up of a node's attribute found, if it is the remembered attribute.
+/// Returns the stored result if it belongs to this attribute.
 pub fn known_of(asked: &Option<Asked>, node: u64, name: &Name) -> Option<Option<(u64, usize)>>
     ensures { (page_state : ℕ → AnyPageState) (words : ℕ → ℕ → ℕ) (root : ℕ)
         → IsAsked page_state words root asked.now

@@ -1,8 +1,8 @@
-//! Walks over a node's attributes.
+//! Walks over the attributes of a node.
 //!
-//! In the catalog a node's attributes follow its mark, in ascending order of their names. So a walk
-//! begins after the mark, and ends at the first key of another node. A node has at most 64
-//! attributes, which bounds the walk.
+//! In the catalog, a node's mark is followed by its attributes, in ascending order of their names.
+//! A walk therefore begins after the mark and ends at the first key of another node. A node has at
+//! most 64 attributes, which bounds the length of the walk.
 ghost use Rattle.std.specs.Prelude.{◌≡◌, ◌+◌, ◌≤◌, ◌<◌, ℕ, IsTrue, IfOk, IfSome, IfNone, length};
 ghost use Rattle.std.specs.Prelude.{option_map, drop, slice_get, is_some, true, Some, None, List};
 ghost use Rattle.std.specs.FinMap as map;
@@ -28,7 +28,8 @@ use be_volume::MAX_ATTRIBUTES;
 use std::alloc::{AllocError, Global};
 use std::str;
 
-/// Whether the key of the item at this place begins with this node. The key's first word decides.
+/// Returns `true` if the item at this offset has a key that begins with the node. The first word of
+/// the key determines that.
 fn is_of_node<L: Look>(look: &mut L, page: u64, at: usize, node: u64) -> bool
     requires readable { IsTrue (is_readable (L.page_state look.old page)) }
     requires in_page { at + 42 ≤ 512 }
@@ -43,8 +44,8 @@ fn is_of_node<L: Look>(look: &mut L, page: u64, at: usize, node: u64) -> bool
     look.word(page, at + 1) == node
 }
 
-/// The page and place of the node's next attribute; the cursor steps past it. None after the node's
-/// last attribute.
+/// Advances the cursor past the node's next attribute and returns the page and offset of that
+/// attribute. Returns `None` after the node's last attribute.
 fn next_attribute<L: Look>(look: &mut L, cursor: &mut Cursor, node: u64) -> Option<(u64, usize)>
     requires cursor { IsCursor (L.page_state look.old) (L.words look.old) cursor.old }
     ensures none { IfNone result (slice_get
@@ -65,7 +66,8 @@ fn next_attribute<L: Look>(look: &mut L, cursor: &mut Cursor, node: u64) -> Opti
     Some((page, at))
 }
 
-/// Whether the node has a next attribute; the cursor steps past it. Copies nothing.
+/// Advances the cursor past the node's next attribute. Returns `false` if there is no next
+/// attribute. Copies nothing.
 fn pass_attribute<L: Look>(look: &mut L, cursor: &mut Cursor, node: u64) -> bool
     requires cursor { IsCursor (L.page_state look.old) (L.words look.old) cursor.old }
     ensures found { result ≡ is_some (slice_get
@@ -78,8 +80,8 @@ fn pass_attribute<L: Look>(look: &mut L, cursor: &mut Cursor, node: u64) -> bool
     next_attribute(look, cursor, node).is_some()
 }
 
-/// How many of the node's attributes the cursor has ahead. Stops at the largest number that a node
-/// may have.
+/// Counts the attributes of the node that are ahead of the cursor. The count stops at the maximum
+/// number of attributes of a node.
 fn count_rest<L: Look>(look: &mut L, cursor: &mut Cursor, node: u64) -> usize
     requires cursor { IsCursor (L.page_state look.old) (L.words look.old) cursor.old }
     ensures count { length (front_of_node node (remaining (L.words look.old) cursor.old)) ≤ 64 →
@@ -94,8 +96,8 @@ fn count_rest<L: Look>(look: &mut L, cursor: &mut Cursor, node: u64) -> usize
     MAX_ATTRIBUTES
 }
 
-/// How many attributes the node has, if it exists. It descends once to the node's mark, and from
-/// there reads the first words of the keys.
+/// Returns the number of attributes of the node, or `None` if the node doesn't exist. It makes one
+/// descent to the node's mark, and then reads the first word of each key.
 pub(crate) fn attribute_count<L: Look>(look: &mut L, catalog: u64, node: u64) -> Option<usize>
     requires tree { IsTree (L.page_state look.old) (L.words look.old) catalog }
     ensures count { (nodes : AllNodes) → IsCatalog (pairs (L.words look.old) catalog) nodes
@@ -113,7 +115,7 @@ pub(crate) fn attribute_count<L: Look>(look: &mut L, catalog: u64, node: u64) ->
     Some(count_rest(look, &mut cursor, node))
 }
 
-/// The name in the key of the catalog's item at this place, after the node.
+/// Returns the name that follows the node in the key of the catalog item at this offset.
 fn name_at<L: Look>(look: &mut L, page: u64, at: usize) -> Option<Name>
     requires readable { IsTrue (is_readable (L.page_state look.old page)) }
     requires in_page { at + 42 ≤ 512 }
@@ -128,7 +130,7 @@ fn name_at<L: Look>(look: &mut L, page: u64, at: usize) -> Option<Name>
     Name::new(str::from_utf8(key.get(8..)?).ok()?).ok()
 }
 
-/// The attribute that the catalog's item at this place encodes.
+/// Returns the attribute that the catalog item at this offset encodes.
 fn read_attribute<L: Look>(look: &mut L, page: u64, at: usize) -> Option<(Name, Value)>
     requires readable { IsTrue (is_readable (L.page_state look.old page)) }
     requires in_page { at + 42 ≤ 512 }
@@ -144,7 +146,8 @@ fn read_attribute<L: Look>(look: &mut L, page: u64, at: usize) -> Option<(Name, 
     Some((name, value))
 }
 
-/// The node's next attribute; the cursor steps past it. None after the node's last attribute.
+/// Advances the cursor past the node's next attribute and returns the attribute. Returns `None`
+/// after the node's last attribute.
 fn next_value<L: Look>(look: &mut L, cursor: &mut Cursor, node: u64) -> Option<(Name, Value)>
     requires cursor { IsCursor (L.page_state look.old) (L.words look.old) cursor.old }
     ensures value { (name : List ℕ) (value : AnyValue) → IsName name → IsValue value →
@@ -189,8 +192,8 @@ pub(crate) fn list_attributes<L: Look>(
     Ok(list)
 }
 
-/// The name and place of the node's next attribute; the cursor steps past it. None after the node's
-/// last attribute. Doesn't read the value.
+/// Advances the cursor past the node's next attribute and returns its name and location, without
+/// reading the value. Returns `None` after the node's last attribute.
 fn next_name<L: Look>(look: &mut L, cursor: &mut Cursor, node: u64) -> Option<(Name, (u64, usize))>
     requires cursor { IsCursor (L.page_state look.old) (L.words look.old) cursor.old }
     ensures name { (name : List ℕ) (value : AnyValue) → IsName name →
@@ -213,8 +216,8 @@ fn next_name<L: Look>(look: &mut L, cursor: &mut Cursor, node: u64) -> Option<(N
     Some((name, (page, at)))
 }
 
-/// The name of the node's first attribute, and its place in the catalog's tree, if the node has
-/// any.
+/// Returns the name of the node's first attribute and its location in the catalog tree, or `None`
+/// if the node has no attributes.
 pub fn first_attribute<L: Look>(
     look: &mut L,
     catalog: u64,

@@ -1,4 +1,4 @@
-//! The catalog's keys and payloads.
+//! The keys and payloads of the catalog.
 ghost use Rattle.std.specs.Prelude.{◌≡◌, ◌+◌, ◌≤◌, ◌<◌, ◌^◌, ℕ, List, ◌∷◌, length, Ok, Some};
 ghost use Rattle.std.specs.Prelude.{IsTrue, IsUtf8};
 ghost use Rattle.std.specs.Int.{to_be_bytes, w32, w64};
@@ -19,7 +19,7 @@ use be_tree_reading::{
 use be_value::{Bytes, Kind, Name, Text, Value};
 use std::str;
 
-/// The key of a node's attribute.
+/// Returns the catalog key of a node's attribute.
 pub fn catalog_key(node: u64, name: &Name) -> ArrayVec<u8, 72>
     ensures key { result.items ≡ key_in_catalog node name.now }
     ensures short { length result.items ≤ 71 }
@@ -31,10 +31,11 @@ pub fn catalog_key(node: u64, name: &Name) -> ArrayVec<u8, 72>
     key
 }
 
-/// The value that the payload of the item at this place encodes, if it encodes one. An integer is
-/// read from its one or two words; a text's bytes are copied once before the value gets them. This
-/// function is inlined, so the value isn't moved from call to call. Texts have functions of their
-/// own, so only a text costs clearing the room for one.
+/// Returns the value encoded in the payload of the item at this offset, if it encodes one. An
+/// integer is read from its one or two words. The bytes of a string are copied once before they are
+/// put into the value. This function is inlined so that the value isn't moved between calls.
+/// Strings are handled by separate functions, so only a string incurs the cost of clearing the
+/// buffer.
 #[inline(always)]
 pub(crate) fn value_at<L: Look>(look: &mut L, page: u64, at: usize) -> Option<Value>
     requires readable { IsTrue (is_readable (L.page_state look.old page)) }
@@ -56,7 +57,7 @@ pub(crate) fn value_at<L: Look>(look: &mut L, page: u64, at: usize) -> Option<Va
     }
 }
 
-/// The text after a payload's first byte, as a `Cstr`.
+/// Returns the string after the first byte of a payload as a `Cstr`.
 #[inline(never)]
 fn cstr_at<L: Look>(look: &mut L, page: u64, at: usize) -> Option<Value>
     requires readable { IsTrue (is_readable (L.page_state look.old page)) }
@@ -69,7 +70,7 @@ fn cstr_at<L: Look>(look: &mut L, page: u64, at: usize) -> Option<Value>
     Some(Value::Cstr(text_at(look, page, at)?))
 }
 
-/// The same, as a `Mims`.
+/// Returns the string after the first byte of a payload as a `Mims`.
 #[inline(never)]
 fn mims_at<L: Look>(look: &mut L, page: u64, at: usize) -> Option<Value>
     requires readable { IsTrue (is_readable (L.page_state look.old page)) }
@@ -82,7 +83,7 @@ fn mims_at<L: Look>(look: &mut L, page: u64, at: usize) -> Option<Value>
     Some(Value::Mims(text_at(look, page, at)?))
 }
 
-/// The bytes after a payload's first byte, as a `Rawt`.
+/// Returns the bytes after the first byte of a payload as a `Rawt`.
 #[inline(never)]
 fn rawt_at<L: Look>(look: &mut L, page: u64, at: usize) -> Option<Value>
     requires readable { IsTrue (is_readable (L.page_state look.old page)) }
@@ -96,7 +97,7 @@ fn rawt_at<L: Look>(look: &mut L, page: u64, at: usize) -> Option<Value>
     Some(Value::Rawt(bytes_at(look, page, at)?))
 }
 
-/// The kind whose number is the payload's first byte, if there is one.
+/// Returns the kind whose number is the first byte of the payload, if there is such a kind.
 pub(crate) fn kind_at<L: Look>(look: &mut L, page: u64, at: usize) -> Option<Kind>
     requires readable { IsTrue (is_readable (L.page_state look.old page)) }
     requires in_page { at + 42 ≤ 512 }
@@ -113,7 +114,7 @@ pub(crate) fn kind_at<L: Look>(look: &mut L, page: u64, at: usize) -> Option<Kin
     Kind::numbered(number)
 }
 
-/// The number after a payload's first byte, if it takes four bytes.
+/// Returns the number after the first byte of a payload, if it is four bytes long.
 pub(crate) fn number32_at<L: Look>(look: &mut L, page: u64, at: usize) -> Option<u32>
     requires readable { IsTrue (is_readable (L.page_state look.old page)) }
     requires in_page { at + 42 ≤ 512 }
@@ -129,7 +130,7 @@ pub(crate) fn number32_at<L: Look>(look: &mut L, page: u64, at: usize) -> Option
     Some(payload_number32_at(look, page, at, 1))
 }
 
-/// The number after a payload's first byte, if it takes eight bytes.
+/// Returns the number after the first byte of a payload, if it is eight bytes long.
 pub(crate) fn number64_at<L: Look>(look: &mut L, page: u64, at: usize) -> Option<u64>
     requires readable { IsTrue (is_readable (L.page_state look.old page)) }
     requires in_page { at + 42 ≤ 512 }
@@ -145,7 +146,7 @@ pub(crate) fn number64_at<L: Look>(look: &mut L, page: u64, at: usize) -> Option
     Some(payload_number_at(look, page, at, 1))
 }
 
-/// The text after a payload's first byte, if it is a value's text.
+/// Returns the string after the first byte of a payload, if it is valid in a value.
 fn text_at<L: Look>(look: &mut L, page: u64, at: usize) -> Option<Text>
     requires readable { IsTrue (is_readable (L.page_state look.old page)) }
     requires in_page { at + 42 ≤ 512 }
@@ -167,7 +168,8 @@ fn text_of(payload: &[u8]) -> Option<Text>
     Text::new(str::from_utf8(text).ok()?).ok()
 }
 
-/// The bytes after a payload's first byte, if a value may have that many.
+/// Returns the bytes after the first byte of a payload, unless there are more than a value may
+/// have.
 fn bytes_at<L: Look>(look: &mut L, page: u64, at: usize) -> Option<Bytes>
     requires readable { IsTrue (is_readable (L.page_state look.old page)) }
     requires in_page { at + 42 ≤ 512 }
@@ -189,7 +191,7 @@ fn bytes_of(payload: &[u8]) -> Option<Bytes>
     Bytes::new(bytes).ok()
 }
 
-/// The payload that encodes a value.
+/// Returns the payload that encodes a value.
 pub fn payload_of(value: &Value) -> ArrayVec<u8, 264>
     ensures payload { result.items ≡ payload value.now }
     ensures short { length result.items ≤ 256 }

@@ -1,4 +1,6 @@
-//! Writes values to a caller's places: a cell for each, and the bytes of texts one after another.
+//! Writes values to the caller's buffers.
+//!
+//! Each value gets a cell. The bytes of all strings are written one after another.
 ghost use Rattle.std.specs.Prelude.{◌≡◌, ◌+◌, ◌-◌, ◌*◌, ◌^◌, ◌<◌, ◌≤◌, ℕ, ℤ, List, [], ◌∷◌, ◌++◌};
 ghost use Rattle.std.specs.Prelude.{Ok, Err, Some, drop, length};
 ghost use Rattle.std.specs.Int.{cast_unsigned, w32, w64};
@@ -22,8 +24,8 @@ use be_pages::Look;
 use be_tree_reading::{fill_payload, payload_len_at};
 use be_value::{Kind, Name, Refusal};
 
-/// A name as a caller holds it: its length, and its bytes at the beginning of `bytes`. Nothing else
-/// is required: bytes that aren't a valid name are simply no attribute's name.
+/// A name in the caller's memory: its length, and its bytes at the beginning of `bytes`. The bytes
+/// need not form a valid name; a lookup of an invalid name simply finds no attribute.
 #[repr(C)]
 #[derive(Clone, Copy)]
 pub struct HeldName {
@@ -31,9 +33,9 @@ pub struct HeldName {
     pub bytes: [u8; 64],
 }
 
-/// The cell of a node's attribute. It has error 0, the value's type code, its number, and the
-/// offset and length of its bytes; or it has the error's number. A signed number is in two's
-/// complement.
+/// A cell for the attribute of a node. If `error` is 0, it contains the type code of the value, its
+/// number, and the offset and length of its bytes. Otherwise `error` is the number of the error.
+/// Signed numbers are in two's complement.
 #[repr(C)]
 #[derive(Clone, Copy)]
 pub struct Cell {
@@ -44,7 +46,7 @@ pub struct Cell {
     pub length: u64,
 }
 
-/// How many cells were written, and how many bytes.
+/// The number of cells and the number of bytes that were written.
 #[derive(Clone, Copy)]
 pub struct Filled {
     pub cells: usize,
@@ -52,7 +54,7 @@ pub struct Filled {
 }
 
 impl HeldName {
-    /// The name, as a caller holds it.
+    /// Returns the name in the representation used by callers.
     pub fn new(name: &Name) -> HeldName
         ensures { name_in result ≡ name.now }
     {
@@ -66,7 +68,7 @@ impl HeldName {
     }
 }
 
-/// The catalog's key of the node's attribute with this name.
+/// Returns the catalog key of the node's attribute with this name.
 pub(crate) fn held_key(node: u64, name: &HeldName) -> ArrayVec<u8, 72>
     ensures key { result.items ≡ key_in_catalog node (name_in name.now) }
 {
@@ -77,7 +79,7 @@ pub(crate) fn held_key(node: u64, name: &HeldName) -> ArrayVec<u8, 72>
     key
 }
 
-/// Writes items after those that were written before, as many as there are places.
+/// Writes as many of the items as fit after those that have already been written.
 fn put_at<T: Copy>(places: &mut [T], at: usize, items: &[T])
     ensures { (before all : List T) → length before ≡ at → places.old ≡ over before all → places.new
         ≡ over (before ++ items.now) all }
@@ -93,7 +95,7 @@ fn put_at<T: Copy>(places: &mut [T], at: usize, items: &[T])
     }
 }
 
-/// Writes one more result: its cell and its bytes.
+/// Writes the cell and the bytes of another result.
 pub(crate) fn report(
     cells: &mut [Cell],
     bytes: &mut [u8],
@@ -121,7 +123,7 @@ pub(crate) fn report(
     };
 }
 
-/// The cell of an attribute that is missing.
+/// Returns the cell for a missing attribute.
 pub(crate) fn empty_cell(why: &Refusal, offset: usize) -> Cell
     ensures { result ≡ cell_of offset (Err why.now) }
 {
@@ -134,7 +136,7 @@ pub(crate) fn empty_cell(why: &Refusal, offset: usize) -> Cell
     }
 }
 
-/// The cell of a number.
+/// Returns the cell for a number.
 fn number_cell(kind: Kind, number: u64, offset: usize) -> Cell
     ensures { result ≡ record {
       error = 0;
@@ -153,7 +155,8 @@ fn number_cell(kind: Kind, number: u64, offset: usize) -> Cell
     }
 }
 
-/// The cell of a text, whose payload begins with the kind's byte.
+/// Returns the cell for a string or raw bytes. In the payload they are preceded by the byte of the
+/// kind.
 fn data_cell(kind: Kind, payload_len: usize, offset: usize) -> Cell
     requires { 1 ≤ payload_len }
     ensures { result ≡ record {
@@ -173,7 +176,7 @@ fn data_cell(kind: Kind, payload_len: usize, offset: usize) -> Cell
     }
 }
 
-/// A signed number of four bytes, extended to eight.
+/// Sign-extends a number from four bytes to eight.
 fn widened(number: u32) -> u64
     ensures { (n : ℤ) → FitsSigned w32 n → number ≡ cast_unsigned w32 n → result
         ≡ cast_unsigned w64 n }
@@ -181,8 +184,8 @@ fn widened(number: u32) -> u64
     (number.cast_signed() as i64).cast_unsigned()
 }
 
-/// The cell of the value at this place of the catalog, if its payload encodes a value. The value's
-/// bytes begin at this offset.
+/// Returns the cell for the value of the catalog item at this offset, if its payload encodes a
+/// value. The bytes of the value will begin at `offset`.
 fn value_cell<L: Look>(look: &mut L, page: u64, at: usize, offset: usize) -> Option<Cell>
     requires item { IsReadableAt (L.page_state look.old) (L.words look.old) page at }
     ensures cell { (v : AnyValue) → IsValue v → (item_at (L.words look.old page) at).payload
@@ -208,7 +211,7 @@ fn value_cell<L: Look>(look: &mut L, page: u64, at: usize, offset: usize) -> Opt
     }
 }
 
-/// The bytes after the first one.
+/// Returns all bytes after the first.
 fn after_first(payload: &[u8]) -> &[u8]
     ensures { result.now ≡ drop 1 payload.now }
 {
@@ -218,7 +221,7 @@ fn after_first(payload: &[u8]) -> &[u8]
     }
 }
 
-/// Writes a text's cell, and the text's bytes from this place of the catalog.
+/// Writes the cell of a string or raw bytes, and copies the bytes from the catalog item.
 fn report_data<L: Look>(
     look: &mut L,
     item: (u64, usize),
@@ -248,8 +251,8 @@ fn report_data<L: Look>(
     report(cells, bytes, filled, cell, content);
 }
 
-/// Writes the value of the item at this place of the catalog. A text's bytes go from the page to
-/// the caller.
+/// Writes the value of the catalog item at this offset. The bytes of a string are copied from the
+/// page to the caller's buffer.
 pub(crate) fn report_value<L: Look>(
     look: &mut L,
     page: u64,
@@ -288,8 +291,8 @@ pub(crate) fn report_value<L: Look>(
     report_data(look, (page, at), cell, cells, bytes, filled);
 }
 
-/// The cell of the value at this place of the catalog, if its payload encodes one. Writes the
-/// value's bytes to the first places.
+/// Returns the cell for the value of the catalog item at this offset, if its payload encodes a
+/// value. Copies the bytes of the value to the beginning of the buffer.
 pub(crate) fn read_into<L: Look>(
     look: &mut L,
     page: u64,
@@ -310,7 +313,8 @@ pub(crate) fn read_into<L: Look>(
     Some(cell)
 }
 
-/// Writes the text's bytes at this place of the catalog to the first places.
+/// Copies the bytes of the string in the catalog item at this offset to the beginning of the
+/// buffer.
 fn put_payload<L: Look>(look: &mut L, page: u64, at: usize, bytes: &mut [u8])
     requires item { IsReadableAt (L.page_state look.old) (L.words look.old) page at }
     ensures bytes { bytes.new ≡ over (drop 1 (item_at (L.words look.old page) at).payload)

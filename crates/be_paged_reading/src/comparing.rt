@@ -1,9 +1,9 @@
 //! Compares values without decoding them.
 //!
-//! A decoded value has room for the longest text, whatever its kind, and each move costs that room.
-//! So a comparison reads the item itself: an integer as a number, and only a text's bytes are
-//! copied. If the caller makes a comparison ready before it tests many items, the text isn't
-//! decoded either.
+//! A decoded value has room for the longest string, whatever its kind, and every move copies all of
+//! that room. The item itself is compared instead: an integer is read as a number, and only the
+//! bytes of a string are copied. If the caller prepares the comparison before testing many items,
+//! the string isn't decoded either.
 ghost use Rattle.std.specs.Prelude.{◌≡◌, ◌+◌, ◌≤◌, ℕ, List, ◌∷◌, IfSome, Ok, IsTrue, IsUtf8};
 ghost use Rattle.std.specs.Option.{option_copied};
 ghost use Rattle.be_pages.specs.Pages.{IsUnchanged, is_readable};
@@ -25,8 +25,8 @@ use be_value::Kind;
 use be_volume::{is_true_of, literal_number};
 use std::str;
 
-/// Whether a comparison is true of the value that the payload of the item at this place encodes.
-/// `test` is the same comparison, made ready, if the caller has it.
+/// Returns `true` if the comparison is true of the value encoded in the payload of the item at this
+/// offset. If the caller has prepared the comparison, `test` is its prepared form.
 pub(crate) fn holds_at<L: Look>(
     look: &mut L,
     page: u64,
@@ -69,7 +69,8 @@ pub(crate) fn holds_at<L: Look>(
     }
 }
 
-/// Whether a comparison is true of the text after a payload's first byte.
+/// Returns `true` if the comparison is true of the string after the first byte of a payload on a
+/// page.
 fn text_holds_at<L: Look>(
     look: &mut L,
     page: u64,
@@ -92,7 +93,7 @@ fn text_holds_at<L: Look>(
     payload_holds(comparison, test, &payload)
 }
 
-/// Whether a comparison is true of the text after the first byte of these payload bytes.
+/// Returns `true` if the comparison is true of the string after the first byte of `payload`.
 fn payload_holds(comparison: &Comparison, test: Option<&TextTest<'_>>, payload: &[u8]) -> bool
     requires test { IfSome (option_copied test) (λ t. t
         ≡ (comparison.now.op, literal_of comparison.now.literal)) }
@@ -108,7 +109,7 @@ fn payload_holds(comparison: &Comparison, test: Option<&TextTest<'_>>, payload: 
     }
 }
 
-/// Whether a comparison is true of the text with these bytes.
+/// Returns `true` if the comparison is true of the string with these bytes.
 fn text_holds(comparison: &Comparison, text: &[u8]) -> bool
     ensures { IsUtf8 text.now → result
         ≡ holds_of_text comparison.now.op text.now (literal_of comparison.now.literal) }
@@ -125,7 +126,7 @@ fn text_holds(comparison: &Comparison, text: &[u8]) -> bool
     }
 }
 
-/// Whether a comparison is true of a number.
+/// Returns `true` if the comparison is true of a number.
 fn number_holds(comparison: &Comparison, n: i128) -> bool
     ensures { result ≡ holds_of_number comparison.now.op n
         (literal_number (literal_of comparison.now.literal)) }

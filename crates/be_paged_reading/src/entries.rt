@@ -11,8 +11,8 @@ use be_value::{Kind, Name};
 use std::alloc::{AllocError, Global};
 use std::cmp::Ordering;
 
-/// The place of the index with this name among the entries; the error is the place where it would
-/// be inserted.
+/// Returns the position of the index with this name among the entries. If there is none, the error
+/// is the position at which it would be inserted.
 pub fn search(entries: &[Entry], name: &Name) -> Result<usize, usize>
     ensures found { IfOk result (IsNamedAt entries.now name.now) }
     ensures absent { IfErr result (IsGapAt entries.now name.now) }
@@ -27,7 +27,7 @@ pub fn search(entries: &[Entry], name: &Name) -> Result<usize, usize>
     Err(entries.len())
 }
 
-/// The kind and the root of the index at a place.
+/// Returns the kind and the root of the index at a position.
 pub fn index_at(entries: &[Entry], at: usize) -> (Kind, u64)
     requires { at < length entries.now }
     ensures kind { (d : AnyEntry) → result.0 ≡ (slice_index_or entries.now at d).kind }
@@ -37,7 +37,7 @@ pub fn index_at(entries: &[Entry], at: usize) -> (Kind, u64)
     (entry.kind(), entry.root())
 }
 
-/// Changes the root of the index at a place.
+/// Changes the root of the index at a position.
 pub fn set_root(entries: &mut ArrayVec<Entry, 32>, at: usize, root: u64)
     requires { at < length entries.old.items }
     ensures { (d : AnyEntry) → entries.new.items
@@ -46,7 +46,7 @@ pub fn set_root(entries: &mut ArrayVec<Entry, 32>, at: usize, root: u64)
     entries[at].set_root(root);
 }
 
-/// Lists the indices' names and kinds.
+/// Lists the names and kinds of the indices.
 pub(crate) fn kinds(alloc: Global, entries: &[Entry]) -> Result<Vec<(Name, Kind)>, AllocError>
     requires named { All (λ e. IsName e.name) entries.now }
     ensures { IfOk result (λ list. list.items ≡ map (λ e. (e.name, e.kind)) entries.now) }

@@ -1,4 +1,4 @@
-//! An index as a version page has it.
+//! An index as it is stored on a version page.
 ghost use Rattle.std.specs.Prelude.{◌≡◌, ℕ, ◌+◌, ◌<◌, ◌≤◌, IsTrue, slice_index};
 ghost use Rattle.be_pages.specs.Pages.{IsUnchanged, is_readable, OnlyWrites};
 ghost use Rattle.be_pages.specs.declared.room.PageState.TheVariants.{Filled};
@@ -15,8 +15,8 @@ use std::cmp::Ordering;
 use std::marker::Model;
 use std::str;
 
-/// An index of a version. Its name is kept in eight words, as on the page. Contracts see the name's
-/// bytes, the kind and the root.
+/// An index of a version. Its name is stored in eight words, as it is on the page. Contracts see
+/// the bytes of the name, the kind and the root.
 #[derive(Drop)]
 pub struct Entry {
     len: usize,
@@ -53,7 +53,7 @@ impl Default for Entry {
     }
 }
 
-/// The kind with this number on pages.
+/// Returns the kind that has this number on pages.
 pub fn kind_numbered(number: u64) -> Kind
     requires { (1 ≤ number) × (number ≤ 7) }
     ensures { result ≡ kind_of_number number }
@@ -69,7 +69,7 @@ pub fn kind_numbered(number: u64) -> Kind
     }
 }
 
-/// A kind's number on pages.
+/// Returns the number that the kind has on pages.
 fn kind_number(kind: Kind) -> u64
     ensures number { (1 ≤ result) × (result ≤ 7) }
     ensures back { kind_of_number result ≡ kind }
@@ -77,7 +77,7 @@ fn kind_number(kind: Kind) -> u64
     u64::from(kind.number())
 }
 
-/// The eight words from this place of a page on.
+/// Returns the eight words of a page that begin at this offset.
 fn load_words<L: Look>(look: &mut L, page: u64, at: usize) -> [u64; 8]
     requires readable { IsTrue (is_readable (L.page_state look.old page)) }
     requires in_page { at + 8 ≤ 512 }
@@ -91,7 +91,7 @@ fn load_words<L: Look>(look: &mut L, page: u64, at: usize) -> [u64; 8]
     words
 }
 
-/// Writes eight words from this place on, to a page that has a filled word.
+/// Writes eight words at this offset of a page that already has a filled word.
 fn store_words<R: Room>(room: &mut R, page: u64, at: usize, words: &[u64; 8])
     requires filled { R.page_state room.old page ≡ Filled }
     requires in_page { at + 8 ≤ 512 }
@@ -105,7 +105,7 @@ fn store_words<R: Room>(room: &mut R, page: u64, at: usize, words: &[u64; 8])
 }
 
 impl Entry {
-    /// A new index with this name and kind, without pairs.
+    /// Creates an index with this name and kind, without pairs.
     pub fn new(name: &Name, kind: Kind) -> Entry
         ensures entry { result ≡ record { name = name.now; kind = kind; root = 0 } }
         ensures named { IsName name.now }
@@ -129,14 +129,14 @@ impl Entry {
         }
     }
 
-    /// The index's kind.
+    /// Returns the kind of the index.
     pub fn kind(&self) -> Kind
         ensures { result ≡ self.now.kind }
     {
         self.kind
     }
 
-    /// The root of the index's tree.
+    /// Returns the root of the index's tree.
     pub fn root(&self) -> u64
         ensures { result ≡ self.now.root }
     {
@@ -150,7 +150,7 @@ impl Entry {
         self.root = root;
     }
 
-    /// The bytes of the name.
+    /// Returns the bytes of the name.
     fn bytes(&self) -> ArrayVec<u8, 64>
         ensures { result.items ≡ self.now.name }
     {
@@ -162,8 +162,8 @@ impl Entry {
         bytes
     }
 
-    /// How the index's name compares with a name. The words after a name are zeros, so the first
-    /// word that differs decides. If none differs, the lengths decide.
+    /// Compares the index's name with `name`. Names are padded with zeros, so the first word that
+    /// differs is decisive. If no word differs, the lengths are compared.
     pub fn compare(&self, name: &Name) -> Ordering
         ensures { result ≡ name_cmp self.now.name name.now }
     {
@@ -178,7 +178,7 @@ impl Entry {
         self.len.cmp(&text.len())
     }
 
-    /// The index's name.
+    /// Returns the name of the index.
     pub fn name(&self) -> Name
         requires { IsName self.now.name }
         ensures { result ≡ self.now.name }
@@ -186,7 +186,7 @@ impl Entry {
         Name::new(str::from_utf8(&self.bytes()).unwrap()).unwrap()
     }
 
-    /// The index at this place of a version page.
+    /// Loads the index at this offset of a version page.
     #[tactic(auto, unfolding(crate::specs::Page::entry_at))]
     pub fn load<L: Look>(look: &mut L, page: u64, at: usize) -> Entry
         requires readable { IsTrue (is_readable (L.page_state look.old page)) }
@@ -207,7 +207,8 @@ impl Entry {
         }
     }
 
-    /// Writes the index to this place of a page that has a filled word. It takes eleven words.
+    /// Writes the index at this offset of a page that already has a filled word. The index takes up
+    /// eleven words.
     #[tactic(auto, unfolding(crate::specs::Page::entry_at))]
     pub fn store<R: Room>(&self, room: &mut R, page: u64, at: usize)
         requires filled { R.page_state room.old page ≡ Filled }

@@ -1,7 +1,7 @@
-//! The facts about a loaded version that decide whether an operation is refused.
+//! The facts about a loaded version that determine whether an operation is refused.
 //!
-//! A list of operations asks for the same node again and again, so the reader remembers what it
-//! found about the last node. It also remembers the first attribute that it looked up: a caller
+//! The operations in a list often concern the same node, so the reader remembers what it found
+//! about the last node. It also remembers the first attribute that it looked up, so that a caller
 //! that changes this attribute next doesn't have to look it up again.
 ghost use Rattle.std.specs.Prelude.{◌≡◌, true};
 ghost use Rattle.std.specs.FinMap as map;
@@ -22,8 +22,8 @@ use be_pages::Look;
 use be_value::Name;
 use be_volume::Facts;
 
-/// A reader of these facts. It remembers the node that it counted last, with the number of its
-/// attributes if it exists, and the first attribute that it looked up.
+/// A reader of these facts. It remembers the node whose attributes it counted last, with their
+/// number if the node exists, and the first attribute that it looked up.
 #[derive(Drop)]
 pub struct PageFacts<'a, L: Look> {
     pub look: &'a mut L,
@@ -32,7 +32,8 @@ pub struct PageFacts<'a, L: Look> {
     pub asked: &'a mut Option<Asked>,
 }
 
-/// How many attributes a node has, if it exists. A number that no node has had yet isn't looked up.
+/// Returns the number of attributes of a node, or `None` if the node doesn't exist. A number that
+/// hasn't been assigned to a node yet isn't looked up.
 fn count_anew<L: Look>(look: &mut L, version: &Version, node: u64) -> Option<usize>
     requires tree { IsTree (L.page_state look.old) (L.words look.old) version.now.catalog }
     ensures count { (volume : State) → AnswersFor (L.page_state look.old) (L.words look.old)
@@ -45,8 +46,9 @@ fn count_anew<L: Look>(look: &mut L, version: &Version, node: u64) -> Option<usi
     attribute_count(look, version.catalog, node)
 }
 
-/// The same. If this node was counted last, it returns the remembered count; otherwise it counts
-/// and remembers.
+/// Returns the number of attributes of a node, or `None` if the node doesn't exist. If this node
+/// was counted last, the remembered count is returned. Otherwise the attributes are counted and the
+/// result is remembered.
 fn count_of<L: Look>(
     look: &mut L,
     version: &Version,
@@ -73,8 +75,8 @@ fn count_of<L: Look>(
     count
 }
 
-/// Whether a node is known to have no attribute without reading pages: no node has had its number
-/// yet, or it was counted as having none.
+/// Returns `true` if it is known without reading pages that the node has no attributes: either its
+/// number hasn't been assigned yet, or its attributes were counted and there were none.
 fn is_bare(version: &Version, counted: Option<(u64, Option<usize>)>, node: u64) -> bool
     ensures { result ≡ true → (volume : State) → IsSound volume → version.now.next ≡ volume.next
         → IsCounted counted volume →

@@ -1,8 +1,8 @@
-//! Whether an index's tree has a value of the catalog.
+//! Tests whether the tree of an index contains a value from the catalog.
 //!
-//! An index has a node's attribute exactly if its tree has the attribute's key. The key of a signed
-//! 64-bit number, such as a size or a time, is made directly from the number's words. Any other
-//! value is decoded first.
+//! A node's attribute is in an index if and only if the tree of the index contains the key of the
+//! attribute. For signed 64-bit numbers, such as sizes and times, the key is built directly from
+//! the words of the number. All other values are decoded first.
 ghost use Rattle.std.specs.Prelude.{◌≡◌, ◌≤◌, ◌++◌, is_some, length};
 ghost use Rattle.std.specs.Int.{to_be_bytes, w64};
 ghost use Rattle.be_pages.specs.Pages.{IsUnchanged};
@@ -17,7 +17,8 @@ use be_pages::Look;
 use be_tree_reading::has_key;
 use be_value::{Kind, counted64, key_of};
 
-/// Whether an index's tree has a number, given by its bytes in a key, with a node.
+/// Returns `true` if the tree of an index contains the key that consists of the bytes of a number
+/// and a node.
 fn has_number<L: Look>(look: &mut L, index: u64, number: &[u8], node: u64) -> bool
     requires tree { IsTree (L.page_state look.old) (L.words look.old) index }
     requires short { length number.now ≤ 8 }
@@ -31,9 +32,9 @@ fn has_number<L: Look>(look: &mut L, index: u64, number: &[u8], node: u64) -> bo
     has_key(look, index, &key)
 }
 
-/// Whether an index's tree has the value that the item at this place encodes, with its node. It
-/// decodes the value. It is a function of its own, since it needs room for the value and for its
-/// key.
+/// Returns `true` if the tree of an index contains the key for a node and the value that the item
+/// at this offset encodes. The value is decoded. This is a separate function because it needs stack
+/// space for the value and its key.
 #[inline(never)]
 fn any_is_indexed_at<L: Look>(look: &mut L, index: u64, page: u64, at: usize, node: u64) -> bool
     requires tree { IsTree (L.page_state look.old) (L.words look.old) index }
@@ -49,7 +50,8 @@ fn any_is_indexed_at<L: Look>(look: &mut L, index: u64, page: u64, at: usize, no
     }
 }
 
-/// Whether an index's tree has the value that the item at this place encodes, with its node.
+/// Returns `true` if the tree of an index contains the key for a node and the value that the item
+/// at this offset encodes.
 pub(crate) fn is_indexed_at<L: Look>(
     look: &mut L,
     index: u64,

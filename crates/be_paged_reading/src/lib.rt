@@ -1,15 +1,17 @@
 //! Reads a volume that is stored in pages.
 //!
 //! # Versions
-//! A version of a volume is one page. It has the next node number and the root of the catalog's
-//! tree, and for each index its name, its kind and its tree's root. The catalog has a pair for each
-//! node and one for each attribute; an index has a pair for each node that is in it. All calls read
-//! through `Look`, so they work on a pool in memory and on a shared table alike.
 //!
-//! # What a page says
+//! A version of a volume is a single page. It contains the next node number, the root of the
+//! catalog tree, and for each index its name, its kind and the root of its tree. The catalog has a
+//! pair for each node and a pair for each attribute; an index has a pair for each node in it. All
+//! calls read through `Look`, so they work both on a pool in memory and on a shared table.
+//!
+//! # What a page encodes
+//!
 //! The relation `IsVersion` says that a page encodes a volume: the pairs in its trees are exactly
-//! the volume's nodes, attributes and index keys. A reader can't compute that volume, so a contract
-//! speaks of every volume that the page encodes. be_paged writes versions.
+//! the nodes, attributes and index keys of the volume. A reader can't compute that volume, so
+//! contracts are stated for every volume that the page encodes. Versions are written by be_paged.
 #![tactic(auto)]
 
 mod asked;

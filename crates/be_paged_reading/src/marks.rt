@@ -1,9 +1,10 @@
-//! Walks over the catalog's nodes.
+//! Walks over the nodes in the catalog.
 //!
-//! A node's mark is a key of only its eight bytes, and its attributes follow with longer keys. So a
-//! walk from a node's key on meets marks and attributes, and an item's first word says which it is.
-//! The walk steps over attributes: a step reads two words, a descent to the next mark several
-//! dozen. A node has at most 64 attributes to step over.
+//! The key of a node's mark consists only of the node's eight bytes. The keys of its attributes
+//! follow and are longer. A walk that starts at the key of a node visits both marks and attributes,
+//! and the first word of an item distinguishes them. The walk steps over attributes, of which a
+//! node has at most 64: each step reads two words, whereas a descent to the next mark would read
+//! several dozen.
 ghost use Rattle.std.specs.Prelude.{◌≡◌, ◌∷◌, ◌+◌, ◌≤◌, [], IsTrue, IfNone, IfOk, IfSome, false};
 ghost use Rattle.std.specs.Prelude.{take, true};
 ghost use Rattle.std.specs.Int.{from_be_bytes, to_be_bytes, w64};
@@ -18,8 +19,8 @@ use be_pages::Look;
 use be_tree_reading::{Cursor, LENGTH_BITS};
 use std::alloc::{AllocError, Global};
 
-/// The node whose mark is the item at this place of the catalog, if it is a mark. The first word
-/// decides that, and the second is the node.
+/// Returns the node whose mark is the catalog item at this offset, or `None` if the item isn't a
+/// mark. The first word of the item determines that, and the second word is the node.
 fn mark_at<L: Look>(look: &mut L, page: u64, at: usize) -> Option<u64>
     requires readable { IsTrue (is_readable (L.page_state look.old page)) }
     requires in_page { at + 42 ≤ 512 }
@@ -37,7 +38,8 @@ fn mark_at<L: Look>(look: &mut L, page: u64, at: usize) -> Option<u64>
     Some(look.word(page, at + 1))
 }
 
-/// The node of the next mark; the cursor steps past it. None if no mark is left.
+/// Advances the cursor past the next mark and returns the mark's node. Returns `None` if no mark is
+/// left.
 fn next_mark<L: Look>(look: &mut L, cursor: &mut Cursor) -> Option<u64>
     requires cursor { IsCursor (L.page_state look.old) (L.words look.old) cursor.old }
     ensures none { IfNone result (marked (remaining (L.words look.old) cursor.old) ≡ []) }
@@ -54,7 +56,7 @@ fn next_mark<L: Look>(look: &mut L, cursor: &mut Cursor) -> Option<u64>
     None
 }
 
-/// Lists the nodes of up to `most` marks, from this node's mark on.
+/// Lists the nodes of up to `most` marks, starting with the mark of `from`.
 pub(crate) fn list_nodes<L: Look>(
     alloc: Global,
     look: &mut L,

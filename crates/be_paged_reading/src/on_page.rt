@@ -1,9 +1,10 @@
 //! Finds indices directly on a version page.
 //!
-//! A caller that needs one or two indices by name doesn't load a whole version, which has room for
-//! all 32. Names are compared on the page, and usually their first words already differ. They
-//! ascend, so a search among 32 indices looks at no more than six. Most callers ask for the same
-//! name again, so the last index found is kept, and its name is compared first.
+//! A caller that needs one or two indices by name doesn't load the whole version, which has room
+//! for 32 of them. Names are compared on the page, and usually their first words already differ.
+//! The indices are in ascending order of their names, so a search examines at most six of them.
+//! Most callers request the same name repeatedly, so the last index found is remembered, and its
+//! name is compared first.
 ghost use Rattle.std.specs.Prelude.{◌≡◌, ◌+◌, ◌<◌, ◌≤◌, IsTrue, length, map, slice_index};
 ghost use Rattle.std.specs.Prelude.{slice_index_or, true};
 ghost use Rattle.std.specs.Int.{to_be_bytes, w64};
@@ -22,7 +23,7 @@ use be_tree_reading::word_from;
 use be_value::{Kind, Name};
 use std::cmp::Ordering;
 
-/// An index on a version page: its number among the indices, its kind and its tree's root.
+/// An index on a version page: its position among the indices, its kind and the root of its tree.
 #[derive(Clone, Copy)]
 pub(crate) struct FoundIndex {
     pub(crate) place: usize,
@@ -33,8 +34,8 @@ pub(crate) struct FoundIndex {
 /// The last index found, if there is one.
 pub(crate) type Known = Option<FoundIndex>;
 
-/// The index with this name on a version page, if there is one. Compares the name of the last index
-/// found first.
+/// Returns the index with this name on a version page, if there is one. The name of the last index
+/// found is compared first.
 #[inline(always)]
 pub(crate) fn known_index<L: Look>(look: &mut L, page: u64, name: &Name, known: &mut Known) -> Known
     requires version { HasVersion L.page_state L.words look.old page }
@@ -52,7 +53,7 @@ pub(crate) fn known_index<L: Look>(look: &mut L, page: u64, name: &Name, known: 
     find_to_know(look, page, name, known)
 }
 
-/// The index at this number on a version page, if there is one.
+/// Returns the index at this position on a version page, if there is one.
 pub(crate) fn index_there<L: Look>(look: &mut L, page: u64, place: usize) -> Option<FoundIndex>
     requires version { HasVersion L.page_state L.words look.old page }
     ensures known { IsKnown (contents_of (L.words look.new page)).entries result }
@@ -65,7 +66,7 @@ pub(crate) fn index_there<L: Look>(look: &mut L, page: u64, place: usize) -> Opt
     Some(index_at(look, page, place))
 }
 
-/// Finds the index with this name, and keeps it for the next call.
+/// Finds the index with this name and remembers it for the next call.
 #[inline(never)]
 fn find_to_know<L: Look>(look: &mut L, page: u64, name: &Name, known: &mut Known) -> Known
     requires version { HasVersion L.page_state L.words look.old page }
@@ -78,7 +79,7 @@ fn find_to_know<L: Look>(look: &mut L, page: u64, name: &Name, known: &mut Known
     index
 }
 
-/// Whether the index at this number on a version page has this name.
+/// Returns `true` if the index at this position on a version page has this name.
 fn is_named<L: Look>(look: &mut L, page: u64, i: usize, name: &Name) -> bool
     requires version { HasVersion L.page_state L.words look.old page }
     requires in_range { i < length (contents_of (L.words look.old page)).entries }
@@ -94,8 +95,8 @@ fn is_named<L: Look>(look: &mut L, page: u64, i: usize, name: &Name) -> bool
     }
 }
 
-/// The index with this name on a version page, if there is one. For most indices that the search
-/// passes it reads one word.
+/// Finds the index with this name on a version page, if there is one. For most of the indices that
+/// the search examines, only one word is read.
 pub(crate) fn find_index<L: Look>(look: &mut L, page: u64, name: &Name) -> Option<FoundIndex>
     requires version { HasVersion L.page_state L.words look.old page }
     ensures found { IsFound (contents_of (L.words look.new page)).entries name.now result }
@@ -116,7 +117,7 @@ pub(crate) fn find_index<L: Look>(look: &mut L, page: u64, name: &Name) -> Optio
     None
 }
 
-/// The middle of the places from `low` on and before `high`.
+/// Returns the middle of the positions from `low` up to, but not including, `high`.
 fn middle(low: usize, high: usize) -> usize
     requires { low < high }
     ensures { (low ≤ result) × (result < high) }
@@ -124,9 +125,9 @@ fn middle(low: usize, high: usize) -> usize
     low + (high - low) / 2
 }
 
-/// How the name of the index at this place of a page compares with a name whose first word is
-/// `first`. The words after a name are zeros, so the first word that differs decides. If none
-/// differs, the lengths decide.
+/// Compares the name of the index at this offset of a page with `name`, whose first word is
+/// `first`. Names are padded with zeros, so the first word that differs is decisive. If no word
+/// differs, the lengths are compared.
 fn compare_at<L: Look>(look: &mut L, page: u64, at: usize, name: &[u8], first: u64) -> Ordering
     requires readable { IsTrue (is_readable (L.page_state look.old page)) }
     requires in_page { at + 11 ≤ 512 }
@@ -152,7 +153,7 @@ fn compare_at<L: Look>(look: &mut L, page: u64, at: usize, name: &[u8], first: u
     len.cmp(&name.len())
 }
 
-/// The index at this number on a version page.
+/// Returns the index at this position on a version page.
 fn index_at<L: Look>(look: &mut L, page: u64, i: usize) -> FoundIndex
     requires readable { IsTrue (is_readable (L.page_state look.old page)) }
     requires page { IsVersionPage (L.words look.old page) }

@@ -1,10 +1,10 @@
 //! A version as an index reader for queries.
 //!
-//! A walk over an index asks for one key after another. So the reader keeps a cursor in the tree
-//! that it walked last, and the place of the last key that it returned. If the next key is asked
-//! for from that very key, it continues there, without a descent. It reads the nodes in a range
-//! leaf by leaf, and tests texts there too, without unpacking keys. A query asks for the same index
-//! again and again, so the reader keeps the last index found.
+//! A walk over an index requests one key after another, so the reader keeps a cursor in the tree
+//! that it walked last, and the location of the last key that it returned. A request for the key
+//! after that one continues from the cursor without a descent. The nodes in a range are read leaf
+//! by leaf, and strings are tested the same way, without unpacking keys. A query uses the same
+//! index repeatedly, so the reader remembers the last index that it found.
 ghost use Rattle.std.specs.Prelude.{◌≡◌, true, IfErr, IfOk, OnOk};
 ghost use Rattle.be_pages.specs.Pages.{IsUnchanged};
 ghost use Rattle.be_plan.specs.KeyTests.{reads_texts};
@@ -32,11 +32,11 @@ use be_tree_reading::{
 };
 use be_value::{Kind, Name, Refusal, Value};
 
-/// A place that no index has.
+/// A position at which there is no index.
 const NOWHERE: usize = 32;
 
-/// An index reader of one version, by its page and a page reader. It takes no memory beyond its
-/// own.
+/// An index reader for one version, consisting of the page of the version and a page reader. It
+/// uses no other memory.
 #[derive(Drop)]
 pub struct PagedSource<L> {
     look: L,
@@ -47,14 +47,14 @@ pub struct PagedSource<L> {
     last: (u64, usize),
 }
 
-/// Whether the keys of an index of this kind have texts.
+/// Returns `true` if the keys of an index of this kind contain strings.
 fn has_texts(kind: Kind) -> bool
     ensures { result ≡ true → kind ≡ Cstr }
 {
     kind == Kind::Cstr
 }
 
-/// Whether the keys of an index of this kind have what the test reads.
+/// Returns `true` if the keys of an index of this kind contain what the test reads.
 fn is_testable(kind: Kind, test: KeyTest<'_, '_>) -> bool
     ensures { result ≡ true → reads_texts test.entry ≡ true → kind ≡ Cstr }
 {
@@ -64,8 +64,8 @@ fn is_testable(kind: Kind, test: KeyTest<'_, '_>) -> bool
     }
 }
 
-/// About how many keys a tree has. A page has 6 to 12 items; the estimate is eight for each page
-/// below the root.
+/// Estimates the number of keys in a tree. A page contains 6 to 12 items; the estimate assumes
+/// eight for every page below the root.
 fn about_keys<L: Look>(look: &mut L, root: u64) -> u64
     requires tree { IsTree (L.page_state look.old) (L.words look.old) root }
     ensures unchanged { IsUnchanged L.kept L.page_state L.words look.old look.new }
@@ -78,8 +78,8 @@ fn about_keys<L: Look>(look: &mut L, root: u64) -> u64
     count.saturating_mul(8u64.saturating_pow(level.min(32) as u32))
 }
 
-/// An index reader for the version at this page. It reads nothing yet, and keeps the page reader
-/// until `into_look`.
+/// Creates an index reader for the version on this page. Nothing is read yet. The reader holds the
+/// page reader until `into_look` is called.
 pub fn source<L: Look>(look: L, version_page: u64) -> PagedSource<L>
     requires version { HasVersion L.page_state L.words look version_page }
     ensures answers { (volume : State)
@@ -99,7 +99,7 @@ pub fn source<L: Look>(look: L, version_page: u64) -> PagedSource<L>
 }
 
 impl<L: Look> PagedSource<L> {
-    /// Gives the page reader back, with the facts that it had.
+    /// Returns the page reader, for which all facts still hold.
     pub fn into_look(self) -> L
         ensures look { (L.kept result, (L.page_state result, L.words result))
             ≡ ⟦<PagedSource<L> as Source>⟧.kept self }
@@ -107,8 +107,8 @@ impl<L: Look> PagedSource<L> {
         self.look
     }
 
-    /// Moves the cursor to before the lowest key of an index at `from` or after it, or strictly
-    /// after it. If the cursor is just past that very key, it stays.
+    /// Moves the cursor to just before the first key of an index that is at or after `from`, or
+    /// strictly after it. If the cursor is already just past `from`, it isn't moved.
     fn walk_to(&mut self, index: FoundIndex, from: &[u8], after: bool)
         requires index { IsIndexOf (contents_of (L.words self.old.look self.old.page)).entries
             index }
@@ -133,8 +133,8 @@ impl<L: Look> PagedSource<L> {
         self.cursor.seek(&mut self.look, index.root, from, after);
     }
 
-    /// Walks the index with this name along a way, and adds the number at the end of each key, in
-    /// that order, up to `most`. Without an index it adds nothing.
+    /// Walks along a way over the index with this name, and adds the numbers at the end of the
+    /// first `most` keys, in the order of the walk. Adds nothing if there is no such index.
     pub fn numbers_in_order(
         &mut self,
         name: &Name,
@@ -158,10 +158,10 @@ impl<L: Look> PagedSource<L> {
         Ok(())
     }
 
-    /// Walks the index with this name along a way, and tests its keys. It replaces the list by the
-    /// nodes of the first keys that pass, in that order, up to `most`, and returns true. It returns
-    /// false if there is no index, or if the test reads texts and the index has none; the list then
-    /// stays as it was.
+    /// Walks along a way over the index with this name and tests its keys. Replaces the content of
+    /// the list with the nodes of the first `most` keys that pass, in the order of the walk, and
+    /// returns `true`. If there is no such index, or if the test reads strings and the index has
+    /// none, it returns `false` and leaves the list unchanged.
     pub fn passing_in_order(
         &mut self,
         name: &Name,
@@ -189,8 +189,8 @@ impl<L: Look> PagedSource<L> {
         Ok(true)
     }
 
-    /// About how many keys the index with this name has in a range. It costs two descents, and is
-    /// exact for a range within one leaf.
+    /// Estimates the number of keys in a range of the index with this name. It costs two descents,
+    /// and is exact if the range is within one leaf.
     pub fn about_within(&mut self, keys: KeyRange<'_>) -> u64
         requires { (volume : State) × ⟦<PagedSource<L> as Source>⟧.answers_for self.old volume }
         ensures stays { ⟦<PagedSource<L> as Source>⟧.kept self.new
@@ -268,7 +268,8 @@ impl<L: Look> Source for PagedSource<L> {
         }
     }
 
-    // Not inlined, so that a caller that only asks for values has room for only one.
+    // This isn't inlined, so that a caller that reads several values needs stack space for only
+    // one.
     #[inline(never)]
     fn value(&mut self, node: u64, name: &Name) -> Option<Value> {
         get(&mut self.look, self.page, node, name)

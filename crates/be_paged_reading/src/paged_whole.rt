@@ -1,8 +1,8 @@
 //! Reads a whole version, from which be_volume_state rebuilds a volume.
 //!
-//! It remembers nothing that it read. To learn whether an index has a node, it looks up the key of
-//! the node's attribute in the index's tree. A pair of an index is always that of its node's
-//! attribute.
+//! The reader remembers nothing that it has read. To determine whether an index contains a node, it
+//! looks up the key of the node's attribute in the tree of the index. That is enough because every
+//! pair in an index belongs to an attribute.
 ghost use Rattle.std.specs.Prelude.{◌≡◌, IfOk, None, true};
 ghost use Rattle.std.specs.FinMap as map;
 ghost use Rattle.std.specs.Option.{option_map};
@@ -22,7 +22,7 @@ use be_value::{Kind, Name, Refusal, Value, key_of};
 use be_volume_state::Whole;
 use std::alloc::{AllocError, Global};
 
-/// A reader of one whole version, by its page and a page reader.
+/// A reader for one whole version, consisting of the page of the version and a page reader.
 #[derive(Drop)]
 pub struct PagedWhole<L> {
     alloc: Global,
@@ -30,8 +30,8 @@ pub struct PagedWhole<L> {
     page: u64,
 }
 
-/// A reader of the whole version at this page. It reads nothing yet, and keeps the page reader
-/// until `into_look`.
+/// Creates a reader for the whole version on this page. Nothing is read yet. The reader holds the
+/// page reader until `into_look` is called.
 pub fn whole<L: Look>(alloc: Global, look: L, version_page: u64) -> PagedWhole<L>
     requires version { HasVersion L.page_state L.words look version_page }
     ensures answers { (volume : State)
@@ -48,7 +48,7 @@ pub fn whole<L: Look>(alloc: Global, look: L, version_page: u64) -> PagedWhole<L
 }
 
 impl<L: Look> PagedWhole<L> {
-    /// Gives the page reader back, with the facts that it had.
+    /// Returns the page reader, for which all facts still hold.
     pub fn into_look(self) -> L
         ensures look { (L.kept result, (L.page_state result, L.words result))
             ≡ ⟦<PagedWhole<L> as Whole>⟧.kept self }
@@ -86,8 +86,8 @@ impl<L: Look> Whole for PagedWhole<L> {
     }
 }
 
-/// A node's attributes, in ascending order of their names' bytes, or None if the node doesn't
-/// exist.
+/// Returns a node's attributes in bytewise ascending order of their names, or `None` if the node
+/// doesn't exist.
 fn attrs_of<L: Look>(
     alloc: Global,
     look: &mut L,
@@ -107,7 +107,8 @@ fn attrs_of<L: Look>(
     }
 }
 
-/// None if the node doesn't exist; every other error is OutOfMemory.
+/// Returns `Ok(None)` if the error says that the node doesn't exist. Any other error means that
+/// memory ran out.
 fn none_for(refusal: Refusal) -> Result<Option<Vec<(Name, Value)>>, AllocError>
     ensures { IfOk result (λ list. (option_map (λ l. l.items) list ≡ None) × (refusal ≡ NoNode)) }
 {
@@ -117,7 +118,7 @@ fn none_for(refusal: Refusal) -> Result<Option<Vec<(Name, Value)>>, AllocError>
     }
 }
 
-/// The indices' names and kinds, in ascending order of the names' bytes.
+/// Returns the names and kinds of the indices, in bytewise ascending order of the names.
 fn kinds_of<L: Look>(
     alloc: Global,
     look: &mut L,
@@ -135,7 +136,8 @@ fn kinds_of<L: Look>(
     }
 }
 
-/// Whether the index with this name has a key; false if there is no index.
+/// Returns `true` if the index with this name contains a key, and `false` if there is no such
+/// index.
 fn has_pair<L: Look>(look: &mut L, version_page: u64, name: &Name, key: &[u8]) -> bool
     requires version { HasVersion L.page_state L.words look.old version_page }
     ensures found { (volume : State) → IsVersion (L.page_state look.old) (L.words look.old)
@@ -152,7 +154,8 @@ fn has_pair<L: Look>(look: &mut L, version_page: u64, name: &Name, key: &[u8]) -
     }
 }
 
-/// Whether the index with this name has a node, that is, the key of the node's attribute.
+/// Returns `true` if the index with this name contains a node, which means that it contains the key
+/// of the node's attribute.
 fn index_has<L: Look>(look: &mut L, version_page: u64, node: u64, name: &Name) -> bool
     requires version { HasVersion L.page_state L.words look.old version_page }
     ensures held { (volume : State) → IsVersion (L.page_state look.old) (L.words look.old)

@@ -1,6 +1,6 @@
-//! Tests an index's keys on a walk in their order or in reverse.
+//! Tests the keys of an index in a walk that goes forward or backward.
 //!
-//! The walk goes leaf by leaf. It compares each key with the end of the way, and tests it on its
+//! The walk proceeds leaf by leaf. Each key is compared with the end of the way and tested on its
 //! page, until enough keys have passed or the way ends.
 ghost use Rattle.std.specs.Prelude.{◌≡◌, ◌+◌, ◌≤◌, ◌++◌, ℕ, List, [], IfOk, IsTrue, OnOk};
 ghost use Rattle.std.specs.Prelude.{false, length, take, true};
@@ -21,7 +21,7 @@ use be_plan::KeyTest;
 use be_tree_reading::{Leaf, Walk, Way, first_of_end, is_within, number_at};
 use std::alloc::AllocError;
 
-/// Adds the node of the key at this place of a page, if the key passes the test.
+/// Adds the node of the key at this offset of a page if the key passes the test.
 #[inline(always)]
 fn pick_item<L: Look>(
     look: &mut L,
@@ -52,7 +52,7 @@ fn pick_item<L: Look>(
     }
 }
 
-/// Whether no key can be past the end of a way.
+/// Returns `true` if no key can be past the end of the way.
 fn is_endless(way: Way<'_>) -> bool
     ensures { result ≡ true → (key : List ℕ) → is_on_way way.entry key ≡ true }
 {
@@ -65,8 +65,8 @@ fn is_endless(way: Way<'_>) -> bool
     }
 }
 
-/// Whether the key of the item at this place isn't past the end of a way. `first` is the first word
-/// of that end. If the way is endless, it compares no key.
+/// Returns `true` if the key of the item at this offset isn't past the end of the way. `first` is
+/// the first word of that end. If the way has no end, the key isn't compared.
 #[inline(always)]
 fn is_ahead<L: Look>(
     look: &mut L,
@@ -87,9 +87,9 @@ fn is_ahead<L: Look>(
     endless || is_within(look, page, at, way, first)
 }
 
-/// Tests the keys that a walk has ahead in a leaf, in the walk's order. Adds the nodes of those
-/// that pass, until the list has `most`. Returns whether the walk ends in this leaf: the list is
-/// full, or a key is past the end of the way.
+/// Tests the keys of a leaf that are ahead of the walk, in the order of the walk, and adds the
+/// nodes of those that pass until the list contains `most`. Returns `true` if the walk ends in this
+/// leaf because the list is full or a key is past the end of the way.
 fn pick_ahead<L: Look>(
     look: &mut L,
     leaf: Leaf,
@@ -130,8 +130,8 @@ fn pick_ahead<L: Look>(
     Ok(false)
 }
 
-/// Tests the keys that a walk has ahead, up to the end of the way. Fills an empty list with the
-/// nodes of those that pass, up to `most`.
+/// Tests the keys ahead of the walk, up to the end of the way. Fills an empty list with the nodes
+/// of the first `most` keys that pass.
 fn pick_all<L: Look>(
     look: &mut L,
     walk: &mut Walk,
@@ -159,9 +159,9 @@ fn pick_all<L: Look>(
     Ok(())
 }
 
-/// Walks an index along a way, and tests its keys. It replaces the list by the nodes of the first
-/// keys that pass, in that order, up to `most`. It costs one descent. For each key that the walk
-/// passes, it reads what the test needs.
+/// Walks along a way over an index and tests its keys. Replaces the content of the list with the
+/// nodes of the first `most` keys that pass, in the order of the walk. It costs one descent. For
+/// each key that the walk visits, it reads what the test needs.
 pub(crate) fn passing_in_order<L: Look>(
     look: &mut L,
     root: u64,

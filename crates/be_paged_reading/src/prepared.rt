@@ -1,8 +1,8 @@
 //! Runs prepared queries on a version.
 //!
-//! A prepared query's index is usually where it was at the last call, so its name is compared there
-//! first. Its range is ready, and the nodes of the keys in it are the answer. So it needs neither a
-//! plan nor an index reader.
+//! The index for a prepared query is usually at the same position as in the last call, so the name
+//! there is compared first. The range is already computed, and the nodes of its keys are the
+//! answer, so neither a plan nor an index reader is needed.
 ghost use Rattle.std.specs.Prelude.{◌≡◌, ◌<◌, List, ℕ, true, Ok, Some, IfOk, IfErr, IfSome, OnOk};
 ghost use Rattle.std.specs.Option.{option_copied};
 ghost use Rattle.std.specs.List.Sorted.{IsStrictlyIncreasing};
@@ -22,8 +22,8 @@ use be_tree_reading::numbers_within;
 use be_value::Refusal;
 use std::alloc::Global;
 
-/// The index of the one name that all the query's comparisons are on, if there is such a name and
-/// it has an index. Prepares the query's range for that index's kind.
+/// Returns the index of the name that all comparisons in the query are on, if there is such a name
+/// and it has an index. Prepares the query's range for the kind of that index.
 #[inline(always)]
 fn meet_index<L: Look>(
     look: &mut L,
@@ -47,7 +47,7 @@ fn meet_index<L: Look>(
     Some(index)
 }
 
-/// Adds the node of each key in the range. The index was found by the range's name.
+/// Adds the node of each key in the range. `index` is the index with the range's name.
 fn nodes_of<L: Look>(
     look: &mut L,
     version_page: u64,
@@ -73,10 +73,11 @@ fn nodes_of<L: Look>(
     Ok(())
 }
 
-/// If a range of one index decides a prepared query, this replaces the list by the nodes that
-/// satisfy the query, ascending, and returns true. Otherwise it returns false, and the caller runs
-/// the query with a plan. It compares the index's name where the index was last, and makes one
-/// descent. After false or `OutOfMemory` the list may have any numbers.
+/// If a range of one index decides the prepared query, this function replaces the content of the
+/// list with the nodes that satisfy the query, in ascending order, and returns `true`. Otherwise it
+/// returns `false`, and the caller has to run the query with a plan. The search for the index
+/// starts where it was found last, and the answer costs one descent. If it returns `false` or
+/// `OutOfMemory`, the content of the list is unspecified.
 #[inline(always)]
 pub fn answer_decided<L: Look>(
     alloc: Global,

@@ -36,8 +36,8 @@ use be_tree_reading::{find_place, has_key};
 use be_value::{Kind, Name, Refusal, Value};
 use std::alloc::Global;
 
-/// The page and place of a node's attribute in the catalog's tree, if the node has it. It costs one
-/// descent.
+/// Returns the page and offset of a node's attribute in the catalog tree, if the node has it. It
+/// costs one descent.
 pub(crate) fn attribute_place<L: Look>(
     look: &mut L,
     catalog: u64,
@@ -54,7 +54,8 @@ pub(crate) fn attribute_place<L: Look>(
     find_place(look, catalog, &catalog_key(node, name))
 }
 
-/// The place of the item with this key: the known place, or the one that a look-up finds.
+/// Returns the location of the item with this key. A known location is returned as it is; otherwise
+/// the key is looked up.
 #[inline(always)]
 fn place_of<L: Look>(
     look: &mut L,
@@ -74,8 +75,8 @@ fn place_of<L: Look>(
     }
 }
 
-/// A node's value at a name, from the catalog's tree. It makes no descent if the caller knows
-/// whether the attribute exists, and its place.
+/// Returns a node's value for a name from the catalog tree. If the caller knows whether the
+/// attribute exists and where it is, no descent is made.
 #[inline(always)]
 pub fn value_in<L: Look>(
     look: &mut L,
@@ -96,9 +97,10 @@ pub fn value_in<L: Look>(
     value_at(look, page, at)
 }
 
-/// Whether a comparison is true of what it sees of a node. It sees the node's value at its name if
-/// no index has that name, or if its index has the value. The value is compared on its page, with
-/// `test` if the caller has made the comparison ready. The last index found is tried first.
+/// Returns `true` if a comparison is true of the value that it sees for a node. It sees the node's
+/// value for its name if no index has that name, or if the index contains that value. The value is
+/// compared on its page, using `test` if the caller has prepared the comparison. The last index
+/// found is tried first.
 pub(crate) fn holds_in<L: Look>(
     look: &mut L,
     version_page: u64,
@@ -132,7 +134,7 @@ pub(crate) fn holds_in<L: Look>(
     }
 }
 
-/// The number of the next new node. It costs one load.
+/// Returns the number of the next new node. It costs one load.
 pub fn next<L: Look>(look: &mut L, version_page: u64) -> u64
     requires version { HasVersion L.page_state L.words look.old version_page }
     ensures next { (volume : State) → IsVersion (L.page_state look.old) (L.words look.old)
@@ -142,8 +144,8 @@ pub fn next<L: Look>(look: &mut L, version_page: u64) -> u64
     look.word(version_page, 2)
 }
 
-/// An attribute's value, if the node exists and has it. It costs one descent of the catalog's tree,
-/// and takes no memory.
+/// Returns the value of an attribute, if the node exists and has it. It costs one descent of the
+/// catalog tree and allocates no memory.
 #[inline(always)]
 pub fn get<L: Look>(look: &mut L, version_page: u64, node: u64, name: &Name) -> Option<Value>
     requires version { HasVersion L.page_state L.words look.old version_page }
@@ -155,9 +157,9 @@ pub fn get<L: Look>(look: &mut L, version_page: u64, node: u64, name: &Name) -> 
     value_in(look, catalog, node, name, None)
 }
 
-/// A node's attributes, in ascending order of their names' bytes. It returns NoNode if the node
-/// doesn't exist, and OutOfMemory only if it does. It walks over the node's pairs in the catalog's
-/// tree.
+/// Returns a node's attributes, in bytewise ascending order of their names. Returns `NoNode` if the
+/// node doesn't exist, and `OutOfMemory` only if it does. It walks over the node's pairs in the
+/// catalog tree.
 pub fn attrs<L: Look>(
     alloc: Global,
     look: &mut L,
@@ -180,8 +182,8 @@ pub fn attrs<L: Look>(
     Ok(list_attributes(alloc, look, catalog, node)?)
 }
 
-/// The indices' names and kinds, in ascending order of the names' bytes. The only error is
-/// OutOfMemory. It reads only the version page.
+/// Returns the names and kinds of the indices, in bytewise ascending order of the names. The only
+/// error is `OutOfMemory`. Only the version page is read.
 pub fn indices<L: Look>(
     alloc: Global,
     look: &mut L,
@@ -198,9 +200,9 @@ pub fn indices<L: Look>(
     Ok(kinds(alloc, &version.entries)?)
 }
 
-/// Up to `most` nodes from a number on, in ascending order. The only error is OutOfMemory. It costs
-/// one descent of the catalog's tree, and a step for each node that it returns and for each of
-/// their attributes.
+/// Returns up to `most` nodes with a number of `from` or above, in ascending order. The only error
+/// is `OutOfMemory`. It costs one descent of the catalog tree, plus one step for each node returned
+/// and for each attribute of these nodes.
 pub fn nodes<L: Look>(
     alloc: Global,
     look: &mut L,

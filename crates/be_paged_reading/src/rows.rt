@@ -1,9 +1,9 @@
-//! Reads many attributes in one call: the values of several nodes at several names.
+//! Reads many attributes in one call: the values of several nodes for several names.
 //!
-//! A row is what one node has at the names. One descent leads to the first of its attributes. A
-//! cursor steps to the next name's attribute as long as the names are neighbours, in ascending
-//! order of their bytes. Any other name costs a descent. If a node has none of the names, the node
-//! itself is looked up.
+//! A row consists of a node's values for these names. One descent leads to the first of its
+//! attributes. As long as the names are adjacent in the catalog, in bytewise ascending order, the
+//! cursor steps to the attribute for the next name. Any other name costs a descent. If a node has
+//! none of the names, the node itself is looked up.
 ghost use Rattle.std.specs.Prelude.{◌≡◌, ◌+◌, ◌*◌, ◌^◌, ◌<◌, ◌≤◌, ℕ, [], ◌∷◌, Err};
 ghost use Rattle.std.specs.Prelude.{None, Some, IfSome, IfNone, drop, length, map as each};
 ghost use Rattle.std.specs.Prelude.{slice_get};
@@ -31,11 +31,11 @@ use be_pages::Look;
 use be_tree_reading::{Cursor, find_place, has_key, is_key_at};
 use be_value::Refusal;
 
-/// An item's page and place, if there is one.
+/// The page and offset of an item, if there is one.
 type FoundItem = Option<(u64, usize)>;
 
-/// A node whose attributes are read one after another: where the cursor is, and whether the node
-/// exists, if that was asked.
+/// A node whose attributes are read one after another: the position of the cursor, and whether the
+/// node exists, if that is known.
 #[derive(Drop)]
 struct Row {
     catalog: u64,
@@ -45,7 +45,7 @@ struct Row {
 }
 
 impl Row {
-    /// A row that nothing was read from yet.
+    /// Creates a row from which nothing has been read yet.
     fn new(catalog: u64, node: u64) -> Row
         ensures row { (page_state : ℕ → AnyPageState) (words : ℕ → ℕ → ℕ)
             → IsTree page_state words catalog
@@ -62,7 +62,7 @@ impl Row {
     }
 }
 
-/// Steps the cursor, and returns the place of the item that it passed if the item has this key.
+/// Advances the cursor past an item, and returns the location of the item if it has this key.
 fn step_to<L: Look>(look: &mut L, cursor: &mut Cursor, key: &[u8]) -> Option<(u64, usize)>
     requires cursor { IsCursor (L.page_state look.old) (L.words look.old) cursor.old }
     ensures item { IfSome result (λ at. IsReadableAt (L.page_state look.old) (L.words look.old) at.0
@@ -84,8 +84,8 @@ fn step_to<L: Look>(look: &mut L, cursor: &mut Cursor, key: &[u8]) -> Option<(u6
     Some((page, at))
 }
 
-/// The place of the catalog's item with this key, if there is one: at the cursor, or where a
-/// descent leads. The cursor is then past it.
+/// Returns the location of the catalog item with this key, if there is one. The item at the cursor
+/// is tried first; if it has another key, a descent follows. The cursor is left just past the item.
 fn next_place<L: Look>(
     look: &mut L,
     catalog: u64,
@@ -105,7 +105,8 @@ fn next_place<L: Look>(
     step_to(look, cursor, key)
 }
 
-/// The place of a node's value at a name, if the node has it, found as `next_place` does.
+/// Returns the location of a node's value for a name, if the node has it. It searches in the same
+/// way as `next_place`.
 fn value_place<L: Look>(
     look: &mut L,
     catalog: u64,
@@ -129,7 +130,7 @@ fn value_place<L: Look>(
     next_place(look, catalog, cursor, &key)
 }
 
-/// Whether the node exists. A row looks it up only once.
+/// Returns `true` if the node exists. It is looked up only once per row.
 fn is_there<L: Look>(look: &mut L, catalog: u64, node: u64, known: &mut Option<bool>) -> bool
     requires tree { IsTree (L.page_state look.old) (L.words look.old) catalog }
     requires known { (nodes : AllNodes) → IsCatalog (pairs (L.words look.old) catalog) nodes
@@ -148,7 +149,7 @@ fn is_there<L: Look>(look: &mut L, catalog: u64, node: u64, known: &mut Option<b
     there
 }
 
-/// The cell for a name that the node doesn't have.
+/// Returns the cell for a name for which the node has no attribute.
 fn none_cell(there: bool, offset: usize) -> Cell
     ensures { result ≡ cell_of offset (Err (why_none there)) }
 {
@@ -159,7 +160,7 @@ fn none_cell(there: bool, offset: usize) -> Cell
     }
 }
 
-/// Writes what the row's node has at a name.
+/// Writes the value of the row's node for a name, or the reason why there is none.
 fn report_attribute<L: Look>(
     look: &mut L,
     row: &mut Row,
@@ -190,7 +191,7 @@ fn report_attribute<L: Look>(
     report(cells, bytes, filled, cell, b"");
 }
 
-/// Writes what the row's node has at each of the names.
+/// Writes the value of the row's node for each of the names.
 fn report_row<L: Look>(
     look: &mut L,
     row: &mut Row,
@@ -214,12 +215,13 @@ fn report_row<L: Look>(
     }
 }
 
-/// Writes what each node has at each name: the cells of the first node, then those of the second,
-/// and so on. It also writes the bytes of all texts one after another. It writes as many of both as
-/// there are places, and returns how many bytes the texts take.
+/// Writes the value of each node for each name: all cells of the first node, then those of the
+/// second, and so on. The bytes of all strings are written to `bytes`, one after another. Cells and
+/// bytes that don't fit are omitted. Returns the total length of all strings in bytes.
 ///
-/// It takes no memory. A node costs one descent if its attributes with these names are neighbours.
-/// A name that it doesn't have costs one more, and so does a node that has none of the names.
+/// No memory is allocated. Each node costs one descent if its attributes with these names are
+/// adjacent. Each name for which the node has no attribute costs one more, and so does a node that
+/// has none of the names.
 pub fn columns<L: Look>(
     look: &mut L,
     version_page: u64,
@@ -245,8 +247,9 @@ pub fn columns<L: Look>(
     filled.bytes as u64
 }
 
-/// A node's attribute as a cell, if the node exists and has it. Writes a text's bytes to the first
-/// places, as many as fit. It costs one descent of the catalog's tree, and takes no memory.
+/// Returns a node's attribute as a cell, if the node exists and has the attribute. As many bytes of
+/// a string as fit are written to `bytes`. It costs one descent of the catalog tree and allocates
+/// no memory.
 #[inline(always)]
 pub fn get_into<L: Look>(
     look: &mut L,
@@ -266,7 +269,7 @@ pub fn get_into<L: Look>(
     read_into(look, page, at, bytes)
 }
 
-/// The place of a node's value at a name, if the node has it. It costs one descent.
+/// Returns the location of a node's value for a name, if the node has it. It costs one descent.
 #[inline(always)]
 fn found_value<L: Look>(look: &mut L, catalog: u64, node: u64, name: &HeldName) -> FoundItem
     requires tree { IsTree (L.page_state look.old) (L.words look.old) catalog }

@@ -1,8 +1,8 @@
-//! Tests the texts of an index leaf by leaf.
+//! Tests the strings in an index leaf by leaf.
 //!
-//! For each key, the text's bytes are copied over those of the text before, and tested there. The
-//! key's words are compared with the bound in place. So no key is unpacked, and the node of a text
-//! that doesn't pass isn't read.
+//! The string of each key is copied to a buffer, where it replaces the previous one, and tested
+//! there. The words of the key are compared with the bound in place. No key is unpacked, and the
+//! node is read only if the string passes.
 ghost use Rattle.std.specs.Prelude.{◌≡◌, ◌+◌, ◌-◌, ◌*◌, ◌<◌, ◌≤◌, ◌++◌, IsTrue, IfErr, IfOk, OnOk};
 ghost use Rattle.std.specs.Prelude.{false, length, take, drop};
 ghost use Rattle.std.specs.Int.{to_be_bytes, w64};
@@ -24,10 +24,10 @@ use be_tree_reading::{
 };
 use std::alloc::AllocError;
 
-/// Room for the longest text, of 255 bytes, in whole words.
+/// The size of a buffer for the longest string, which has 255 bytes, rounded up to whole words.
 pub(crate) const ROOM: usize = 256;
 
-/// The length of the text in the key at this place of a page.
+/// Returns the length of the string in the key at this offset of a page.
 #[inline(always)]
 fn text_len_at<L: Look>(look: &mut L, page: u64, at: usize) -> usize
     requires readable { IsTrue (is_readable (L.page_state look.old page)) }
@@ -41,7 +41,7 @@ fn text_len_at<L: Look>(look: &mut L, page: u64, at: usize) -> usize
     key_len.saturating_sub(9)
 }
 
-/// Writes a word's eight bytes from `at` on.
+/// Writes the eight bytes of a word at position `at`.
 #[inline(always)]
 fn put_word(room: &mut [u8], at: usize, word: u64)
     requires { at + 8 ≤ length room.old }
@@ -50,7 +50,7 @@ fn put_word(room: &mut [u8], at: usize, word: u64)
     room[at..at + 8].copy_from_slice(&word.to_be_bytes());
 }
 
-/// Writes the first `n` bytes of the page's words from this place on to the beginning of `room`.
+/// Copies the first `n` bytes of the words at this offset of a page to the beginning of `room`.
 #[inline(always)]
 fn put_bytes<L: Look>(look: &mut L, page: u64, at: usize, n: usize, room: &mut [u8])
     requires readable { IsTrue (is_readable (L.page_state look.old page)) }
@@ -65,8 +65,8 @@ fn put_bytes<L: Look>(look: &mut L, page: u64, at: usize, n: usize, room: &mut [
     }
 }
 
-/// Copies the text in the key at this place of a page to the beginning of `room`, and returns its
-/// length.
+/// Copies the string in the key at this offset of a page to the beginning of `room`, and returns
+/// its length.
 #[inline(always)]
 fn put_text<L: Look>(look: &mut L, page: u64, at: usize, room: &mut [u8]) -> usize
     requires readable { IsTrue (is_readable (L.page_state look.old page)) }
@@ -82,7 +82,7 @@ fn put_text<L: Look>(look: &mut L, page: u64, at: usize, room: &mut [u8]) -> usi
     length
 }
 
-/// The first `n` bytes.
+/// Returns the first `n` bytes.
 #[inline(always)]
 fn front(room: &[u8], n: usize) -> &[u8]
     requires { n ≤ length room.now }
@@ -91,8 +91,8 @@ fn front(room: &[u8], n: usize) -> &[u8]
     &room[..n]
 }
 
-/// Adds the node of the key at this place of a page, if its text passes the test. After an error
-/// the list is as before.
+/// Adds the node of the key at this offset of a page if its string passes the test. After an error
+/// the list is unchanged.
 #[inline(always)]
 pub(crate) fn test_item<L: Look>(
     look: &mut L,
@@ -121,8 +121,9 @@ pub(crate) fn test_item<L: Look>(
     Ok(())
 }
 
-/// Tests a leaf's keys from an item on, up to the bound, and adds the nodes of those whose texts
-/// pass. Returns whether a key is above the bound. `leaf` has the page and the item's number.
+/// Tests the keys of a leaf, starting with an item, up to the bound, and adds the nodes of those
+/// whose strings pass. Returns `true` if a key is above the bound. `leaf` is the page and the
+/// number of the item.
 fn test_leaf<L: Look>(
     look: &mut L,
     leaf: (u64, usize),
@@ -160,8 +161,8 @@ fn test_leaf<L: Look>(
     Ok(false)
 }
 
-/// Tests the keys that a cursor has ahead, up to the bound, leaf by leaf, and adds the nodes of
-/// those whose texts pass.
+/// Tests the keys ahead of the cursor, leaf by leaf, up to the bound, and adds the nodes of those
+/// whose strings pass.
 fn test_rest<L: Look>(
     look: &mut L,
     cursor: &mut Cursor,
@@ -188,8 +189,9 @@ fn test_rest<L: Look>(
     Ok(())
 }
 
-/// Tests the keys from `low` to `high`, both included, or to the last key. Adds the nodes of those
-/// whose texts pass, in the keys' order. It costs one descent, and reads the words of each text.
+/// Tests the keys from `low` to `high`, both inclusive, or to the last key, and adds the nodes of
+/// those whose strings pass, in the order of the keys. It costs one descent, and reads the words of
+/// each string.
 pub(crate) fn nodes_passing<L: Look>(
     look: &mut L,
     root: u64,

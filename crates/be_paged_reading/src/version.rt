@@ -9,8 +9,8 @@ use crate::entry::Entry;
 use arrayvec::ArrayVec;
 use be_pages::{Look, Room};
 
-/// A version page's contents, loaded. It is large, so a writer keeps one from write to write,
-/// whatever it has in it then.
+/// The contents of a version page, loaded into memory. Because it is large, a writer reuses one
+/// from write to write, whatever it contains.
 #[derive(Drop)]
 pub struct Version {
     pub next: u64,
@@ -19,7 +19,7 @@ pub struct Version {
 }
 
 impl Version {
-    /// Contents without indices.
+    /// Creates contents without indices.
     pub fn new() -> Version
         ensures next { result.next ≡ 0 }
         ensures catalog { result.catalog ≡ 0 }
@@ -33,8 +33,8 @@ impl Version {
     }
 }
 
-/// Loads a version page over whatever the contents were. It fills them in place, since passing
-/// contents by value costs their whole capacity.
+/// Loads a version page, replacing the previous contents. The contents are filled in place because
+/// passing them by value would copy their whole capacity.
 pub fn fill_version<L: Look>(look: &mut L, page: u64, version: &mut Version)
     requires readable { IsTrue (is_readable (L.page_state look.old page)) }
     requires page { IsVersionPage (L.words look.old page) }
@@ -52,7 +52,8 @@ pub fn fill_version<L: Look>(look: &mut L, page: u64, version: &mut Version)
     }
 }
 
-/// Writes a version to a page that was taken: only the words that it uses.
+/// Writes a version to a page that has been taken. Only the words that the version uses are
+/// written.
 pub fn store_version<R: Room>(room: &mut R, page: u64, version: &Version)
     requires taken { IsTrue (is_taken (R.page_state room.old page)) }
     requires named { All (λ e. IsName e.name) version.now.entries.items }

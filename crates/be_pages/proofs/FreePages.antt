@@ -5,7 +5,7 @@ use Rattle.be_pages.specs.PageSet.{has_page}
 use Rattle.be_pages.specs.FreePages.{has_free}
 use Rattle.be_pages.proofs.PageSets.{flagged_below}
 
--- a free page is one of the pool's
+-- a free page is a page of the pool
 pub free_below : (pages : FreePages) (q : ℕ) → has_free pages q ≡ true → q < length pages.plain.places.items
 unfolding has_free
 free_below pages q is = by_set (one_of (has_page pages.plain.places.items q) (has_page pages.spare.places.items q) is)

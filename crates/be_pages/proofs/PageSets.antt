@@ -1,4 +1,4 @@
--- A set of pages, with the place of each page in a list.
+-- A set of pages, with the position of each page in a list.
 use Rattle.std.proofs.Common.{◌≡◌, ℕ, ◌+◌, ◌-◌, ◌<◌, ◌≤◌, ◌==◌, List, [], ◌∷◌, ◌++◌, length, cond, Bool, true, false, if◌then◌else◌, ap, sym, ◌∙◌, refl, inl, inr, arith, slice_set, count_by}
 use Rattle.std.proofs.lemmas.Bool.{cases_eq, cases_lt, lt-ltb, ltb-true, ltb-false}
 use Rattle.std.proofs.lemmas.Bool.Decides.{nat_tests}
@@ -7,7 +7,7 @@ use Rattle.std.proofs.lemmas.List.Sums.{sum_by-append, sum_by-cons, sum_by-set, 
 use Rattle.be_pages.specs.Pages.{times}
 use Rattle.be_pages.specs.PageSet.{has_page, is_place, one_if, page_at, place_in, IsListed}
 
--- a page of the set has a place, and no other page does
+-- a page of the set has a position, and no other page does
 pub placed_if : (places : List ℕ) (q : ℕ) → has_page places q ≡ true → 0 < place_in places q
 unfolding has_page
 placed_if places q is = ltb-true 0 (place_in places q) is
@@ -30,7 +30,7 @@ flagged_below places p is = elim (cases_lt p (length places)) [
   | inr past ↦ absurd (omega (arith, placed_if places p is, get_or_past places p 0 past))
 ]
 
--- how many pages are in the set, after one gets a place or loses it
+-- how many pages are in the set after one gains or loses its position
 counted : (places : List ℕ) (p n : ℕ) → p < length places → count_by is_place (slice_set places p n) + one_if (has_page places p) ≡ count_by is_place places + one_if (is_place n)
 unfolding has_page
 counted places p n lt = omega (arith, is_one (has_page places p), sum_by-set (λ x. cond {A = ℕ} (is_place x) 1 0) places p n 0 lt, is_one (is_place n))
@@ -67,7 +67,7 @@ same_page p = grind (arith, nat_tests)
 pub other_page : (q p : ℕ) → (q ≡ p → ⊥) → cond {A = ℕ} (p == q) 1 0 ≡ 0
 other_page q p ne = grind (arith, nat_tests)
 
--- which pages are in the set, after one gets a place or loses it
+-- which pages are in the set after one gains or loses its position
 pub has_set : (places : List ℕ) (p n : ℕ) → p < length places → (q : ℕ) → has_page (slice_set places p n) q ≡ (if q == p then is_place n else has_page places q)
 unfolding has_page
 has_set places p n lt q = elim (cases_eq q p) [
@@ -135,12 +135,12 @@ module _ (list places : List ℕ) (n p : ℕ) (some : 0 < n) (top : p ≡ page_a
         stays (page_at list i) (λ h. absurd (omega (arith, was, ap (place_in places) h, top_place, lt))) ∙ was;
   }
 
--- a page is removed, and the last one gets its place
+-- a page is removed, and the last one takes its position
 module _ (list places : List ℕ) (n p k l : ℕ) (place : k ≡ place_in places p) (has : 0 < k) (last : l ≡ page_at list (n - 1)) (le : n ≤ length list) (is : IsListed list places n) where
   within : k ≤ n
   within = omega (arith, place, is.inside p (omega (arith, place, has)))
 
-  -- the page is at its place, and the last page has the last place
+  -- the page is at its position, and the last page has the last position
   at : page_at list (k - 1) ≡ p
   at = ap (λ m. page_at list (m - 1)) place ∙ is.lies p (omega (arith, place, has))
 

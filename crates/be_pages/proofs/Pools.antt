@@ -1,4 +1,4 @@
--- A pool's lists, when one page's place changes.
+-- A pool's lists when one page's place changes.
 use Rattle.std.proofs.Common.{◌≡◌, ℕ, suc, ◌+◌, ◌<◌, ◌≤◌, ◌==◌, List, [], ◌∷◌, ◌++◌, ◌||◌, length, drop, cond, Bool, true, false, if◌then◌else◌, ap, sym, subst, ◌∙◌, refl, inl, inr, arith, slice_set, count_by, map}
 use Rattle.std.specs.Prelude.{IsTrue, slice_index}
 use Rattle.std.proofs.lemmas.Bool.{cases_eq, cases_lt, le-ltb, lt-ltb}
@@ -87,7 +87,7 @@ idle_after Undone Current h = refl
 idle_after Undone GivenUp h = absurd (false≢true h)
 idle_after Undone (Retired r) h = refl
 
--- after a write ends, every page is one that a write hasn't touched
+-- after a write ends, no page is one that a write has touched
 pub after_idle : (ending : Ending) (x : Place) → is_idle (place_after ending x) ≡ true
 after_idle (Published n) Free = refl
 after_idle (Published n) Reserved = refl
@@ -190,13 +190,13 @@ pub count_none : (f : Place → Bool) (P : List Place) → ((q : ℕ) → f (pla
 count_none f [] h = refl
 count_none f (y ∷ ys) h = omega (arith, sum_by-cons (λ (p : Place). cond {A = ℕ} (f p) 1 0) y ys, ap (λ (b : Bool). cond {A = ℕ} b 1 0) (h 0), count_none f ys (λ q. h (suc q)))
 
--- a page in the queue is there at least once
+-- a page in the queue occurs there at least once
 pub at_most_once : (queue : List ℕ) (i : ℕ) → i < length queue → 1 ≤ times (slice_index queue i) queue
 at_most_once queue i lt =
     let x : ℕ = slice_index queue i in
     omega (arith, get_or-le-sum_by (λ (p : ℕ). cond {A = ℕ} (p == x) 1 0) queue i 0 lt, same_page x)
 
--- a page that is in the queue has a place there
+-- a page that is in the queue has a position there
 pub find_place : (queue : List ℕ) (q : ℕ) → 0 < times q queue → (i : ℕ) × (i < length queue) × (slice_index queue i ≡ q)
 find_place [] q some = absurd (omega (arith, some))
 find_place (x ∷ xs) q some = elim (cases_eq x q) [
@@ -236,7 +236,7 @@ module _ (P : List Place) (p : ℕ) (s : Place) (lt : p < length P) where
   pub there : (q : ℕ) → (q ≡ p → ⊥) → place_of (slice_set P p s) q ≡ place_of P q
   there q ne = get_or-set_other P p q s Current ne
 
-  -- what a test says of each page
+  -- the result of a test for each page
   pub flags_same : (f : Place → Bool) (flags : ℕ → Bool) → ((q : ℕ) → flags q ≡ f (place_of P q)) → f (place_of P p) ≡ f s → (q : ℕ) → flags q ≡ f (place_of (slice_set P p s) q)
   flags_same f flags is same q = elim (cases_eq q p) [
     | inl e ↦ subst (λ r. flags r ≡ f (place_of (slice_set P p s) r)) (sym e) (is p ∙ same ∙ sym (ap f here))
@@ -357,7 +357,7 @@ module _ (P : List Place) (p : ℕ) (s : Place) (lt : p < length P) where
     | inr ne ↦ ap (swept_place least) (there q ne) ∙ swept q
   ]
 
--- if the oldest has to wait, each has to wait
+-- if the oldest page has to wait, every page has to wait
 pub none_expired : (P : List Place) (queue : List ℕ) → ((q : ℕ) → times q queue ≡ one_if (is_retired (place_of P q))) → (least : ℕ) → IsOldestFirst (retired_at P) queue → (0 < length queue → least ≤ retired_at P (slice_index queue 0)) → (q : ℕ) → swept_place least (place_of P q) ≡ place_of P q
 none_expired P queue retires least order waits q = swept_stays least (place_of P q) (λ is.
     let at : (i : ℕ) × (i < length queue) × (slice_index queue i ≡ q) = find_place queue q (omega (arith, retires q, ap one_if is)) in

@@ -1,4 +1,4 @@
--- A page writer's page states, when its pool's places change.
+-- A page writer's page states when its pool's places change.
 use Rattle.std.proofs.Common.{◌≡◌, ℕ, suc, ◌+◌, ◌<◌, ◌≤◌, ◌==◌, ◌⊎◌, List, [], ◌∷◌, length, cond, Bool, true, false, if◌then◌else◌, ap, sym, subst, ◌∙◌, refl, inl, inr, arith, slice_set, count_by, map}
 use Rattle.std.specs.Prelude.{IsTrue, slice_index_or}
 use Rattle.std.proofs.lemmas.Bool.{cases_eq, cases_lt}
@@ -23,7 +23,7 @@ state_set P p s lt q = elim (cases_eq q p) [
   | inr ne ↦ ap page_state_of (get_or-set_other P p q s Free ne) ∙ sym (ap (λ (b : Bool). if b then page_state_of s else page_state_in P q) (other_test q p ne))
 ]
 
--- each page has the state that the map gives
+-- each page has the state that the map gives it
 pub state_map : (f : Place → Place) (g : AnyPageState → AnyPageState) → ((x : Place) → page_state_of (f x) ≡ g (page_state_of x)) → g states.Free ≡ states.Free → (P : List Place) (q : ℕ) → page_state_in (map f P) q ≡ g (page_state_in P q)
 state_map f g same free P q = elim (cases_lt q (length P)) [
   | inl lt ↦ ap page_state_of (get_or-map f P q Free Free lt) ∙ same (slice_index_or P q Free)
@@ -94,7 +94,7 @@ unretired_set P p s is none q = elim (cases_lt p (length P)) [
   | inr past ↦ ap (λ (xs : List Place). is_retired (place_of xs q)) (set_past P p s past) ∙ none q
 ]
 
--- what a page's state says of its place
+-- what a page's state says about its place
 pub page_state_past : (P : List Place) (p : ℕ) → length P ≤ p → page_state_in P p ≡ states.Free
 page_state_past P p past = ap page_state_of (get_or_past P p Free past)
 

@@ -1,4 +1,4 @@
--- The places of pages, and what becomes of them.
+-- The places of pages, and how they change.
 use Rattle.std.specs.Prelude.{◌≡◌, ℕ, ◌<◌, ◌≤◌, List, Bool, true, false, length, slice_index}
 use Rattle.std.specs.Prelude.{slice_index_or, if◌then◌else◌, nat_lt}
 use Rattle.be_pages.specs.declared.page_pool.Place.{Place}
@@ -7,7 +7,7 @@ use Rattle.be_pages.specs.declared.page_pool.Place.TheVariants.{GivenUp, Retired
 use Rattle.be_pages.specs.declared.page_pool.Ending.{Ending}
 use Rattle.be_pages.specs.declared.page_pool.Ending.TheVariants.{Published, Kept, Undone}
 
--- where page q is
+-- the place of page q
 abbrev pub place_of : List Place → ℕ → Place
 place_of places q = slice_index_or places q Current
 
@@ -54,7 +54,7 @@ is_held_page Current = true
 is_held_page GivenUp = false
 is_held_page (Retired n) = false
 
--- the number with which a page is retired, or 0
+-- the number with which the page was retired, or 0 if it isn't retired
 abbrev pub retired_number : Place → ℕ
 retired_number Free = 0
 retired_number Reserved = 0
@@ -66,7 +66,7 @@ retired_number (Retired n) = n
 abbrev pub retired_at : List Place → ℕ → ℕ
 retired_at places q = retired_number (place_of places q)
 
--- what becomes of a page that is given up: one that the open write took is free at once
+-- what becomes of a page that is given up: one that the open write took is free immediately
 abbrev pub given_place : Place → Place
 given_place Free = Free
 given_place Reserved = Free
@@ -116,7 +116,7 @@ swept_place least Current = Current
 swept_place least GivenUp = GivenUp
 swept_place least (Retired n) = if nat_lt n least then Free else Retired n
 
--- no retired page's number is above that of a write that is published
+-- no retired page has a number above that of the write being published
 abbrev pub IsNewest : Ending → (ℕ → ℕ) → Type 0
 IsNewest (Published number) number_of = (q : ℕ) → number_of q ≤ number
 IsNewest Kept number_of = Unit {0}

@@ -7,7 +7,7 @@ use Rattle.be_value.specs.declared.refusals.Refusal.TheVariants.{OutOfMemory, Fu
 abbrev pub IsFullOf : (ℕ → Type 0) → Refusal → Type 0
 IsFullOf reports refusal = (least : ℕ) × (refusal ≡ Full least) × reports least
 
--- for a number of pages: the error is BadLimits exactly if it is out of its range; otherwise memory
+-- the error is BadLimits if the number of pages is out of range, and otherwise means that memory
 -- ran out
 abbrev pub IsLimitOrMemory : ℕ → Refusal → Type 0
 IsLimitOrMemory pages refusal = (refusal ≡ BadLimits × ((pages < 8) ⊎ (16384 < pages)))

@@ -1,11 +1,11 @@
-//! A pool's free pages, some of which are spared for the copy of one page.
+//! A pool's free pages, some of which are spared for a copy of a particular page.
 //!
 //! # Spared pages
-//! A write copies each page of a tree that it changes. Writes that change the same pages again and
-//! again copy each of them back and forth between two pages. The page that takes the copy then has
-//! most of the words already. So a page that was copied is spared once it is free, for the next
-//! copy of its own copy. That copy stores only the words that differ. A spared page is taken for
-//! something else only if no other page is free.
+//! A write copies each tree page that it changes. Writes that change the same pages again and again
+//! copy each of them back and forth between two pages. The page that receives the copy already has
+//! most of the words. So once a copied page is free, it is spared for the next copy of its copy.
+//! That copy stores only the words that differ. A spared page is used for anything else only if no
+//! other page is free.
 ghost use Rattle.std.specs.Prelude.{◌≡◌, ℕ, ◌+◌, ◌<◌, ◌≤◌, ◌==◌, if◌then◌else◌, Bool, true, false};
 ghost use Rattle.std.specs.Prelude.{length, vec_len, count_by, IfOk, IfSome, IfNone};
 ghost use Rattle.be_pages.specs.PageSet.{has_page, is_place};
@@ -13,10 +13,10 @@ ghost use Rattle.be_pages.specs.PageSet.{has_page, is_place};
 use crate::page_set::PageSet;
 use std::alloc::{AllocError, Global};
 
-/// Stands for no page: the page wasn't copied from one. No pool has a page with this number.
+/// The entry of a page that wasn't copied from another. No pool has a page with this number.
 const NO_PAGE: u64 = u64::MAX;
 
-/// The free pages among those below a number. Only `from` allocates memory.
+/// The free pages among those with numbers below a limit. Only `from` allocates memory.
 #[derive(Drop)]
 pub(crate) struct FreePages {
     plain: PageSet,
@@ -35,7 +35,8 @@ pub(crate) struct FreePages {
 impl FreePages {
     ghost use Rattle.be_pages.specs.FreePages.{has_free};
 
-    /// The pages from `first` on, below `pages`. The lowest is the first that `pop` takes.
+    /// Creates the set of the pages from `first` up to, but not including, `pages`. `pop` takes the
+    /// lowest page first.
     #[tactic(auto, unfolding(crate::specs::FreePages::has_free))]
     pub(crate) fn from(alloc: Global, first: usize, pages: usize) -> Result<FreePages, AllocError>
         requires { first ≤ pages }
@@ -72,7 +73,7 @@ impl FreePages {
         }
     }
 
-    /// Takes the page that was added last, and a spared one only if there is no other.
+    /// Takes the page that was added last; it takes a spared page only if there is no other.
     #[tactic(auto, unfolding(crate::specs::FreePages::has_free))]
     pub(crate) fn pop(&mut self) -> Option<u64>
         ensures some { IfSome result (λ page. has_free self.old page ≡ true) }
@@ -91,8 +92,8 @@ impl FreePages {
         Some(page)
     }
 
-    /// Takes a page for a copy of `page`: the one that `page` was copied from, if that is spared.
-    /// Otherwise it takes the page that `pop` takes.
+    /// Takes a page to hold a copy of `page`: the page that `page` was copied from, if that one is
+    /// spared. Otherwise it takes the page that `pop` takes.
     #[tactic(auto, unfolding(crate::specs::FreePages::has_free))]
     pub(crate) fn pop_like(&mut self, page: u64) -> Option<u64>
         ensures some { IfSome result (λ copy. has_free self.old copy ≡ true) }
@@ -112,7 +113,7 @@ impl FreePages {
         Some(copy)
     }
 
-    /// Takes this page if it is spared, and otherwise the page that `pop` takes.
+    /// Takes this page if it is spared, otherwise the page that `pop` takes.
     #[tactic(auto, unfolding(crate::specs::FreePages::has_free))]
     fn pop_spared(&mut self, page: u64) -> Option<u64>
         ensures some { IfSome result (λ copy. has_free self.old copy ≡ true) }
@@ -130,7 +131,7 @@ impl FreePages {
         Some(page)
     }
 
-    /// How many pages are free.
+    /// Returns how many pages are free.
     pub(crate) fn len(&self) -> usize
         ensures { result ≡ count_by is_place self.now.plain.places.items
             + count_by is_place self.now.spare.places.items }

@@ -1,17 +1,18 @@
-//! Where each page of a pool is, with lists that make each change cost only what it changes.
+//! The place of each page of a pool, with lists that limit the cost of each call to what it
+//! changes.
 //!
 //! # Places
 //! A page is free, taken by the open write, in the current version, given up by the open write, or
-//! retired. An earlier write gave a retired page up, and a reader of an older version may still
-//! read it. A retired page has the number of the last version that contains it.
+//! retired. A retired page was given up by an earlier write, and a reader of an older version may
+//! still read it. It carries the number of the last version that contains it.
 //!
 //! # Lists
-//! The pool keeps three lists beside the places. The free pages are on a stack: the page that was
+//! The pool keeps three lists alongside the places. The free pages form a stack: the page that was
 //! freed last is taken first, because its words are probably still in the cache. Pages that are
-//! spared for a copy are the exception (`FreePages`). Another stack has the pages that the open
-//! write took or gave up, so ending the write visits only these. The retired pages are in a queue,
-//! oldest first, so a sweep stops at the first page that has to wait. Each list has room for every
-//! page from the start: only `new` allocates memory.
+//! spared for a copy are the exception (`FreePages`). A second stack holds the pages that the open
+//! write took or gave up, so ending the write visits only these. The retired pages form a queue,
+//! oldest first, so a sweep stops at the first page that must wait. Each list has room for every
+//! page from the start, so only `new` allocates memory.
 ghost use Rattle.std.specs.Prelude.{◌≡◌, ◌≢◌, ℕ, ◌+◌, ◌<◌, ◌≤◌, List, Bool, true, false, length};
 ghost use Rattle.std.specs.Prelude.{vec_len, map, count_by, slice_set};
 ghost use Rattle.std.specs.Prelude.{slice_index, slice_index_or, IsTrue, IfOk, IfSome, IfNone};
@@ -32,7 +33,7 @@ use crate::page_set::PageSet;
 use std::alloc::{AllocError, Global};
 use std::collections::VecDeque;
 
-/// Where a page is.
+/// The place of a page.
 #[derive(Clone, Copy, Debug, PartialEq, Eq)]
 pub enum Place {
     /// In no version, and not taken.
@@ -52,11 +53,12 @@ pub enum Place {
 /// How a write ends.
 #[derive(Clone, Copy, Debug, PartialEq, Eq)]
 pub(crate) enum Ending {
-    /// Pages that were given up are retired with this number.
+    /// Pages that were given up become retired with this number.
     Published(u64),
-    /// Pages that were given up are free.
+    /// Pages that were given up become free.
     Kept,
-    /// Pages that were taken are free, and pages that were given up stay.
+    /// Pages that were taken become free, and pages that were given up return to the current
+    /// version.
     Undone,
 }
 
@@ -82,8 +84,8 @@ pub struct PagePool {
 impl PagePool {
     ghost use Rattle.be_pages.specs.PagePool.{places};
 
-    /// A pool of `pages` pages. Those below `used` are in the current version, and the others are
-    /// free.
+    /// Creates a pool of `pages` pages. The pages below `used` are in the current version, and the
+    /// others are free.
     pub fn new(alloc: Global, pages: usize, used: usize) -> Result<PagePool, AllocError>
         requires { used ≤ pages }
         ensures pages { IfOk result (λ pool. length (places pool) ≡ pages) }
@@ -104,14 +106,14 @@ impl PagePool {
         })
     }
 
-    /// How many pages there are.
+    /// Returns how many pages there are.
     pub fn len(&self) -> usize
         ensures { result ≡ length (places self.now) }
     {
         self.places.len()
     }
 
-    /// Where a page is.
+    /// Returns the place of a page.
     pub fn place(&self, page: u64) -> Place
         requires { page < length (places self.now) }
         ensures { result ≡ place_of (places self.now) page }
@@ -119,7 +121,7 @@ impl PagePool {
         self.places[page as usize]
     }
 
-    /// Whether the open write has taken a page.
+    /// Returns `true` if the open write has taken a page.
     pub fn is_in_hand(&self, page: u64) -> bool
         requires { page < length (places self.now) }
         ensures { result ≡ is_in_hand (place_of (places self.now) page) }
@@ -127,7 +129,7 @@ impl PagePool {
         is_in_hand(self.place(page))
     }
 
-    /// Takes the page that was freed last, and a spared one only if there is no other.
+    /// Takes the page that was freed last; it takes a spared page only if there is no other.
     pub fn take(&mut self) -> Option<u64>
         ensures free { IfSome result (λ page. (page < length (places self.old))
             × (place_of (places self.old) page ≡ Free)) }
@@ -143,8 +145,8 @@ impl PagePool {
         Some(page)
     }
 
-    /// Takes a free page for a copy of `page`: the one that `page` was copied from, if that is
-    /// spared. Otherwise it takes the page that `take` takes.
+    /// Takes a free page to hold a copy of `page`: the page that `page` was copied from, if that
+    /// one is spared. Otherwise it takes the page that `take` takes.
     pub fn take_like(&mut self, page: u64) -> Option<u64>
         ensures free { IfSome result (λ copy. (copy < length (places self.old))
             × (place_of (places self.old) copy ≡ Free)) }
@@ -160,7 +162,7 @@ impl PagePool {
         Some(copy)
     }
 
-    /// Marks a taken page as filled. Most calls find it marked already, and write nothing.
+    /// Marks a taken page as filled. Most calls find it already marked and write nothing.
     pub fn fill(&mut self, page: u64)
         requires { IsTrue (is_in_hand (place_of (places self.old) page)) }
         ensures { places self.new ≡ slice_set (places self.old) page Filled }
@@ -171,7 +173,7 @@ impl PagePool {
         self.places[page as usize] = Place::Filled;
     }
 
-    /// Gives a page up. A page that the open write took becomes free at once.
+    /// Gives a page up. A page that the open write took becomes free immediately.
     pub fn give_up(&mut self, page: u64)
         requires inside { page < length (places self.old) }
         requires held { IsTrue (is_held_page (place_of (places self.old) page)) }
@@ -191,9 +193,9 @@ impl PagePool {
         }
     }
 
-    /// Publishes the write. Pages that it filled are in the current version; pages that it gave up
-    /// are retired with this number. No retired page may have a greater number. A page that was
-    /// taken but not filled is free.
+    /// Publishes the write. The pages that it filled join the current version; the pages that it
+    /// gave up are retired with this number. No retired page may have a greater number. A page that
+    /// was taken but not filled becomes free.
     pub fn publish(&mut self, number: u64)
         requires newest { (q : ℕ) → retired_at (places self.old) q ≤ number }
         ensures { places self.new ≡ map (published_place number) (places self.old) }
@@ -201,15 +203,16 @@ impl PagePool {
         self.end(Ending::Published(number));
     }
 
-    /// Keeps the write: pages that it took are in the current version, and pages that it gave up
-    /// are free.
+    /// Keeps the write: the pages that it took join the current version, and the pages that it gave
+    /// up become free.
     pub fn keep(&mut self)
         ensures { places self.new ≡ map kept_place (places self.old) }
     {
         self.end(Ending::Kept);
     }
 
-    /// Undoes the write: pages that it took are free, and pages that it gave up stay.
+    /// Undoes the write: the pages that it took become free, and the pages that it gave up return
+    /// to the current version.
     pub fn undo(&mut self)
         ensures { places self.new ≡ map undone_place (places self.old) }
     {
@@ -242,7 +245,7 @@ impl PagePool {
         }
     }
 
-    /// Frees the pages that are retired with a number below `least`.
+    /// Frees the pages that were retired with a number below `least`.
     pub fn sweep(&mut self, least: u64)
         ensures { places self.new ≡ map (swept_place least) (places self.old) }
     {
@@ -253,7 +256,7 @@ impl PagePool {
         }
     }
 
-    /// The oldest retired page, if its number is below `least`.
+    /// Returns the oldest retired page if its number is below `least`.
     fn expired(&self, least: u64) -> Option<u64>
         ensures first { IfSome result (λ page. (0 < length self.now.retired.items)
             × (page ≡ slice_index self.now.retired.items 0)) }
@@ -271,7 +274,7 @@ impl PagePool {
         }
     }
 
-    /// The number with which a page is retired.
+    /// Returns the number with which a page was retired.
     fn number(&self, page: u64) -> u64
         requires { is_retired (place_of (places self.now) page) ≡ true }
         ensures { result ≡ retired_at (places self.now) page }
@@ -282,14 +285,14 @@ impl PagePool {
         }
     }
 
-    /// How many pages are free.
+    /// Returns how many pages are free.
     pub fn free(&self) -> usize
         ensures { result ≡ count_by is_free (places self.now) }
     {
         self.free.len()
     }
 
-    /// How many pages are retired.
+    /// Returns how many pages are retired.
     pub fn retired(&self) -> usize
         ensures { result ≡ count_by is_retired (places self.now) }
     {
@@ -297,7 +300,7 @@ impl PagePool {
     }
 }
 
-/// Whether the place is that of a page that the open write has taken.
+/// Returns `true` if this is the place of a page that the open write has taken.
 fn is_in_hand(place: Place) -> bool
     ensures { result ≡ is_in_hand place }
 {
@@ -307,7 +310,7 @@ fn is_in_hand(place: Place) -> bool
     }
 }
 
-/// Whether the place is that of a page that the open write hasn't touched.
+/// Returns `true` if this is the place of a page that the open write hasn't touched.
 fn is_idle(place: Place) -> bool
     ensures { result ≡ is_idle place }
 {
@@ -317,7 +320,7 @@ fn is_idle(place: Place) -> bool
     }
 }
 
-/// What becomes of a page when a write ends.
+/// Returns the place that a page has after a write ends.
 fn settled(ending: Ending, place: Place) -> Place
     ensures { result ≡ place_after ending place }
 {
@@ -335,7 +338,7 @@ fn settled(ending: Ending, place: Place) -> Place
     }
 }
 
-/// The places of a new pool.
+/// Creates the places of a new pool.
 fn new_places(alloc: Global, pages: usize, used: usize) -> Result<Vec<Place>, AllocError>
     requires { used ≤ pages }
     ensures pages { IfOk result (λ places. vec_len places ≡ pages) }

@@ -5,12 +5,12 @@ ghost use Rattle.be_pages.specs.PageSet.{has_page, is_place, IsListed};
 
 use std::alloc::{AllocError, Global};
 
-/// A set of pages below a number. Only `new` and `from` allocate memory.
+/// A set of pages with numbers below a limit. Only `new` and `from` allocate memory.
 #[derive(Drop)]
 pub(crate) struct PageSet {
     list: Vec<u64>,
     len: usize,
-    /// For each page, its place in the list plus one, or 0.
+    /// For each page, its position in the list plus one, or 0 if it isn't in the list.
     places: Vec<usize>,
     ghost same: { vec_len list ≡ vec_len places },
     ghost counted: { len ≡ count_by is_place places.items },
@@ -18,7 +18,7 @@ pub(crate) struct PageSet {
 }
 
 impl PageSet {
-    /// The empty set, for pages below `pages`.
+    /// Creates the empty set, for pages below `pages`.
     #[tactic(auto, unfolding(crate::specs::PageSet::has_page))]
     pub(crate) fn new(alloc: Global, pages: usize) -> Result<PageSet, AllocError>
         ensures none { IfOk result (λ s. (q : ℕ) → has_page s.places.items q ≡ false) }
@@ -33,7 +33,8 @@ impl PageSet {
         })
     }
 
-    /// The pages from `first` on, below `pages`. The lowest is the first that `pop` takes.
+    /// Creates the set of the pages from `first` up to, but not including, `pages`. `pop` takes the
+    /// lowest page first.
     pub(crate) fn from(alloc: Global, first: usize, pages: usize) -> Result<PageSet, AllocError>
         requires { first ≤ pages }
         ensures in_set { IfOk result (λ s. (q : ℕ) → first ≤ q → q < pages
@@ -65,7 +66,7 @@ impl PageSet {
         self.places[at] = self.len;
     }
 
-    /// Takes the last page of the list: the one that was added last, if none has been removed
+    /// Takes the last page of the list: the one that was added last, unless a page has been removed
     /// since.
     #[tactic(auto, unfolding(crate::specs::PageSet::has_page))]
     pub(crate) fn pop(&mut self) -> Option<u64>
@@ -87,7 +88,7 @@ impl PageSet {
         Some(page)
     }
 
-    /// Whether a page is in the set.
+    /// Returns `true` if a page is in the set.
     #[tactic(auto, unfolding(crate::specs::PageSet::has_page))]
     pub(crate) fn has(&self, page: u64) -> bool
         ensures { result ≡ has_page self.now.places.items page }
@@ -98,7 +99,7 @@ impl PageSet {
         }
     }
 
-    /// Removes a page, which must be in the set. The page that was added last moves to its place.
+    /// Removes a page, which must be in the set. The last page of the list moves to its position.
     #[tactic(auto, unfolding(crate::specs::PageSet::has_page))]
     pub(crate) fn remove(&mut self, page: u64)
         requires { has_page self.old.places.items page ≡ true }
@@ -114,7 +115,7 @@ impl PageSet {
         self.len -= 1;
     }
 
-    /// How many pages there are.
+    /// Returns how many pages there are.
     pub(crate) fn len(&self) -> usize
         ensures { result ≡ count_by is_place self.now.places.items }
     {

@@ -1,9 +1,10 @@
 //! The traits of page readers and page writers.
 //!
 //! # Page states
-//! A page's state in a write (`PageState`) is one function of the page. So the sets of pages that
-//! can be read, taken or given up can't disagree. Ghost members give this function, the words of
-//! each page, and the facts that no call changes. None of them says where the words are stored.
+//! The state of a page in a write (`PageState`) is a single function of the page. So the sets of
+//! pages that can be read, taken or given up can't disagree. Ghost members give this function, the
+//! words of each page, and the facts that no call changes. None of them says where the words are
+//! stored.
 ghost use Rattle.std.specs.Prelude.{◌≡◌, ℕ, ◌<◌, ◌^◌, ◌==◌, ◌≢◌, if◌then◌else◌, IsTrue, Bool, IfOk};
 ghost use Rattle.std.specs.Prelude.{IfErr, OnErr};
 ghost use Rattle.be_pages.specs.declared.room.PageState.{PageState as AnyPageState};
@@ -13,7 +14,7 @@ ghost use Rattle.be_pages.specs.Refusal.{IsFullOf};
 
 use be_value::Refusal;
 
-/// How many words a page has.
+/// The number of words in a page.
 pub const PAGE_WORDS: usize = 512;
 
 /// The state of a page in a write.
@@ -38,13 +39,13 @@ pub trait Look {
 
     ghost kept: { Self → Kept };
 
-    /// Whether a reader with these facts may be written to: its write is open.
+    /// Whether a reader with these facts may be written to, that is, whether its write is open.
     ghost is_open: { Kept → Bool };
 
     /// The state of each page.
     ghost page_state: { Self → ℕ → AnyPageState };
 
-    /// The word of a page at a place.
+    /// The word at a place in a page.
     ghost words: { Self → ℕ → ℕ → ℕ };
 
     /// Reads a word of a page that was in use when the write began, or that the write has taken.
@@ -56,23 +57,23 @@ pub trait Look {
         ensures page_state { page_state self.new ≡ page_state self.old }
         ensures words { words self.new ≡ words self.old };
 
-    // A page that isn't free has a number below 2^32. So a root, which is its page plus one, fits,
-    // also when the tree gets a new level.
+    // A page that isn't free has a number below 2^32. So a root, which is its page plus one, still
+    // fits when the tree gains a level.
     ghost pages_small: { (reader : Self) (q : ℕ) → page_state reader q ≢ Free → q < 2 ^ 32 };
 }
 
 /// A page writer: a page reader that takes, fills and gives up pages, for one write.
 pub trait Room: Look {
-    /// What holds of the number in the error, if the writer has just returned `Full`.
+    /// What holds of the number in the error if the writer has just returned `Full`.
     ghost full: { Self → ℕ → Type 0 };
 
-    /// Whether this write has taken a readable page: such a page may be filled again in place. It
-    /// doesn't read the page's words.
+    /// Returns `true` if this write has taken a readable page; such a page may be filled again in
+    /// place. It doesn't read the page's words.
     fn is_taken(&self, page: u64) -> bool
         requires readable { IsTrue (is_readable (Self.page_state self.now page)) }
         ensures { result ≡ is_taken (Self.page_state self.now page) };
 
-    /// Takes a free page. Its words mean nothing until they are filled.
+    /// Takes a free page. Its words are meaningless until they are filled.
     fn take(&mut self) -> Result<u64, Refusal>
         requires open { IsTrue (Self.is_open (Self.kept self.old)) }
         ensures page { IfOk result (λ page. (page < 2 ^ 32)
@@ -84,7 +85,7 @@ pub trait Room: Look {
         ensures words { Self.words self.new ≡ Self.words self.old }
         ensures kept { Self.kept self.new ≡ Self.kept self.old };
 
-    /// Takes a free page, as `take` does, for a copy of `page`. It may prefer a free page that
+    /// Takes a free page, as `take` does, to hold a copy of `page`. It may prefer a free page that
     /// already has most of the words.
     fn take_like(&mut self, page: u64) -> Result<u64, Refusal>
         requires open { IsTrue (Self.is_open (Self.kept self.old)) }
@@ -110,7 +111,7 @@ pub trait Room: Look {
         ensures kept { Self.kept self.new ≡ Self.kept self.old };
 
     /// Writes one word of a page in which this write has already filled a word. It does what `fill`
-    /// does, and costs less, because it needn't look up where the page is.
+    /// does at a lower cost, because it needn't look up the page's place.
     fn refill(&mut self, page: u64, i: usize, word: u64)
         requires open { IsTrue (Self.is_open (Self.kept self.old)) }
         requires filled { Self.page_state self.old page ≡ Filled }
@@ -122,8 +123,8 @@ pub trait Room: Look {
         ensures others { (q : ℕ) → q ≢ page → Self.words self.new q ≡ Self.words self.old q }
         ensures kept { Self.kept self.new ≡ Self.kept self.old };
 
-    /// Gives a page up. A page that this write took is free at once; any other keeps its words
-    /// until the write is kept.
+    /// Gives a page up. A page that this write took is free immediately; any other page keeps its
+    /// words until the write is kept.
     fn give_up(&mut self, page: u64)
         requires open { IsTrue (Self.is_open (Self.kept self.old)) }
         requires held { IsTrue (is_held (Self.page_state self.old page)) }

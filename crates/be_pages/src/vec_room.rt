@@ -1,5 +1,5 @@
-//! A page writer in memory: a pool's places, and the words of its pages, one page after another.
-//! Tests use it instead of a table. So does code in which only one thread reads and writes.
+//! A page writer in memory: the places of a pool's pages, and their words, one page after another.
+//! Tests use it in place of a table. So does code in which only one thread reads and writes.
 ghost use Rattle.std.specs.Prelude.{◌≡◌, ◌≢◌, ℕ, ◌<◌, ◌≤◌, ◌*◌, false, length, vec_len, count_by};
 ghost use Rattle.std.specs.Prelude.{slice_index, IfOk, IfErr, OnErr, ◌^◌};
 ghost use Rattle.be_pages.specs.declared.room.PageState.TheVariants.{Free, Taken};
@@ -86,8 +86,8 @@ impl Room for VecRoom {
 }
 
 impl VecRoom {
-    /// A pool whose pages are all free. The error is `BadLimits` if the number of pages is out of
-    /// its range, and otherwise `OutOfMemory`.
+    /// Creates a pool whose pages are all free. Fails with `BadLimits` if the number of pages is
+    /// out of range, and otherwise with `OutOfMemory` if memory runs out.
     pub fn new(alloc: Global, pages: u64) -> Result<VecRoom, Refusal>
         ensures ok { IfOk result (λ r. (8 ≤ pages) × (pages ≤ 16384)
             × (⟦<VecRoom as Look>⟧.kept r ≡ pages)) }
@@ -110,8 +110,8 @@ impl VecRoom {
         Ok(VecRoom { words, pool })
     }
 
-    /// Keeps the write: pages that it gave up are free, and pages that it took stay. The cost
-    /// depends on how many pages the write touched.
+    /// Keeps the write: the pages that it gave up become free, and the pages that it took become
+    /// old. The cost depends on how many pages the write touched.
     pub fn keep(&mut self)
         ensures page_state { (q : ℕ) → ⟦<VecRoom as Look>⟧.page_state self.new q
             ≡ after_keep (⟦<VecRoom as Look>⟧.page_state self.old q) }
@@ -121,7 +121,8 @@ impl VecRoom {
         self.pool.keep();
     }
 
-    /// Undoes the write: pages that it took are free, and pages that it gave up are old again.
+    /// Undoes the write: the pages that it took become free, and the pages that it gave up become
+    /// old again.
     pub fn undo(&mut self)
         ensures page_state { (q : ℕ) → ⟦<VecRoom as Look>⟧.page_state self.new q
             ≡ after_undo (⟦<VecRoom as Look>⟧.page_state self.old q) }
@@ -131,7 +132,7 @@ impl VecRoom {
         self.pool.undo();
     }
 
-    /// How many pages are free.
+    /// Returns how many pages are free.
     #[tactic(auto, using(crate::proofs::Rooms::count_free))]
     pub fn free(&self) -> u64
         ensures { result ≡ count_by is_takable (page_states (places self.now.pool)) }

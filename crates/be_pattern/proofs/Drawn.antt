@@ -1,4 +1,4 @@
--- A canonical text has only the pattern's own characters and those of the notation.
+-- A canonical text contains only the pattern's own characters and those of the notation.
 use Rattle.std.proofs.Common.{◌≡◌, ℕ, ◌+◌, Bool, true, false, zero, suc, Option, Some, None, Result, Ok, Err, List, [], ◌∷◌, ◌++◌, take, ◌&&◌, refl, subst}
 use Rattle.std.specs.Char.{len_utf8}
 use Rattle.std.specs.List.{list_any, list_all, before_first, position_or_len, flat_map}
@@ -8,7 +8,7 @@ use Rattle.be_pattern.specs.Match.{Part, Run, One, Among, Only}
 use Rattle.be_pattern.specs.Parse.{Letter, letters, ending_backslash, is_bare, are_members, members, set_with, set_of, with_length, set_at, and_then, parts_after, pattern}
 use Rattle.be_pattern.specs.Canonical.{marked, is_special, is_special_in_set, member_char, member, class_opening, part_text, canonical, has_only, notation}
 
--- Of a text that is read
+-- Characters of a text that is read
 
 On : (ℕ → Bool) → List Letter → Type 0
 On p ls = list_all (λ l. p l.char) ls ≡ true
@@ -113,12 +113,12 @@ unfolding OnParts
 read_on p None r h = h
 read_on p (Some at) r h = tt
 
--- the tokens that a text encodes have only its characters
+-- the tokens that a text encodes contain only its characters
 pub pattern_on : (p : ℕ → Bool) (cs : List ℕ) (ps : List Part) → pattern cs ≡ Ok ps → list_all p cs ≡ true → list_all (has_only p) ps ≡ true
 unfolding OnParts
 pattern_on p cs ps e h = subst (OnParts p) e (read_on p (ending_backslash false 0 cs) _ (parts_on p 0 (letters false 0 cs) (letters_on p false 0 cs h)))
 
--- Of a text that is printed
+-- Characters of a text that is printed
 
 both_on : (p : ℕ → Bool) (xs ys : List ℕ) → list_all p xs ≡ true → list_all p ys ≡ true → list_all p (xs ++ ys) ≡ true
 both_on p [] ys h k = k
@@ -179,6 +179,6 @@ parts_noted : (p : ℕ → Bool) (ps : List Part) → Noted p → list_all (has_
 parts_noted p [] n h = refl
 parts_noted p (part ∷ ps) n h = let k = and_parts _ _ h in both_on p (part_text part) (canonical ps) (part_on p part n k.0) (parts_noted p ps n k.1)
 
--- a canonical text has only its tokens' characters and those of the notation
+-- a canonical text contains only its tokens' characters and those of the notation
 pub canonical_on : (p : ℕ → Bool) (ps : List Part) → list_all p notation ≡ true → list_all (has_only p) ps ≡ true → list_all p (canonical ps) ≡ true
 canonical_on p ps h k = parts_noted p ps (noted p h) k

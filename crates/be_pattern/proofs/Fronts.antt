@@ -1,4 +1,4 @@
--- What a pattern matches if it has no wildcard, or only one `*` at the end.
+-- The strings that a pattern matches if it has no wildcard, or only one `*` at the end.
 use Rattle.std.proofs.Common.{◌≡◌, ℕ, true, List, [], ◌∷◌, ◌++◌, ◌&&◌, refl, ap, ◌∙◌}
 use Rattle.std.proofs.lemmas.Bool.{or_right, eq-eqb}
 use Rattle.be_pattern.specs.Match.{Part, Run, One, Among, Only, matches, some_tail}

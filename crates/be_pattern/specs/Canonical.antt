@@ -1,4 +1,4 @@
--- A pattern's canonical text, and its literal prefix. Here texts are lists of characters.
+-- A pattern's canonical text, and its literal prefix. Here a text is a list of characters.
 use Rattle.std.specs.Prelude.{ℕ, Bool, true, false, List, [], ◌∷◌, ◌++◌, map, codes, ◌&&◌, ◌||◌}
 use Rattle.std.specs.Prelude.{◌==◌, if◌then◌else◌}
 use Rattle.std.specs.List.{flat_map, list_all}
@@ -11,11 +11,11 @@ is_literal One = false
 is_literal (Among negated ms) = false
 is_literal (Only c) = true
 
--- no wildcard
+-- the tokens have no wildcard
 abbrev pub is_plain : List Part → Bool
 is_plain = list_all is_literal
 
--- no wildcard, or only one `*` at the end
+-- the tokens have no wildcard, or only one `*` at the end
 abbrev pub is_prefix : List Part → Bool
 is_prefix [] = true
 is_prefix (Run ∷ []) = true
@@ -32,15 +32,15 @@ literal_prefix (One ∷ ps) = []
 literal_prefix (Among negated ms ∷ ps) = []
 literal_prefix (Only c ∷ ps) = c ∷ literal_prefix ps
 
--- a character, with its backslash if it needs one
+-- a character, with a backslash before it if the flag is set
 abbrev pub marked : Bool → ℕ → List ℕ
 marked backslash c = if backslash then 92 ∷ c ∷ [] else c ∷ []
 
--- `"`, `\`, `*`, `?` and `[` need one among the tokens
+-- `"`, `\`, `*`, `?` and `[` need a backslash outside sets
 abbrev pub is_special : ℕ → Bool
 is_special c = (c == 34) || (c == 92) || (c == 42) || (c == 63) || (c == 91)
 
--- `"`, `\`, `[`, `]`, `^` and `-` need one in a set
+-- `"`, `\`, `[`, `]`, `^` and `-` need a backslash in a set
 abbrev pub is_special_in_set : ℕ → Bool
 is_special_in_set c = (c == 34) || (c == 92) || (c == 91) || (c == 93) || (c == 94) || (c == 45)
 
@@ -53,7 +53,7 @@ member_char c = marked (is_special_in_set c) c
 abbrev pub member : ℕ × ℕ → List ℕ
 member m = if m.0 == m.1 then member_char m.0 else member_char m.0 ++ 45 ∷ member_char m.1
 
--- `[^` or `[`
+-- `[^` if the set is negated, otherwise `[`
 abbrev pub class_opening : Bool → List ℕ
 class_opening true = 91 ∷ 94 ∷ []
 class_opening false = 91 ∷ []
@@ -71,11 +71,11 @@ canonical = flat_map part_text
 abbrev pub run_if : Bool → List Part
 run_if is_there = if is_there then Run ∷ [] else []
 
--- a literal text, with `*` before it and after it if the flags are set
+-- a literal text, with a `*` before it and a `*` after it if the flags are set
 abbrev pub around : Bool → List ℕ → Bool → List Part
 around before cs beyond = run_if before ++ (map Only cs ++ run_if beyond)
 
--- a set has members, and no descending range
+-- a set has at least one member, and no descending range
 abbrev pub is_formed : Part → Bool
 is_formed Run = true
 is_formed One = true

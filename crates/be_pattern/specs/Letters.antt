@@ -1,5 +1,5 @@
--- What the code has read of a pattern's text, in terms of the definitions. Only the proofs need it:
--- `Parse` says what a text means.
+-- The part of a pattern's text that the code has read, in terms of the definitions. Only the proofs
+-- need it; `Parse` says what a text means.
 use Rattle.std.specs.Prelude.{ℕ, ◌+◌, ◌-◌, zero, suc, Bool, true, false, Option, Some, None, List}
 use Rattle.std.specs.Prelude.{[], ◌∷◌, length, drop, ◌&&◌, not, if◌then◌else◌}
 use Rattle.std.specs.List.{list_any, before_first}
@@ -11,19 +11,19 @@ use Rattle.be_pattern.specs.Parse.{Letter, letters, ending_backslash, is_bare, m
 abbrev pub letter_of : ℕ → code.Letter → Letter
 letter_of at l = record { at = at; escaped = l.escaped; char = l.char }
 
--- the letters of the last part of a text that has `total` bytes
+-- the letters of the remaining part of a text that has `total` bytes
 abbrev pub letters_in : ℕ → List ℕ → List Letter
 letters_in total rest = letters false (total - length rest) (chars rest)
 
 abbrev pub ending_in : ℕ → List ℕ → Option ℕ
 ending_in total rest = ending_backslash false (total - length rest) (chars rest)
 
--- the place where the last bytes begin, if their number isn't 0
+-- the offset of the bytes at the end, if their number isn't 0
 abbrev pub ending_of : ℕ → ℕ → Option ℕ
 ending_of total zero = None
 ending_of total (suc n) = Some (total - suc n)
 
--- the last character of a range, and the letters after it, if a `-` and that character come first
+-- if a `-` and a character come first, that character, which ends a range, and the letters after it
 abbrev pub dashed : List Letter → Option (ℕ × List Letter)
 dashed [] = None
 dashed (d ∷ []) = None
@@ -51,13 +51,13 @@ abbrev pub with_members : Bool → Option (List (ℕ × ℕ) × List Letter) →
 with_members negated None = None
 with_members negated (Some p) = with_rest p.1 (set_with negated p.0)
 
--- the set after a `[`, and the letters after it
+-- the set whose `[` precedes these letters, and the letters after it
 abbrev pub set_after : List Letter → Option (Part × List Letter)
 set_after [] = None
 set_after (l ∷ ls) = if is_bare 94 l then with_members true (members_after ls)
     else with_members false (members_after (l ∷ ls))
 
--- the token that begins with a letter, and the letters after it
+-- the token that begins with this letter, and the letters after it
 abbrev pub token_at : Letter → List Letter → Option (Part × List Letter)
 token_at l ls =
     if is_bare 42 l then Some (Run, ls)

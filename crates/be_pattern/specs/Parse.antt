@@ -1,4 +1,4 @@
--- What a pattern's text means. Places are in bytes, and characters are numbers.
+-- The meaning of a pattern's text. Positions are byte offsets, and characters are numbers.
 use Rattle.std.specs.Prelude.{◌≡◌, ◌⊎◌, ℕ, ◌+◌, ◌≤◌, zero, suc, Bool, true, false, Option, Some}
 use Rattle.std.specs.Prelude.{None, Result, Ok, Err, List, [], ◌∷◌, length, ◌&&◌, not, ◌==◌, nat_lt}
 use Rattle.std.specs.Prelude.{if◌then◌else◌}
@@ -8,14 +8,14 @@ use Rattle.be_value.specs.declared.refusals.Refusal.{Refusal}
 use Rattle.be_value.specs.declared.refusals.Refusal.TheVariants.{OutOfMemory, BadPattern}
 use Rattle.be_pattern.specs.Match.{Part, Run, One, Among, Only}
 
--- A character of the text: the place where it begins, including its backslash, and whether it has
--- one.
+-- A character of the text: the position at which it begins, including its backslash, and whether it
+-- has a backslash.
 pub record Letter : Type 0 where
   pub at : ℕ
   pub escaped : Bool
   pub char : ℕ
 
--- the letters of the text from a place on; the flag says whether a backslash comes before it
+-- the letters of the text from a position onward; the flag says whether a backslash precedes it
 abbrev pub letters : Bool → ℕ → List ℕ → List Letter
 letters escaped at [] = []
 letters true at (c ∷ cs) = record { at = at; escaped = true; char = c }
@@ -23,7 +23,7 @@ letters true at (c ∷ cs) = record { at = at; escaped = true; char = c }
 letters false at (c ∷ cs) = if c == 92 then letters true at cs
     else record { at = at; escaped = false; char = c } ∷ letters false (at + len_utf8 c) cs
 
--- the place of a backslash with nothing after it
+-- the position of a trailing backslash
 abbrev pub ending_backslash : Bool → ℕ → List ℕ → Option ℕ
 ending_backslash true at [] = Some at
 ending_backslash false at [] = None
@@ -35,7 +35,8 @@ ending_backslash false at (c ∷ cs) = if c == 92 then ending_backslash true at 
 abbrev pub is_bare : ℕ → Letter → Bool
 is_bare c l = (l.char == c) && not l.escaped
 
--- The members of a set: `c-d` goes from c to d, and any other letter is a range of itself.
+-- The members of a set: `c-d` is the range from c to d, and any other letter is a range of one
+-- character.
 abbrev pub members : List Letter → List (ℕ × ℕ)
 members [] = []
 members (c ∷ []) = (c.char, c.char) ∷ []
@@ -47,7 +48,7 @@ members (c ∷ d ∷ e ∷ ls) = if is_bare 45 d then (c.char, e.char) ∷ membe
 abbrev pub falls : List (ℕ × ℕ) → Bool
 falls = list_any (λ m. nat_lt m.1 m.0)
 
--- there are members, and none is descending
+-- there is at least one member, and no range is descending
 abbrev pub are_members : List (ℕ × ℕ) → Bool
 are_members [] = false
 are_members (m ∷ ms) = not (falls (m ∷ ms))
@@ -65,7 +66,7 @@ abbrev pub with_length : ℕ → Option Part → Option (Part × ℕ)
 with_length n None = None
 with_length n (Some p) = Some (p, n)
 
--- the set after a `[`, and how many letters it has, including its `]`
+-- the set whose `[` precedes these letters, and the number of its letters, including its `]`
 abbrev pub set_at : List Letter → Option (Part × ℕ)
 set_at ls =
     let body = before_first (is_bare 93) ls in
@@ -75,8 +76,8 @@ abbrev pub and_then : Part → Result (List Part) ℕ → Result (List Part) ℕ
 and_then p (Ok ps) = Ok (p ∷ ps)
 and_then p (Err at) = Err at
 
--- The tokens of the letters after the first `taken` ones, which have been read; or the place of the
--- first invalid set.
+-- The tokens of the letters after the first `taken` letters, which have already been read, or the
+-- position of the first invalid set.
 abbrev pub parts_after : ℕ → List Letter → Result (List Part) ℕ
 parts_after taken [] = Ok []
 parts_after (suc taken) (l ∷ ls) = parts_after taken ls
@@ -87,12 +88,12 @@ parts_after zero (l ∷ ls) =
     [ None ↦ Err l.at | Some s ↦ and_then s.0 (parts_after s.1 ls) ])
     else and_then (Only l.char) (parts_after 0 ls)))
 
--- The tokens of a pattern's text, or the place where it is invalid.
+-- The tokens of a pattern's text, or the position at which the text is invalid.
 abbrev pub pattern : List ℕ → Result (List Part) ℕ
 pattern cs = elim (ending_backslash false 0 cs)
     [ Some at ↦ Err at | None ↦ parts_after 0 (letters false 0 cs) ]
 
--- the error for a text of `len` bytes: out of memory, or the place where it is invalid
+-- the error for a text of `len` bytes: memory ran out, or the text is invalid at this position
 abbrev pub IsFault : Result (List Part) ℕ → ℕ → Refusal → Type 0
 IsFault read len e = (e ≡ OutOfMemory)
     ⊎ ((at : ℕ) × (e ≡ BadPattern at) × (read ≡ Err at) × (at ≤ len))

@@ -1,4 +1,4 @@
-//! Matching with one place to backtrack to.
+//! Matches with a single place to backtrack to.
 ghost use Rattle.std.specs.Prelude.{false, ◌≡◌, ◌∷◌, ◌++◌, ◌<◌, [], length, encode_utf8, IfNone};
 ghost use Rattle.std.specs.Prelude.{IfSome};
 ghost use Rattle.std.specs.List.{list_any};
@@ -8,7 +8,7 @@ ghost use Rattle.be_pattern.specs.Match.{matches, part_of, parts_of};
 
 use crate::token::Token;
 
-/// The first character and the text after it.
+/// The first character, and the text after it.
 pub fn split_first_char(text: &str) -> Option<(char, &str)>
     ensures empty { IfNone result (chars text.now ≡ []) }
     ensures split { IfSome result (λ p. text.now ≡ encode_utf8 p.0 ++ p.1.now) }
@@ -20,14 +20,14 @@ pub fn split_first_char(text: &str) -> Option<(char, &str)>
     Some((first, rest.as_str()))
 }
 
-/// Whether one of the ranges has the character.
+/// Whether one of the ranges contains the character.
 fn contains(members: &[(char, char)], c: char) -> bool
     ensures { result ≡ list_any (is_within c) members.now }
 {
     members.iter().any(|m| m.0 <= c && c <= m.1)
 }
 
-/// Whether a token other than `*` takes the character.
+/// Whether the token matches the character. A `*` doesn't.
 fn takes(token: &Token, c: char) -> bool
     ensures { result ≡ admits (part_of token.now) c }
 {
@@ -45,7 +45,7 @@ fn takes(token: &Token, c: char) -> bool
     }
 }
 
-/// The tokens after a `*`, if that comes first.
+/// The tokens after a `*`, if the tokens begin with one.
 fn split_run(tokens: &[Token]) -> Option<&[Token]>
     ensures found { IfSome result (λ after. parts_of tokens.now ≡ Run ∷ parts_of after.now) }
     ensures none { IfNone result (begins_with_run (parts_of tokens.now) ≡ false) }
@@ -57,8 +57,8 @@ fn split_run(tokens: &[Token]) -> Option<&[Token]>
     }
 }
 
-/// The tokens after the first and the text after its first character, if that token takes that
-/// character.
+/// If the first token matches the first character of the text, returns the remaining tokens and the
+/// remaining text.
 fn take_one<'a>(tokens: &'a [Token], text: &'a str) -> Option<(&'a [Token], &'a str)>
     ensures taken { IfSome result (λ p. TakesOne (parts_of tokens.now) (chars text.now)
         (parts_of p.0.now) (chars p.1.now)) }
@@ -77,13 +77,13 @@ fn take_one<'a>(tokens: &'a [Token], text: &'a str) -> Option<(&'a [Token], &'a 
     }
 }
 
-/// Whether the tokens match the text. It backtracks only to the last `*` that it passed.
+/// Whether the tokens match the text. It backtracks only to the most recent `*`.
 pub(crate) fn matches(all: &[Token], text: &str) -> bool
     ensures { result ≡ matches (parts_of all.now) (chars text.now) }
 {
     let mut tokens = all;
     let mut rest = text;
-    // The tokens after that `*`, and where its run ends so far.
+    // The tokens after that `*`, and the text after the run that it has matched so far.
     let mut retry: Option<(&[Token], &str)> = None;
     'scan: loop {
         if let Some(after) = split_run(tokens) {

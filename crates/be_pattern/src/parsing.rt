@@ -1,5 +1,5 @@
-//! Reads a pattern's text letter by letter. A letter is a character, with or without a backslash
-//! before it.
+//! Reads a pattern's text one letter at a time. A letter is a character, with or without a
+//! backslash before it.
 ghost use Rattle.std.specs.Prelude.{◌≡◌, ◌<◌, ◌≤◌, ◌-◌, ◌∷◌, ℕ, [], map, true, false, length, Ok};
 ghost use Rattle.std.specs.Prelude.{Some, None, IfOk, IfErr, IfSome, IfNone, MatchOption};
 ghost use Rattle.std.specs.List.{list_any};
@@ -35,7 +35,7 @@ impl Letter {
     }
 }
 
-/// The first letter, and the text after it. `None` at the end of the text and for an ending
+/// The first letter, and the text after it. Returns `None` if the text is empty or is a single
 /// backslash.
 fn split_letter(text: &str) -> Option<(Letter, &str)>
     ensures some { IfSome result (λ p. (total : ℕ) → length text.now ≤ total
@@ -72,7 +72,7 @@ fn split_letter(text: &str) -> Option<(Letter, &str)>
     ))
 }
 
-/// The text after the last letter: empty, or an ending backslash.
+/// The text after the last letter: either empty or a trailing backslash.
 fn after_letters(text: &str) -> &str
     ensures within { length result.now ≤ length text.now }
     ensures ending { (total : ℕ) → length text.now ≤ total → ending_in total text.now
@@ -85,14 +85,14 @@ fn after_letters(text: &str) -> &str
     rest
 }
 
-/// Whether one of the bytes is a `"`, or a character that has another meaning without a backslash.
+/// Whether one of the bytes is `"` or a character that has a special meaning without a backslash.
 fn has_special(bytes: &[u8]) -> bool
     ensures { result ≡ list_any is_special bytes.now }
 {
     bytes.iter().any(|b| *b == b'"' || *b == b'\\' || *b == b'*' || *b == b'?' || *b == b'[')
 }
 
-/// Whether each character of a text is plainly a token of its own. Only the bytes are examined.
+/// Whether each character of a text is literal without a backslash. Only the bytes are examined.
 pub(crate) fn is_literal(text: &str) -> bool
     ensures { result ≡ true → pattern (chars text.now) ≡ Ok (map Only (chars text.now)) }
 {
@@ -125,7 +125,8 @@ pub(crate) fn parse(alloc: Global, text: &str) -> Result<Vec<Token>, Refusal>
     Ok(tokens)
 }
 
-/// The token that begins with a letter, and the text after it. `None` if it is an invalid set.
+/// The token that begins with this letter, and the text after it. Returns `None` if the token is an
+/// invalid set.
 fn read_token(
     alloc: Global,
     letter: Letter,
@@ -150,7 +151,7 @@ fn read_token(
     Ok(Some((Token::Literal(char), text)))
 }
 
-/// The text after a `^`, if that comes first.
+/// The text after a `^`, if the text begins with one.
 fn split_caret(text: &str) -> Option<&str>
     ensures some { IfSome result (λ after. (total : ℕ) → length text.now ≤ total
         → set_after (letters_in total text.now)
@@ -170,7 +171,8 @@ fn split_caret(text: &str) -> Option<&str>
     }
 }
 
-/// The set after a `[`, and the text after its `]`. `None` if the set is invalid.
+/// The set whose `[` precedes this text, and the text after its `]`. Returns `None` if the set is
+/// invalid.
 fn read_set(alloc: Global, text: &str) -> Result<Option<(Token, &str)>, AllocError>
     ensures set { IfOk result (λ o. (total : ℕ) → length text.now ≤ total → MatchOption o
         (set_after (letters_in total text.now) ≡ None)
@@ -184,7 +186,8 @@ fn read_set(alloc: Global, text: &str) -> Result<Option<(Token, &str)>, AllocErr
     }
 }
 
-/// The set whose members begin the text, and the text after its `]`. `None` if the set is invalid.
+/// The set whose members begin this text, and the text after its `]`. Returns `None` if the set is
+/// invalid.
 fn read_members(
     alloc: Global,
     negated: bool,
@@ -213,7 +216,7 @@ fn read_members(
     Ok(None)
 }
 
-/// If `-` and a character come next, as in a range: that character, and the text after it.
+/// If `-` and a character come next, as in a range, returns that character and the text after it.
 fn split_range(text: &str) -> Option<(char, &str)>
     ensures none { IfNone result ((total : ℕ) → length text.now ≤ total
         → dashed (letters_in total text.now) ≡ None) }
@@ -249,7 +252,7 @@ fn range_end(first: char, text: &str) -> (char, &str)
     }
 }
 
-/// Whether there are ranges, and none is descending.
+/// Whether there is at least one range and no range is descending.
 fn are_members(members: &[(char, char)]) -> bool
     ensures { result ≡ are_members members.now }
 {

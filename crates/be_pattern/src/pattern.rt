@@ -1,4 +1,4 @@
-//! A pattern, and what its callers can do with it.
+//! A pattern, and the operations on it.
 ghost use Rattle.std.specs.Prelude.{◌≡◌, ◌++◌, ℕ, List, [], true, map, length, Ok, Err, IfOk};
 ghost use Rattle.std.specs.Prelude.{IfErr, string_bytes, encode_utf8_all};
 ghost use Rattle.std.specs.Str.{chars};
@@ -15,17 +15,17 @@ use be_value::Refusal;
 use std::alloc::{AllocError, Global};
 use std::marker::Model;
 
-/// A pattern over characters. Contracts see its tokens as values.
+/// A pattern over characters. Contracts see it as its list of tokens.
 #[derive(Debug, Drop)]
 pub struct Pattern {
-    /// The tokens, or `None` if the text is plainly literal. Then the characters of `prefix` are
-    /// the tokens.
+    /// The tokens, or `None` if every character of the text is literal. In that case, each
+    /// character of `prefix` is a token.
     tokens: Option<Vec<Token>>,
     /// The literal characters before the first wildcard.
     prefix: String,
-    /// Whether there is no wildcard.
+    /// Whether the pattern has no wildcard.
     is_plain: bool,
-    /// Whether there is no wildcard, or only one `*` at the end.
+    /// Whether the pattern has no wildcard, or only one `*` at the end.
     is_prefix: bool,
 }
 
@@ -46,14 +46,14 @@ impl Model for Pattern {
 }
 
 impl Pattern {
-    /// Reads a pattern. If the text is invalid, the error has the place in bytes. It is that of an
-    /// ending backslash, which is looked for first, or of the first invalid set's `[`. A set is
+    /// Reads a pattern. If the text is invalid, the error has the byte offset of a trailing
+    /// backslash, which is looked for first, or of the `[` of the first invalid set. A set is
     /// invalid if it has no `]`, no members, or a descending range. It allocates memory at most a
-    /// few times for each token.
+    /// few times per token.
     pub fn parse(alloc: Global, text: &str) -> Result<Pattern, Refusal>
         // The tokens are those that the text encodes.
         ensures ok { IfOk result (λ p. pattern (chars text.now) ≡ Ok p) }
-        // The error is out of memory, or the place where the text is invalid.
+        // The error is OutOfMemory, or gives the offset at which the text is invalid.
         ensures err { IfErr result (IsFault (pattern (chars text.now)) (length text.now)) }
     {
         if parsing::is_literal(text) {
@@ -62,8 +62,8 @@ impl Pattern {
         Ok(pattern_of(alloc, parsing::parse(alloc, text)?)?)
     }
 
-    /// A pattern that matches the text literally, with a `*` before or after it if the arguments
-    /// say so.
+    /// A pattern that matches the text literally, with a `*` before it, after it or both, according
+    /// to the flags.
     pub fn around(alloc: Global, before: bool, text: &str, beyond: bool) -> Result<Pattern, Refusal>
         ensures ok { IfOk result (λ p. p ≡ around before (chars text.now) beyond) }
         ensures err { IfErr result (λ e. e ≡ OutOfMemory) }
@@ -74,9 +74,9 @@ impl Pattern {
         Ok(pattern_of(alloc, tokens)?)
     }
 
-    /// Whether the pattern matches the whole text. It takes no memory, and mostly takes one step
-    /// per character. At worst it takes the number of characters times the number of tokens after
-    /// the last `*`.
+    /// Whether the pattern matches the whole text. It allocates nothing, and usually takes one step
+    /// per character. In the worst case, the number of steps is the number of characters times the
+    /// number of tokens after the last `*`.
     pub fn matches(&self, text: &str) -> bool
         ensures { result ≡ matches self.now (chars text.now) }
     {
@@ -86,18 +86,18 @@ impl Pattern {
         }
     }
 
-    /// Whether there is no wildcard, so that the pattern matches only one text.
+    /// Whether the pattern has no wildcard, so that it matches only one text.
     pub fn is_plain(&self) -> bool
         ensures { result ≡ is_plain self.now }
     {
         self.is_plain
     }
 
-    /// Whether there is no wildcard, or only one `*` at the end. Then how a text begins decides
-    /// whether it matches.
+    /// Whether the pattern has no wildcard, or only one `*` at the end. In that case, the beginning
+    /// of a text determines whether it matches.
     pub fn is_prefix(&self) -> bool
         ensures reported { result ≡ is_prefix self.now }
-        // It matches its prefix, and with a `*` also the prefix followed by anything.
+        // The pattern matches its prefix and, with a `*`, also the prefix followed by anything.
         ensures decides { result ≡ true → (beyond : List ℕ)
             → (is_plain self.now ≡ true → beyond ≡ []) →
             matches self.now (literal_prefix self.now ++ beyond) ≡ true }
@@ -105,16 +105,16 @@ impl Pattern {
         self.is_prefix
     }
 
-    /// The literal characters before the first wildcard. Every text that matches begins with them.
+    /// The literal characters before the first wildcard. Every matching text begins with them.
     pub fn prefix(&self) -> &str
         ensures { result.now ≡ encode_utf8_all (literal_prefix self.now) }
     {
         &self.prefix
     }
 
-    /// The canonical text, which encodes the same tokens (`laws::canonical`). Members of sets keep
-    /// their order. A backslash comes only before `"` and before a character that would mean
-    /// something else without it.
+    /// The canonical text, which encodes the same tokens (`laws::canonical`). The members of sets
+    /// keep their order. A backslash is written only before `"` and before a character that would
+    /// have another meaning without it.
     pub fn canonical(&self, alloc: Global) -> Result<String, Refusal>
         ensures ok { IfOk result (λ s. string_bytes s ≡ encode_utf8_all (canonical self.now)) }
         ensures err { IfErr result (λ e. e ≡ OutOfMemory) }
@@ -156,7 +156,7 @@ fn pattern_of(alloc: Global, tokens: Vec<Token>) -> Result<Pattern, AllocError>
     })
 }
 
-/// The tokens, with a `*` added if the flag is set.
+/// The tokens, with a `*` added at the end if the flag is set.
 fn push_run(mut tokens: Vec<Token>, is_there: bool) -> Result<Vec<Token>, AllocError>
     ensures { IfOk result (λ v. parts_of v.items ≡ parts_of tokens.items ++ run_if is_there) }
 {
@@ -167,7 +167,7 @@ fn push_run(mut tokens: Vec<Token>, is_there: bool) -> Result<Vec<Token>, AllocE
     Ok(tokens)
 }
 
-/// The tokens followed by the characters of a text.
+/// The tokens, followed by the characters of a text.
 fn push_literals(mut tokens: Vec<Token>, text: &str) -> Result<Vec<Token>, AllocError>
     ensures { IfOk result (λ v. parts_of v.items ≡ parts_of tokens.items
         ++ map Only (chars text.now)) }

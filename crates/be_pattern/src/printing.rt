@@ -24,7 +24,7 @@ fn is_literal(token: &Token) -> bool
     }
 }
 
-/// Whether there is no wildcard.
+/// Whether none of the tokens is a wildcard.
 pub(crate) fn is_plain(tokens: &[Token]) -> bool
     ensures { result ≡ is_plain (parts_of tokens.now) }
 {
@@ -38,7 +38,7 @@ pub(crate) fn is_plain(tokens: &[Token]) -> bool
     true
 }
 
-/// Whether a token that isn't literal is a `*` at the end.
+/// Whether the token, which must not be literal, is a `*` at the end.
 fn is_last_run(token: &Token, after: &[Token]) -> bool
     requires { is_literal (part_of token.now) ≡ false }
     ensures { result ≡ is_prefix (part_of token.now ∷ parts_of after.now) }
@@ -49,7 +49,7 @@ fn is_last_run(token: &Token, after: &[Token]) -> bool
     }
 }
 
-/// Whether there is no wildcard, or only one `*` at the end.
+/// Whether none of the tokens is a wildcard, or only a `*` at the end.
 pub(crate) fn is_prefix(tokens: &[Token]) -> bool
     ensures { result ≡ is_prefix (parts_of tokens.now) }
 {
@@ -63,7 +63,7 @@ pub(crate) fn is_prefix(tokens: &[Token]) -> bool
     true
 }
 
-/// The first token's character, and the tokens after it, if that token is literal.
+/// If the first token is literal, returns its character and the tokens after it.
 fn split_literal(tokens: &[Token]) -> Option<(char, &[Token])>
     ensures some { IfSome result (λ p. parts_of tokens.now ≡ Only p.0 ∷ parts_of p.1.now) }
     ensures none { IfNone result (literal_prefix (parts_of tokens.now) ≡ []) }
@@ -89,7 +89,7 @@ pub(crate) fn prefix(alloc: Global, tokens: &[Token]) -> Result<String, AllocErr
     Ok(text)
 }
 
-/// The canonical text.
+/// The canonical text of the tokens.
 pub(crate) fn canonical(alloc: Global, tokens: &[Token]) -> Result<String, AllocError>
     ensures { IfOk result (λ s. string_bytes s
         ≡ encode_utf8_all (canonical (parts_of tokens.now))) }
@@ -130,7 +130,7 @@ fn is_special_in_set(c: char) -> bool
     c == '"' || c == '\\' || c == '[' || c == ']' || c == '^' || c == '-'
 }
 
-/// Appends a character, with a backslash before it if the flag is set.
+/// Appends a character, preceded by a backslash if the flag is set.
 fn push_marked(text: &mut String, c: char, backslash: bool) -> Result<(), AllocError>
     ensures { IfOk result (λ _. string_bytes text.new ≡ string_bytes text.old
         ++ encode_utf8_all (marked backslash c)) }

@@ -1,17 +1,17 @@
 //! A pattern's tokens.
 
-/// One token of a pattern.
+/// A token of a pattern.
 #[derive(Debug, Drop)]
 pub enum Token {
     /// `*`: any run of characters.
     AnyRun,
-    /// `?`: one character.
+    /// `?`: any single character.
     AnyOne,
-    /// One character that is in one of the ranges or, if negated, in none.
+    /// A character that is in one of the ranges or, if the set is negated, in none of them.
     Set {
         negated: bool,
         members: Vec<(char, char)>,
     },
-    /// This character.
+    /// This character itself.
     Literal(char),
 }

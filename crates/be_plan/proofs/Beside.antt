@@ -1,4 +1,4 @@
--- The bytes next to a key.
+-- The byte strings next to a key.
 use Rattle.std.proofs.Common.{◌≡◌, ℕ, true, false, List, [], ◌∷◌, ◌++◌, refl, sym, ap, ◌∙◌}
 use Rattle.std.specs.Ordering.{nat_cmp, is_lt, is_gt, ordering_then}
 use Rattle.std.specs.Cmp.{nat_cmp_is}
@@ -7,7 +7,7 @@ use Rattle.std.specs.declared.cmp.Ordering.TheVariants.{Less, Equal, Greater}
 use Rattle.be_volume.specs.Maps.{name_cmp}
 use Rattle.be_plan.proofs.Bounds.{not_below_empty, not_less}
 
--- what is above a key isn't below the key with a zero byte
+-- What is above a key isn't below the key followed by a zero byte.
 pub above_zero : (k a : List ℕ) → is_gt (name_cmp k a) ≡ true → is_lt (name_cmp k (a ++ 0 ∷ [])) ≡ false
 above_zero [] [] h = cc
 above_zero [] (y ∷ a) h = cc
@@ -24,7 +24,7 @@ above_zero (x ∷ k) (y ∷ a) h = by (nat_cmp x y) (above_zero k a) h
     by Equal rest e = rest e
     by Greater rest e = refl
 
--- what is below a key with a zero byte isn't above the key without it
+-- What is below a key followed by a zero byte isn't above the key itself.
 pub below_zero : (k a : List ℕ) → is_lt (name_cmp k (a ++ 0 ∷ [])) ≡ true → is_gt (name_cmp k a) ≡ false
 below_zero [] [] h = refl
 below_zero [] (y ∷ a) h = refl
@@ -41,7 +41,7 @@ below_zero (x ∷ k) (y ∷ a) h = by (nat_cmp x y) (below_zero k a) h
     by Equal rest e = rest e
     by Greater rest e = cc
 
--- a key with a zero byte is above the key
+-- A key followed by a zero byte is above the key.
 pub longer : (a : List ℕ) → is_gt (name_cmp (a ++ 0 ∷ []) a) ≡ true
 longer [] = refl
 longer (x ∷ a) = ap (λ o. is_gt (ordering_then o (name_cmp (a ++ 0 ∷ []) a))) (sym (nat_cmp_is x x Equal refl)) ∙ longer a

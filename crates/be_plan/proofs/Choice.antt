@@ -1,4 +1,4 @@
--- The choice covers the query, and there is none exactly if no index covers it.
+-- The choice covers the query, and there is no choice if and only if the indices don't cover it.
 use Rattle.std.proofs.Common.{◌≡◌, ◌<◌, zero, suc, length, ◌+◌, ◌⊎◌, inl, inr, ℕ, Bool, true, false, ◌&&◌, ◌||◌, List, [], ◌∷◌, ◌++◌, nat_eq, nat_lt, refl, sym, ap, ◌∙◌, subst, arith, Some, None, add-zero, if◌then◌else◌}
 use Rattle.std.specs.Prelude.{slice_get}
 use Rattle.std.proofs.lemmas.Bool.Decides.{nat_tests}
@@ -42,7 +42,7 @@ all_both : (p : ℕ → Bool) (xs ys : List ℕ) → list_all p xs ≡ true → 
 all_both p [] ys h g = g
 all_both p (x ∷ xs) ys h g = ap (λ t. t && list_all p (xs ++ ys)) (and_first (p x) (list_all p xs) h) ∙ all_both p xs ys (and_second (p x) (list_all p xs) h) g
 
--- more picks cover what fewer cover
+-- Whatever some picks cover is also covered by a superset of these picks.
 grows : (ps qs : List ℕ) → ((n : ℕ) → list_any (nat_eq n) ps ≡ true → list_any (nat_eq n) qs ≡ true) → (at : ℕ) (f : Formula) → covers_part ps at f ≡ true → covers_part qs at f ≡ true
 grows ps qs g at (Leaf name op literal) h = g at h
 grows ps qs g at (And a b) h =
@@ -56,7 +56,7 @@ itself : (n : ℕ) → nat_eq n n ≡ true
 itself n = grind (arith, nat_tests)
 
 module _ (indexed : List ℕ → Bool) (whole : Formula) where
-  -- what holds for a choice for a part
+  -- What holds for the choice for a part.
   pub record Covering (at : ℕ) (f : Formula) (cover : Cover) : Type 0 where
     pub rest : rests indexed f ≡ true
     pub indices : list_all (rests_on indexed whole) cover.picks ≡ true
@@ -117,20 +117,20 @@ module _ (indexed : List ℕ → Bool) (whole : Formula) where
   is_choice at (And a b) part = of_both at a b _ _ (is_choice at a (left_part whole at a b part)) (is_choice (at + comparisons a) b (right_part whole at a b part))
   is_choice at (Or a b) part = of_either at a b _ _ (is_choice at a (left_part whole at a b part)) (is_choice (at + comparisons a) b (right_part whole at a b part))
 
--- if the comparison at a place has an index, the place is one of a comparison
+-- If the comparison at a position has an index, the position is that of a comparison.
 below : (indexed : List ℕ → Bool) (xs : List Comparison) (p : ℕ) → option_map_or (λ c. indexed c.name) (slice_get xs p) false ≡ true → p < length xs
 below indexed [] p h = cc
 below indexed (x ∷ xs) zero h = omega arith
 below indexed (x ∷ xs) (suc p) h = omega (arith, below indexed xs p h)
 
--- a pick that rests on an index is a place
+-- A pick on an indexed name is the position of a comparison.
 pub pick_below : (indexed : List ℕ → Bool) (f : Formula) (pick : ℕ) → rests_on indexed f pick ≡ true → pick < comparisons f
 pick_below indexed f pick h = let here : pick < length (leaves f) = below indexed (leaves f) pick h in omega (arith, length-leaves f)
 
 less : (n m : ℕ) → n < m → nat_lt n m ≡ true
 less n m h = grind (arith, nat_tests)
 
--- picks that rest on indices are places of comparisons
+-- Picks on indexed names are positions of comparisons.
 pub placed : (indexed : List ℕ → Bool) (f : Formula) (picks : List ℕ) → list_all (rests_on indexed f) picks ≡ true → are_places f picks ≡ true
 placed indexed f [] h = refl
 placed indexed f (p ∷ picks) h =
@@ -138,14 +138,14 @@ placed indexed f (p ∷ picks) h =
     ap (λ t. t && are_places f picks) (less p (comparisons f) (omega (arith, length-leaves f)))
     ∙ placed indexed f picks (and_second (rests_on indexed f p) (list_all (rests_on indexed f) picks) h)
 
--- picks that cover a query are places
+-- Picks that cover a query are positions of comparisons.
 pub covers_placed : (indexed : List ℕ → Bool) (f : Formula) (picks : List ℕ) → covers indexed picks f ≡ true → are_places f picks ≡ true
 covers_placed indexed f picks h = placed indexed f picks (and_first (list_all (rests_on indexed f) picks) (covers_part picks 0 f) h)
 
 whole_part : (f : Formula) → IsPart f 0 f
 whole_part f i h = let e : 0 + i ≡ i = omega arith in ap (slice_get (leaves f)) e
 
--- what follows from the returned choice
+-- What follows from the choice that was returned.
 pub choice_reported : (indexed : List ℕ → Bool) (f : Formula) (result : Result Cover Refusal) → Answers (λ cover. cover) result (chosen indexed f) →
     IfOk result (λ cover. (covers indexed cover.picks f ≡ true) × (rests indexed f ≡ true))
     × IfErr result (λ e. (e ≡ OutOfMemory) ⊎ ((e ≡ NotCovered) × (rests indexed f ≡ false)))

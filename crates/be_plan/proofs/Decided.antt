@@ -17,13 +17,13 @@ use Rattle.be_plan.proofs.Marked.{nothing_in}
 use Rattle.be_plan.proofs.Seen.{left_key}
 use Rattle.be_plan.proofs.Sides.{named_found, named_rests}
 
--- comparisons are all on at most one name
+-- If all comparisons are on two names, the names are equal.
 pub same_name : (f : Formula) (a b : List ℕ) → AreAllOn f a → AreAllOn f b → a ≡ b
 same_name (Leaf own op literal) a b x y = sym x ∙ y
 same_name (And left right) a b x y = same_name left a b x.0 y.0
 same_name (Or left right) a b x y = absurd x
 
--- nodes in order that are those of a range which decides the formula are its scan
+-- If a range decides the formula, its nodes in order are the formula's scan.
 pub decided_scan : (s : State) (f : Formula) (name : List ℕ) (kind : Kind) (low : List ℕ) (high : Option (List ℕ)) (found nodes : List ℕ) →
     IsSound s → AreAllOn f name → index_kind s name ≡ Some kind → Decides f kind low high →
     HasOnly s name low high [] found → HasNodes s name low high found → IsStrictlyIncreasing nodes → Keeps found nodes → Keeps nodes found → scan s f ≡ Ok nodes

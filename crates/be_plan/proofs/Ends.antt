@@ -1,4 +1,4 @@
--- What the ends of a range say about its keys.
+-- What the ends of a range imply about its keys.
 use Rattle.std.proofs.Common.{◌≡◌, ◌<◌, ◌^◌, ℕ, Bool, true, false, not, List, Some, None, if◌then◌else◌, refl, sym, ap, ◌∙◌}
 use Rattle.std.specs.List.{Contains}
 use Rattle.std.specs.Ordering.{is_lt, is_gt, ordering_reverse}
@@ -19,7 +19,8 @@ use Rattle.be_plan.specs.declared.ranges.Range.{Range}
 use Rattle.be_plan.specs.Walk.{HasCome, HasWanted, Keeps}
 use Rattle.be_plan.proofs.Passing.{total, reversed, greater_trans, above_too, ends_above, passes}
 
--- a key not below the low end isn't below a bound that the low end isn't below
+-- If a key isn't below the low end and the low end isn't below a bound, the key isn't below the
+-- bound.
 pub not_below : (k low bound : List ℕ) → is_lt (name_cmp low bound) ≡ false → is_lt (name_cmp k low) ≡ false → is_lt (name_cmp k bound) ≡ false
 not_below k low bound least h = by (name_cmp k bound) refl
   where
@@ -32,7 +33,8 @@ not_below k low bound least h = by (name_cmp k bound) refl
     by Equal e = refl
     by Greater e = refl
 
--- a key not above the high end isn't above a bound that isn't below the high end
+-- If a key isn't above the high end and the bound isn't below the high end, the key isn't above the
+-- bound.
 pub not_above : (k high bound : List ℕ) → is_lt (name_cmp bound high) ≡ false → is_gt (name_cmp k high) ≡ false → is_gt (name_cmp k bound) ≡ false
 not_above k high bound greatest h = by (name_cmp k bound) refl
   where
@@ -46,7 +48,8 @@ not_above k high bound greatest h = by (name_cmp k bound) refl
     by Equal e = refl
     by Greater e = let no : true ≡ false = sym (ap is_gt (beyond e _ refl greatest)) ∙ h in absurd (cc no)
 
--- a key not above the high end isn't above a bound that the high end isn't above
+-- If a key isn't above the high end and the high end isn't above a bound, the key isn't above the
+-- bound.
 pub not_past : (k high bound : List ℕ) → is_gt (name_cmp high bound) ≡ false → is_gt (name_cmp k high) ≡ false → is_gt (name_cmp k bound) ≡ false
 not_past k high bound least h = not_above k high bound (turned (name_cmp high bound) refl least) h
   where
@@ -55,7 +58,7 @@ not_past k high bound least h = not_above k high bound (turned (name_cmp high bo
     turned Equal e g = ap is_lt (total.antisymm bound high ∙ ap ordering_reverse e)
     turned Greater e g = cc
 
--- a bound above another one isn't below it
+-- A bound above another one isn't below it.
 pub up_not_below : (low bound : List ℕ) → is_lt (name_cmp low bound) ≡ true → is_lt (name_cmp bound low) ≡ false
 up_not_below low bound up = by (name_cmp low bound) refl up
   where
@@ -64,7 +67,8 @@ up_not_below low bound up = by (name_cmp low bound) refl up
     by Equal e g = cc
     by Greater e g = cc
 
--- a key not above a bound below the high end isn't above the high end
+-- If a key isn't above a bound and the bound is below the high end, the key isn't above the high
+-- end.
 pub reached : (k high bound : List ℕ) → is_gt (name_cmp high bound) ≡ true → is_gt (name_cmp k bound) ≡ false → is_gt (name_cmp k high) ≡ false
 reached k high bound over h = not_above k bound high (by (name_cmp high bound) over) h
   where
@@ -73,7 +77,7 @@ reached k high bound over h = not_above k bound high (by (name_cmp high bound) o
     by Equal g = refl
     by Greater g = refl
 
--- a key not below a bound above the low end isn't below the low end
+-- If a key isn't below a bound and the bound is above the low end, the key isn't below the low end.
 pub started : (k low bound : List ℕ) → is_lt (name_cmp low bound) ≡ true → is_lt (name_cmp k bound) ≡ false → is_lt (name_cmp k low) ≡ false
 started k low bound up h = not_below k bound low (up_not_below low bound up) h
 
@@ -85,11 +89,11 @@ is_greater Less h = cc
 is_greater Equal h = cc
 is_greater Greater h = refl
 
--- a key not below a low end above the bound is above the bound
+-- If a key isn't below the low end and the low end is above a bound, the key is above the bound.
 pub beyond : (k low bound : List ℕ) → is_gt (name_cmp low bound) ≡ true → is_lt (name_cmp k low) ≡ false → is_gt (name_cmp k bound) ≡ true
 beyond k low bound up h = ap is_gt (above_too k low bound _ refl h (is_greater _ up))
 
--- a key not above a high end below the bound is below the bound
+-- If a key isn't above the high end and the high end is below a bound, the key is below the bound.
 pub before : (k high bound : List ℕ) → is_gt (name_cmp bound high) ≡ true → is_gt (name_cmp k high) ≡ false → is_lt (name_cmp k bound) ≡ true
 before k high bound up h = by (name_cmp k bound) refl
   where
@@ -106,17 +110,17 @@ greater_not_less Less h = cc
 greater_not_less Equal h = cc
 greater_not_less Greater h = refl
 
--- the next key of a walk that began at the low end isn't below the low end
+-- The next key of a walk that began at the low end isn't below the low end.
 from_low : (from : List ℕ) (after : Bool) (next low : List ℕ) → is_at_or_after from after next ≡ true → is_lt (name_cmp from low) ≡ false → is_lt (name_cmp next low) ≡ false
 from_low from true next low h g = not_below next from low g (greater_not_less _ h)
 from_low from false next low h g = not_below next from low g (not_true _ h)
 
--- the low end isn't below itself
+-- The low end isn't below itself.
 at_low : (low : List ℕ) → is_lt (name_cmp low low) ≡ false
 at_low low = ap is_lt (tied_itself total low)
 
 module _ (s : State) (Wanted : ℕ → Type 0) (name low : List ℕ) (high : Option (List ℕ)) where
-  -- a walk begins at the low end
+  -- A walk begins at the low end.
   pub comes_first : (next : Option (List ℕ)) (found : List ℕ) → IsNextKey s name low false next → HasCome s Wanted name low high next found
   comes_first next found is = record {
     from = low;
@@ -126,7 +130,7 @@ module _ (s : State) (Wanted : ℕ → Type 0) (name low : List ℕ) (high : Opt
     passed = λ k h w no holds. let yes : true ≡ false = sym (ap not w.from_low) ∙ no in cc;
   }
 
-  -- a walk continues from a key whose node was visited
+  -- A walk continues from a key whose node was visited.
   pub comes_next : (key : List ℕ) (next : Option (List ℕ)) (before now : List ℕ) → IsSound s → HasCome s Wanted name low high (Some key) before → Keeps before now →
       ((v : Value) (n : ℕ) → n < 2 ^ 64 → key ≡ key_bytes v n → Wanted n → Contains now n) → IsNextKey s name key true next → HasCome s Wanted name low high next now
   comes_next key next before now sound come keeps has is = record {
@@ -137,10 +141,10 @@ module _ (s : State) (Wanted : ℕ → Type 0) (name low : List ℕ) (high : Opt
     passed = passes s Wanted name low high come.from come.after key before now sound come.is_next come.passed keeps has;
   }
 
-  -- a walk has passed the range if the next key is above it
+  -- If the next key is above the range, the walk has visited the whole range.
   pub came_above : (key found : List ℕ) → is_above high key ≡ true → HasCome s Wanted name low high (Some key) found → HasWanted s Wanted name low high found
   came_above key found up come = ends_above s Wanted name low high come.from come.after key found come.is_next up come.passed
 
-  -- the next key isn't below the low end
+  -- The next key isn't below the low end.
   pub came_from_low : (key found : List ℕ) → HasCome s Wanted name low high (Some key) found → is_lt (name_cmp key low) ≡ false
   came_from_low key found come = from_low come.from come.after key low come.is_next.1 come.start

@@ -1,4 +1,4 @@
--- Texts whose keys lie between a pattern's front and the front with its limit.
+-- Strings whose keys are between a pattern's front and that front with its limit appended.
 use Rattle.std.proofs.Common.{◌≡◌, ◌<◌, ℕ, true, false, List, [], ◌∷◌, ◌++◌, append_assoc, refl, sym, ap, ◌∙◌, arith}
 use Rattle.std.specs.Int.{to_be_bytes, w64}
 use Rattle.std.specs.Str.{chars, IsUtf8}
@@ -18,7 +18,7 @@ use Rattle.be_plan.specs.Narrow.{limit}
 use Rattle.be_plan.proofs.LongTexts.{some_byte}
 use Rattle.be_plan.proofs.Prefixes.{front_bytes}
 
--- The text begins with the front, and equals the front if the limit is 1.
+-- The string begins with the front, and equals the front if the limit is 1.
 record Begun (front text : List ℕ) (end : ℕ) : Type 0 where
   pub rest : List ℕ
   pub is : text ≡ front ++ rest
@@ -56,7 +56,7 @@ module _ (end : ℕ) (s : List ℕ) where
           record { rest = b.rest; is = ap (λ x. x ∷ text) same ∙ ap (λ t. f ∷ t) b.is; whole = b.whole }
       by Greater e low high more = cc
 
--- A pattern that its front decides matches each text whose key lies there.
+-- If its front decides a pattern, the pattern matches every string whose key is in that range.
 pub front_decides : (parts : List Part) (text : List ℕ) (n : ℕ) → IsUtf8 (front_bytes parts) → has_nul (front_bytes parts) ≡ false → has_nul text ≡ false →
     is_lt (name_cmp (key (Cstr text) n) (front_bytes parts)) ≡ false →
     is_gt (name_cmp (key (Cstr text) n) (front_bytes parts ++ limit (is_plain parts) ∷ [])) ≡ false →

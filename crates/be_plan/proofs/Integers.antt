@@ -1,4 +1,4 @@
--- Values of integer kinds, and the ends of keys of literals' values.
+-- Values of integer kinds, and the ends of keys for values of literals.
 use Rattle.std.proofs.Common.{◌≡◌, ℕ, ℤ, pos, false, List, [], ◌∷◌, ◌++◌, append_assoc, length, ◌≤◌, arith, Some, refl, sym, ap, Option}
 use Rattle.std.specs.Str.{IsUtf8}
 use Rattle.std.proofs.lemmas.Bool.Decides.{nat_tests}
@@ -14,7 +14,7 @@ use Rattle.be_value.specs.declared.values.Value.{Value}
 use Rattle.be_value.specs.declared.values.Value.TheVariants.{Cstr, Long, Llng, Mims, Rawt, Ulng, Ullg}
 use Rattle.be_plan.specs.Narrow.{HasEnds, Represents}
 
--- the value of an integer kind with this number
+-- The value of an integer kind with this number.
 abbrev pub number_value : Kind → Option ℤ → Value
 number_value kinds.Long (Some n) = Long n
 number_value kinds.Llng (Some n) = Llng n
@@ -22,7 +22,7 @@ number_value kinds.Ulng (Some (pos n)) = Ulng n
 number_value kinds.Ullg (Some (pos n)) = Ullg n
 number_value _ _ = Ulng 0
 
--- after a number come the eight bytes of the node
+-- In a key, a number is followed by the eight bytes of the node.
 pub number_ends : (b : Value) (bytes : List ℕ) → bytes ≡ value_key b → HasEnds b bytes (0 ∷ 0 ∷ 0 ∷ 0 ∷ 0 ∷ 0 ∷ 0 ∷ 0 ∷ []) (255 ∷ 255 ∷ 255 ∷ 255 ∷ 255 ∷ 255 ∷ 255 ∷ 255 ∷ 0 ∷ [])
 number_ends b bytes e = record {
   below = 0 ∷ 0 ∷ 0 ∷ 0 ∷ 0 ∷ 0 ∷ 0 ∷ [];
@@ -33,7 +33,7 @@ number_ends b bytes e = record {
   greatest = ap (λ f. f ++ 255 ∷ 255 ∷ 255 ∷ 255 ∷ 255 ∷ 255 ∷ 255 ∷ 255 ∷ []) e;
 }
 
--- and after a text a zero byte comes before these
+-- In a key, a string is followed by a zero byte and the eight bytes of the node.
 pub text_ends : (text : List ℕ) → HasEnds (Cstr text) text (0 ∷ 0 ∷ 0 ∷ 0 ∷ 0 ∷ 0 ∷ 0 ∷ 0 ∷ 0 ∷ []) (0 ∷ 255 ∷ 255 ∷ 255 ∷ 255 ∷ 255 ∷ 255 ∷ 255 ∷ 255 ∷ 0 ∷ [])
 text_ends text = record {
   below = 0 ∷ 0 ∷ 0 ∷ 0 ∷ 0 ∷ 0 ∷ 0 ∷ 0 ∷ [];
@@ -44,7 +44,7 @@ text_ends text = record {
   greatest = sym (append_assoc text (0 ∷ []) (255 ∷ 255 ∷ 255 ∷ 255 ∷ 255 ∷ 255 ∷ 255 ∷ 255 ∷ []));
 }
 
--- a text that can be a value represents itself
+-- A string that can be a value represents itself.
 pub text_represents : (words : List ℕ) → length words ≤ 255 → has_nul words ≡ false → IsUtf8 words → Represents (Exact words) kinds.Cstr (Cstr words)
 text_represents words short clean utf8 = record {
   is_value = (grind (arith, nat_tests, short, clean), utf8);

@@ -1,4 +1,4 @@
--- What is left to ask of a formula, from what is left of its sides.
+-- The remaining condition of a formula, given the remaining conditions of its sides.
 use Rattle.std.proofs.Common.{◌≡◌, ℕ, Bool, true, false, ◌&&◌, ◌||◌, List, refl, ap, ◌∙◌}
 use Rattle.std.specs.declared.option.Option.{Option}
 use Rattle.std.specs.declared.option.Option.TheVariants.{Some, None}
@@ -10,7 +10,8 @@ use Rattle.be_volume.specs.Query.{sat, sees}
 use Rattle.be_volume.specs.Volume.{State}
 use Rattle.be_plan.specs.Narrow.{IsPair, LeavesRest, Within, rest_true}
 
--- for an "and": if a range lies within both ranges, it leaves these
+-- For an "and": if a range is within the ranges of both sides, it leaves the remaining conditions
+-- of both.
 pub both_left : (a b : Formula) (name : List ℕ) (kind : Kind) (la lb low : List ℕ) (ha hb high : Option (List ℕ)) (left right : Option Formula) →
     LeavesRest a name kind la ha left → LeavesRest b name kind lb hb right →
     ((k : List ℕ) → Within low high k → Within la ha k) → ((k : List ℕ) → Within low high k → Within lb hb k) →
@@ -24,7 +25,7 @@ or_true : (a b : Bool) → b ≡ true → (a || b) ≡ true
 or_true true b h = refl
 or_true false b h = h
 
--- an "or" is true if nothing is left of one side
+-- An "or" is true if nothing remains of one side.
 pub left_done : (a b : Formula) (name : List ℕ) (kind : Kind) (low : List ℕ) (high : Option (List ℕ)) (rest : Option Formula) → LeavesRest a name kind low high rest →
     (s : State) (value : Value) (node : ℕ) → IsPair kind value node → Within low high (key value node) → sees s node name ≡ Some value →
     rest ≡ None → sat s (Or a b) node ≡ true

@@ -1,4 +1,4 @@
--- Texts of values, compared with a text that is longer than any of them.
+-- Strings in values, compared with a string that is longer than any of them.
 use Rattle.std.proofs.Common.{◌≡◌, ◌<◌, ◌≤◌, ℕ, suc, zero, Bool, true, false, List, [], ◌∷◌, ◌++◌, ◌||◌, length, nat_eq, append_assoc, take, drop, refl, sym, ap, ◌∙◌, arith, ◌⊎◌, inl, inr}
 use Rattle.std.proofs.lemmas.List.{length-take-le, length-drop, take-append-drop}
 use Rattle.std.specs.Int.{to_be_bytes, w64}
@@ -19,7 +19,7 @@ positive : (x : ℕ) → nat_eq x 0 ≡ false → 0 < x
 positive zero h = cc
 positive (suc x) h = omega arith
 
--- a text without zero bytes has none at its front
+-- Without its first byte, a string without zero bytes still has none.
 pub some_byte : (x : ℕ) (xs : List ℕ) → has_nul (x ∷ xs) ≡ false → (0 < x) × (has_nul xs ≡ false)
 some_byte x xs h = by (nat_eq x 0) refl h
   where
@@ -75,7 +75,8 @@ not_higher op o is h = elim is [ inl e ↦ less o (sym (ap (λ p. is_true_of p o
     less Equal h = cc
     less Greater h = cc
 
--- The key of a value's text, compared with the first 255 bytes of a longer text and a byte 1.
+-- The key for the string of a value, compared with the first 255 bytes of a longer string followed
+-- by a byte 1.
 module _ (words text : List ℕ) (n : ℕ) (long : 255 < length words) (short : length text ≤ 255) where
   few : length text ≤ length (take 255 words)
   few = omega (arith, length-take-le 255 words (omega arith))

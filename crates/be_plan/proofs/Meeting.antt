@@ -6,11 +6,11 @@ use Rattle.std.proofs.lemmas.Bool.{cases_lt}
 use Rattle.std.proofs.lemmas.List.{get_or_default}
 use Rattle.std.proofs.lemmas.List.Kept.{AllPairs-from_increasing}
 
--- in an ascending list an earlier number is less than a later one
+-- In an ascending list, an earlier number is less than a later one.
 pub less_before : (xs : List ℕ) → IsStrictlyIncreasing xs → (i j : ℕ) → i < j → j < length xs → slice_index xs i < slice_index xs j
 less_before xs rises i j before within = AllPairs-from_increasing xs rises i j 0 before within
 
--- If an ascending list contains a number, the number is at the first place that isn't below it.
+-- If an ascending list contains a number, that number is the first one that isn't below it.
 pub meets : (xs : List ℕ) (at x : ℕ) → IsStrictlyIncreasing xs → ((k : ℕ) → k < at → slice_index xs k < x) → (at < length xs → x ≤ slice_index xs at) → Contains xs x →
     (at < length xs) × (slice_index xs at ≡ x)
 meets xs at x rises below stops there =

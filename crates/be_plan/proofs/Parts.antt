@@ -10,14 +10,14 @@ then_assoc Less b c = refl
 then_assoc Equal b c = refl
 then_assoc Greater b c = refl
 
--- bytes that are shorter than the front are only compared with the front
+-- Bytes that are shorter than the front are compared only with the front.
 pub shorter : (k front end : List ℕ) → length k < length front → name_cmp k (front ++ end) ≡ name_cmp k front
 shorter [] [] end lt = absurd (omega arith)
 shorter [] (f ∷ front) end lt = refl
 shorter (c ∷ k) [] end lt = absurd (omega arith)
 shorter (c ∷ k) (f ∷ front) end lt = ap (ordering_then (nat_cmp c f)) (shorter k front end (omega arith))
 
--- as many bytes as the front has are compared with the front, and those after them with the end
+-- Bytes are compared with the front as far as it goes, and those after them with the end.
 pub in_parts : (head tail front end : List ℕ) → length head ≡ length front → name_cmp (head ++ tail) (front ++ end) ≡ ordering_then (name_cmp head front) (name_cmp tail end)
 in_parts [] tail [] end e = refl
 in_parts [] tail (f ∷ front) end e = absurd (omega arith)

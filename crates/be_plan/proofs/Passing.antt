@@ -1,4 +1,4 @@
--- What a walk over an index has passed.
+-- The keys that a walk over an index has visited.
 use Rattle.std.proofs.Common.{◌≡◌, ◌<◌, ◌≤◌, ◌+◌, ◌^◌, ℕ, suc, Bool, true, false, cond, not, List, [], ◌∷◌, refl, sym, ap, ◌∙◌, subst, arith, Some, None}
 use Rattle.std.proofs.Math.Nat.{add-le-add}
 use Rattle.std.proofs.lemmas.Option.{same_Some}
@@ -35,7 +35,7 @@ abbrev pub ahead_in : Option Index → List ℕ → Bool → ℕ
 ahead_in None from after = 0
 ahead_in (Some index) from after = how_many (λ n v. is_at_or_after from after (key v n)) (map.entries index.pairs)
 
--- how many keys of the index are ahead of a walk that is at `from`
+-- The number of keys of the index ahead of a walk that is at `from`.
 abbrev pub ahead : State → List ℕ → List ℕ → Bool → ℕ
 ahead s name from after = ahead_in (map.get s.indices name) from after
 
@@ -53,13 +53,13 @@ is_greater Less h = cc
 is_greater Equal h = cc
 is_greater Greater h = refl
 
--- a key not below a key above the bound is above the bound
+-- If a key isn't below another key, and that key is above the bound, so is the first.
 pub above_too : (k next high : List ℕ) (r : Ordering) → name_cmp k next ≡ r → is_lt r ≡ false → name_cmp next high ≡ Greater → name_cmp k high ≡ Greater
 above_too k next high Less e h g = cc
 above_too k next high Equal e h g = total.congr k next high e ∙ g
 above_too k next high Greater e h g = greater_trans k next high e g
 
--- a key above one from there on is also from there on
+-- If a key is above another key that is ahead of the walk, it is ahead of the walk, too.
 from_too : (from : List ℕ) (after : Bool) (next k : List ℕ) → is_at_or_after from after next ≡ true → name_cmp k next ≡ Greater → is_at_or_after from after k ≡ true
 from_too from true next k h g = ap is_gt (greater_trans k next from g (is_greater _ h))
 from_too from false next k h g = by (name_cmp next from) refl h
@@ -107,7 +107,7 @@ module _ (p q : ℕ → Value → Bool) (only : (n : ℕ) (v : Value) → q n v 
       by false t f more = omega (arith, at_one (p e.0 e.1) (q e.0 e.1) (only e.0 e.1), more f)
 
 module _ (s : State) (Wanted : ℕ → Type 0) (name low : List ℕ) (high : Option (List ℕ)) where
-  -- if the next key is above the range, the walk has passed all of it
+  -- If the next key is above the range, the walk has visited the whole range.
   pub ends_above : (from : List ℕ) (after : Bool) (next : List ℕ) (found : List ℕ) → IsNextKey s name from after (Some next) → is_above high next ≡ true →
       HasPassed s Wanted name low high from after found → HasWanted s Wanted name low high found
   ends_above from after next found is up passed = λ k h w wanted. by k h w wanted (is_at_or_after from after k) refl
@@ -120,7 +120,7 @@ module _ (s : State) (Wanted : ℕ → Type 0) (name low : List ℕ) (high : Opt
       by k h w wanted false t = passed k h w t wanted
       by k h w wanted true t = let u : is_above high k ≡ true = beyond high k up (is.2 k h t) in let v : is_above high k ≡ false = w.to_high in cc
 
-  -- after the next key's node was visited, the walk has passed that key, too
+  -- Once the node of the next key has been visited, the walk has visited that key, too.
   pub passes : (from : List ℕ) (after : Bool) (next : List ℕ) (before now : List ℕ) → IsSound s → IsNextKey s name from after (Some next) →
       HasPassed s Wanted name low high from after before → Keeps before now →
       ((v : Value) (n : ℕ) → n < 2 ^ 64 → next ≡ key v n → Wanted n → Contains now n) → HasPassed s Wanted name low high next true now
@@ -134,7 +134,7 @@ module _ (s : State) (Wanted : ℕ → Type 0) (name low : List ℕ) (high : Opt
           let same : k ≡ next = slice_cmp-IsAntisymmetric nat_cmp-IsAntisymmetric k next (neither _ (is.2 k h t) not_ahead) in
           has h.value h.node paired.node_fits (sym same ∙ h.is) wanted
 
--- fewer keys are ahead of the next key
+-- Fewer keys are ahead of the next key.
 pub falls : (s : State) (name from : List ℕ) (after : Bool) (next : List ℕ) → IsNextKey s name from after (Some next) → suc (ahead s name next true) ≤ ahead s name from after
 falls s name from after next is =
     let P : Option Index → Type 0 = λ i. suc (ahead_in i next true) ≤ ahead_in i from after in
@@ -148,12 +148,12 @@ falls s name from after next is =
     k : IsKey s name next
     k = is.0
 
--- how many steps a walk has left if this is the next key
+-- The number of steps that are left in a walk whose next key is this one.
 abbrev pub steps : State → List ℕ → Option (List ℕ) → ℕ
 steps s name None = 0
 steps s name (Some key) = suc (ahead s name key true)
 
--- each key is a step
+-- Each key takes a step.
 pub steps_fall : (s : State) (name key : List ℕ) (next : Option (List ℕ)) → IsNextKey s name key true next → suc (steps s name next) ≤ suc (ahead s name key true)
 steps_fall s name key None is = omega arith
 steps_fall s name key (Some next) is = omega (arith, falls s name key true next is)

@@ -1,4 +1,4 @@
--- Keys of texts that match a pattern.
+-- The keys of strings that match a pattern.
 use Rattle.std.proofs.Common.{◌≡◌, ◌<◌, ◌≤◌, ◌+◌, ◌/◌, ℕ, Bool, true, false, cond, ◌==◌, List, [], ◌∷◌, ◌++◌, length, length-append, nat_lt, append_assoc, refl, sym, ap, ◌∙◌, arith, inl, inr, suc}
 use Rattle.std.proofs.lemmas.Bool.Decides.{nat_tests}
 use borrow.Author.Tests.{ltb-true}
@@ -21,7 +21,7 @@ use Rattle.be_plan.specs.Narrow.{limit}
 use Rattle.be_plan.proofs.Bounds.{not_below_empty}
 use Rattle.be_plan.proofs.Ways.{and_first, and_second, nat_is}
 
--- the bytes of the literal characters before the first wildcard
+-- The bytes of the literal characters before the first wildcard.
 abbrev pub front_bytes : List Part → List ℕ
 front_bytes parts = encode_utf8_all (literal_prefix parts)
 
@@ -56,7 +56,7 @@ begins_encode : (c : ℕ) → scalar c ≡ true → Begins (encode c) 255
 unfolding encode
 begins_encode c h = first_of c _ _ _ (scalar_below c h) (ltb c 128) (ltb c 2048) (ltb c 65536) refl refl refl
 
--- a pattern has literal characters before its first wildcard if it begins with one
+-- A pattern has a literal prefix if and only if it begins with a literal character.
 pub shows_front : (parts : List Part) → nat_lt 0 (length (encode_utf8_all (literal_prefix parts))) ≡ begins_literally parts
 shows_front [] = refl
 shows_front (Run ∷ ps) = refl
@@ -71,7 +71,8 @@ shows_front (Only c ∷ ps) = shown (encode c) (front_bytes ps) (some_encode c)
     shown [] ys h = absurd (omega arith)
     shown (x ∷ xs) ys h = positive (length (xs ++ ys))
 
--- What a pattern matches begins with its literal characters, and ends there if it has no wildcard.
+-- Whatever a pattern matches begins with its literal prefix, and ends there if the pattern has no
+-- wildcard.
 record Prefixed (parts : List Part) (cs : List ℕ) : Type 0 where
   pub rest : List ℕ
   pub characters : scalars rest ≡ true
@@ -95,7 +96,7 @@ prefixed (Only d ∷ ps) (c ∷ cs) s h =
       whole = more.whole;
     }
 
--- the byte after the literal characters
+-- The byte after the literal prefix.
 begins_tail : (rest after : List ℕ) (plain : Bool) → scalars rest ≡ true → (plain ≡ true → rest ≡ []) → Begins ((encodes rest ++ 0 ∷ []) ++ after) (limit plain)
 begins_tail [] after true s h = record { first = 0; later = after; is = refl; below = omega arith }
 begins_tail [] after false s h = record { first = 0; later = after; is = refl; below = omega arith }

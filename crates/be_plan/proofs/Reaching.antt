@@ -1,4 +1,4 @@
--- Which nodes a walk for a pick reaches.
+-- The nodes that a walk for a pick reaches.
 use Rattle.std.proofs.Common.{◌≡◌, ◌⊎◌, ℕ, true, List, [], refl, sym, ap, ◌∙◌, subst, inl, inr, Some, None}
 use Rattle.std.proofs.lemmas.Option.{same_Some}
 use Rattle.std.specs.List.{Contains}
@@ -27,7 +27,8 @@ pub on_ok : {A E : Type 0} {P Q : Type 0} (r : Result A E) → (P → Q) → OnO
 on_ok (Ok x) f h = f h
 on_ok (Err e) f h = h
 
--- a walk over a range of an index finds each node that satisfies the formula and has its key in the range
+-- A walk over a range of an index finds every node that satisfies the formula and has its key in
+-- the range.
 pub has_seen : (s : State) (f : Formula) (name : List ℕ) (kind : Kind) (low : List ℕ) (high : Option (List ℕ)) (found : List ℕ) →
     IsSound s → index_kind s name ≡ Some kind → HasWithin s f name low high found →
     (node : ℕ) (value : Value) → sees s node name ≡ Some value → (IsPair kind value node → Within low high (key value node)) → sat s f node ≡ true → Contains found node
@@ -42,7 +43,7 @@ has_seen s f name kind low high found sound is_kind within node value seen range
         within (key value node) (record { index = index; node = node; value = value; there = some; paired = paired; is = refl })
         (range (record { is_value = p.is_value; kind_is = p.kind_is ∙ kinds; node_fits = p.node_fits })) sat_n
 
--- a walk over a pick's range finds each node that is reached through the pick
+-- A walk over the range of a pick finds every node that is reached through the pick.
 pub has_reached : (s : State) (f : Formula) (pick : ℕ) (c : Comparison) (kind : Kind) (low : List ℕ) (high : Option (List ℕ)) (found : List ℕ) →
     IsSound s → slice_get (leaves f) pick ≡ Some c → index_kind s c.name ≡ Some kind →
     ((v : Value) (n : ℕ) → IsPair kind v n → Allows pick 0 f c.name v → Within low high (key v n)) →
@@ -53,7 +54,8 @@ has_reached s f pick c kind low high found sound there is_kind range within = λ
     let at_c : (sees s node c.name ≡ Some r.value) × Allows pick 0 f c.name r.value = subst P same (r.seen, r.allows) in
     has_seen s f c.name kind low high found sound is_kind within node r.value at_c.0 (λ pair. range r.value node pair at_c.1) sat_n
 
--- each of these was there before, or is wanted and has a key in the range, whatever the names of what was read
+-- Every node in the list was there before, or is wanted and has a key in the range, whatever the
+-- names of what was read.
 pub added_within : (s : State) (name l low : List ℕ) (h high : Option (List ℕ)) (none nodes before : List ℕ) (Wanted : ℕ → Type 0) →
     l ≡ low → h ≡ high → none ≡ [] → HasOnly s name l h none nodes → (n : ℕ) →
     Contains before n ⊎ (Contains nodes n × Wanted n) → Contains before n ⊎ (IsNodeWithin s name low high n × Wanted n)

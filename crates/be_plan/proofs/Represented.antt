@@ -1,4 +1,4 @@
--- Which bytes a literal's value keeps, and what the remaining ones say.
+-- The keys that the value of a literal keeps in the range, and what the remaining keys imply.
 use Rattle.std.proofs.Common.{◌≡◌, ℕ, true, false, List, [], ◌∷◌, ◌++◌, append_assoc, IsTrue, refl, sym, ap, ◌∙◌, subst}
 use Rattle.std.specs.Ordering.{is_lt, is_gt}
 use Rattle.be_value.specs.Key.{key}

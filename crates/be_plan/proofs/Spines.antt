@@ -25,13 +25,13 @@ whole_under f = record {
   alone = λ none. refl;
 }
 
--- what an "or" allows, given its sides
+-- What an "or" allows, given its sides.
 by_sides : (pick from : ℕ) (a b : Formula) (name : List ℕ) (v : Value) → Allows pick from (Or a b) name v →
     (from ≤ pick → pick < from + comparisons a → Allows pick from a name v)
     × (from + comparisons a ≤ pick → pick < from + comparisons a + comparisons b → Allows pick (from + comparisons a) b name v)
 by_sides pick from a b name v h = h
 
--- a part of an "or" isn't a whole that is no "or"
+-- A part of an "or" isn't a whole other than an "or".
 side_alone : (whole a b part : Formula) → (is_or whole ≡ false → Or a b ≡ whole) → is_or whole ≡ false → part ≡ whole
 side_alone whole a b part alone none = let e : true ≡ false = ap is_or (alone none) ∙ none in cc
 
@@ -51,23 +51,23 @@ right_under whole from a b u = record {
   alone = side_alone whole a b b u.alone;
 }
 
--- the comparison at the pick's place, counted from the part's first comparison
+-- The comparison at the position of the pick, counted from the first comparison of the part.
 pub there_in : (whole part : Formula) (pick from : ℕ) → LiesIn whole pick from part → slice_get (leaves whole) pick ≡ slice_get (leaves part) (pick - from)
 there_in whole part pick from s =
     let e : pick ≡ from + (pick - from) = omega (arith, s.first) in
     let lt : pick - from < comparisons part = omega (arith, s.first, s.last) in
     ap (slice_get (leaves whole)) e ∙ s.under.places (pick - from) lt
 
--- it rests on an index if the pick does
+-- If the pick is on an indexed name in the whole, it is so in the part.
 pub rests_in : (indexed : List ℕ → Bool) (whole part : Formula) (pick from : ℕ) → LiesIn whole pick from part → rests_on indexed whole pick ≡ true → rests_on indexed part (pick - from) ≡ true
 rests_in indexed whole part pick from s h = sym (ap (λ o. option_map_or (λ (d : Comparison). indexed d.name) o false) (there_in whole part pick from s)) ∙ h
 
--- if nothing is left to ask of a part that is only under "or", the whole is true
+-- If nothing remains of a part that is only under "or", the whole is true.
 pub whole_true : (whole : Formula) (from : ℕ) (part : Formula) (s : State) (node : ℕ) (rest : Option Formula) → IsUnderOr whole from part →
     sat s part node ≡ rest_true s rest node → rest ≡ None → sat s whole node ≡ true
 whole_true whole from part s node rest u e none = u.means s node (e ∙ ap (λ r. rest_true s r node) none)
 
--- what is left to ask of the whole, if the whole isn't an "or"
+-- The remaining condition of the whole, if the whole isn't an "or".
 pub rest_of_same : (whole : Formula) (from : ℕ) (part : Formula) (s : State) (node : ℕ) (rest : Option Formula) → is_or whole ≡ false → IsUnderOr whole from part →
     sat s part node ≡ rest_true s rest node → sat s whole node ≡ rest_true s rest node
 rest_of_same whole from part s node rest is u e = ap (λ f. sat s f node) (sym (u.alone is)) ∙ e

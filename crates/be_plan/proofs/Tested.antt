@@ -1,4 +1,4 @@
--- What a comparison with a key's text says about the key's node.
+-- What a comparison with the string in a key implies about the key's node.
 use Rattle.std.proofs.Common.{◌≡◌, ◌-◌, ◌≤◌, ◌++◌, ◌∷◌, [], ℕ, Bool, false, List, Some, length, take, sym, ap, ◌∙◌, subst, arith, append_assoc}
 use Rattle.std.specs.Int.{to_be_bytes, w64}
 use Rattle.std.specs.Option.{option_map, option_map_or}
@@ -28,11 +28,11 @@ text_of_key text node =
     let len : length (text ++ tail) - 9 ≡ length text = omega (arith, length-append text tail) in
     ap text_in whole ∙ ap (λ n. take n (text ++ tail)) len ∙ take-append_seam text tail
 
--- a key is long enough for a node
+-- A key is long enough to contain a node.
 pub key_long : (s : State) (name bytes : List ℕ) → IsKey s name bytes → 8 ≤ length bytes
 key_long s name bytes k = omega (arith, ap length k.is, length-append (value_key k.value) (to_be_bytes w64 k.node))
 
--- the text in a text's key is valid UTF-8
+-- The string in the key of a string is valid UTF-8.
 pub text_valid : (value : Value) (node : ℕ) → kind_of value ≡ kinds.Cstr → IsValue value → IsUtf8 (text_in (key value node))
 text_valid (Cstr t) node kind valid = subst IsUtf8 (sym (text_of_key t node)) valid.1
 text_valid (Long n) node kind valid = absurd (cc kind)
@@ -54,7 +54,8 @@ module _ (op : Cmp) (literal : Literal) (text : List ℕ) (node : ℕ) (answer :
   of_value (Ulng n) kind valid e = cc
   of_value (Ullg n) kind valid e = cc
 
--- In a sound index of texts, a comparison has the same outcome for a key's text as for the key's node.
+-- In a sound index of strings, a comparison has the same result for the string in a key as for the
+-- key's node.
 pub passed : (s : State) → IsSound s → (name bytes : List ℕ) (k : IsKey s name bytes) → index_kind s name ≡ Some kinds.Cstr
     → (op : Cmp) (literal : Literal) (text : List ℕ) (answer : Bool) → text ≡ text_in bytes → (IsUtf8 text → answer ≡ holds_of_text op text literal)
     → answer ≡ sat s (Leaf name op literal) k.node

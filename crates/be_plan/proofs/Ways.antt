@@ -1,4 +1,4 @@
--- Picks that cover a query reach each node that matches it.
+-- Picks that cover a query reach every node that matches it.
 use Rattle.std.proofs.Common.{◌≡◌, ◌<◌, ◌≤◌, ◌+◌, ◌-◌, ℕ, zero, suc, Bool, true, false, ◌&&◌, ◌||◌, List, [], ◌∷◌, ◌++◌, length, length-append, add-zero, add_assoc, nat_eq, refl, sym, ap, ◌∙◌, arith, Some, None}
 use Rattle.std.proofs.lemmas.Bool.Decides.{nat_tests}
 use Rattle.std.specs.Prelude.{slice_get}
@@ -24,13 +24,13 @@ slice_get_right : (xs ys : List Comparison) (i : ℕ) → slice_get (xs ++ ys) (
 slice_get_right [] ys i = let e : 0 + i ≡ i = omega arith in ap (slice_get ys) e
 slice_get_right (x ∷ xs) ys i = let e : suc (length xs) + i ≡ suc (length xs + i) = omega arith in ap (slice_get (x ∷ (xs ++ ys))) e ∙ slice_get_right xs ys i
 
--- there are as many as the query has comparisons
+-- There are as many leaves as comparisons.
 pub length-leaves : (f : Formula) → length (leaves f) ≡ comparisons f
 length-leaves (Leaf name op literal) = refl
 length-leaves (And a b) = length-append (leaves a) (leaves b) ∙ ap (λ n. n + length (leaves b)) (length-leaves a) ∙ ap (λ n. comparisons a + n) (length-leaves b)
 length-leaves (Or a b) = length-append (leaves a) (leaves b) ∙ ap (λ n. n + length (leaves b)) (length-leaves a) ∙ ap (λ n. comparisons a + n) (length-leaves b)
 
--- a place in the left part, and one in the right part
+-- A position in the left part, and a position in the right part.
 pub leaf_left : (a b : Formula) (i : ℕ) → i < comparisons a → slice_get (leaves a ++ leaves b) i ≡ slice_get (leaves a) i
 leaf_left a b i h = slice_get_left (leaves a) (leaves b) i (omega (arith, length-leaves a))
 
@@ -39,7 +39,7 @@ leaf_right a b i h =
     let e : length (leaves a) + (i - comparisons a) ≡ i = omega (arith, length-leaves a) in
     ap (slice_get (leaves a ++ leaves b)) (sym e) ∙ slice_get_right (leaves a) (leaves b) (i - comparisons a)
 
--- and there is none after both
+-- No comparison follows those of both parts.
 slice_get_after : (xs : List Comparison) (i : ℕ) → length xs ≤ i → None ≡ slice_get xs i
 slice_get_after [] i h = refl
 slice_get_after (x ∷ xs) zero h = absurd (omega arith)
@@ -48,7 +48,7 @@ slice_get_after (x ∷ xs) (suc i) h = slice_get_after xs i (omega arith)
 pub none_after : (f : Formula) (i : ℕ) → comparisons f ≤ i → None ≡ slice_get (leaves f) i
 none_after f i h = slice_get_after (leaves f) i (omega (arith, length-leaves f))
 
--- the part is the whole's from the place `at` on
+-- The part is that of the whole from position `at` on.
 abbrev pub IsPart : Formula → ℕ → Formula → Type 0
 IsPart whole at f = (i : ℕ) → i < comparisons f → slice_get (leaves whole) (at + i) ≡ slice_get (leaves f) i
 
@@ -72,7 +72,7 @@ pub and_second : (a b : Bool) → (a && b) ≡ true → b ≡ true
 and_second true b h = h
 and_second false b h = cc
 
--- how a node is reached through a pick in the part
+-- How a node is reached through a pick in the part.
 pub record Way (s : State) (picks : List ℕ) (whole : Formula) (node : ℕ) (at : ℕ) (f : Formula) : Type 0 where
   pub pick : ℕ
   pub is_pick : list_any (nat_eq pick) picks ≡ true
@@ -85,7 +85,7 @@ pub record Way (s : State) (picks : List ℕ) (whole : Formula) (node : ℕ) (at
   pub allows : (name : List ℕ) (v : Value) → sees s node name ≡ Some v → Allows pick at f name v
 
 module _ (s : State) (node : ℕ) where
-  -- a comparison that is true is true of what is seen
+  -- A comparison that is true is true of what it sees.
   true_of_seen : (c : Comparison) → sat s (Leaf c.name c.op c.literal) node ≡ true → (name : List ℕ) (v : Value) → sees s node name ≡ Some v → c.name ≡ name → holds c.op v c.literal ≡ true
   true_of_seen c h name v seen e = sym (ap (λ o. option_map_or (λ w. holds c.op w c.literal) o false) (ap (λ n. sees s node n) e ∙ seen)) ∙ h
 
@@ -93,7 +93,7 @@ module _ (s : State) (node : ℕ) where
   sees_some test None h = cc
   sees_some test (Some v) h = (v, refl)
 
-  -- a true part without the pick allows what is seen
+  -- A true part that doesn't contain the pick allows what is seen.
   outside : (pick at : ℕ) (f : Formula) → sat s f node ≡ true → (at ≤ pick → pick < at + comparisons f → ⊥) →
       (name : List ℕ) (v : Value) → sees s node name ≡ Some v → Allows pick at f name v
   outside pick at (Leaf own op literal) h out name v seen = true_of_seen (record { name = own; op = op; literal = literal }) h name v seen
@@ -179,7 +179,7 @@ module _ (s : State) (node : ℕ) where
 pub nat_is : (n m : ℕ) → nat_eq n m ≡ true → n ≡ m
 nat_is n m h = grind (arith, nat_tests)
 
--- what holds for each pick holds for this one
+-- What holds for every pick holds for this one.
 pub at_pick : (p : ℕ → Bool) (picks : List ℕ) (n : ℕ) → list_all p picks ≡ true → list_any (nat_eq n) picks ≡ true → p n ≡ true
 at_pick p [] n h i = cc
 at_pick p (x ∷ picks) n h i =
@@ -187,7 +187,7 @@ at_pick p (x ∷ picks) n h i =
     (λ e. ap p (nat_is n x e) ∙ and_first (p x) (list_all p picks) h)
     (λ e. at_pick p picks n (and_second (p x) (list_all p picks) h) e)
 
--- what picks cover is covered by indices
+-- What picks cover, indices cover.
 pub is_covered : (s : State) (picks : List ℕ) (whole : Formula) → list_all (rests_on (has_index s) whole) picks ≡ true →
     (at : ℕ) (f : Formula) → IsPart whole at f → covers_part picks at f ≡ true → covered s f ≡ true
 is_covered s picks whole rest at (Leaf name op literal) part covers =

@@ -8,20 +8,20 @@ use Rattle.be_query.specs.Printing.{leaf_text}
 use Rattle.be_plan.specs.Cover.{leaves}
 use Rattle.be_plan.specs.declared.plans.Cover.{Cover}
 
--- each pick is the place of a comparison
+-- Each pick is the position of a comparison.
 abbrev pub are_places : Formula → List ℕ → Bool
 are_places f picks = list_all (λ pick. nat_lt pick (comparisons f)) picks
 
--- the canonical text of the comparison at a place
+-- The canonical text of the comparison at a position.
 abbrev pub text_at : Formula → ℕ → List ℕ
 text_at f place = option_map_or (λ c. leaf_text c.name c.op c.literal) (slice_get (leaves f) place)
     []
 
--- the texts of the picked comparisons, with ` || ` between two
+-- The canonical texts of the picked comparisons, joined by ` || `.
 abbrev pub picked_text : Formula → List ℕ → List ℕ
 picked_text f [] = []
 picked_text f (pick ∷ picks) = text_at f pick ++ flat_map (λ p. codes " || " ++ text_at f p) picks
 
--- the picked comparisons and the score
+-- The picked comparisons and the score.
 abbrev pub explanation : Formula → Cover → List ℕ
 explanation f cover = picked_text f cover.picks ++ codes " score " ++ decimal cover.score

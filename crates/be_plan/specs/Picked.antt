@@ -1,4 +1,4 @@
--- The places in picks.
+-- The positions in picks.
 use Rattle.std.specs.Prelude.{ℕ, List, [], ◌∷◌}
 use Rattle.be_plan.specs.declared.plans.Places.{Places}
 use Rattle.be_plan.specs.declared.plans.Places.TheVariants.{One, Many}

@@ -7,15 +7,15 @@ use Rattle.be_volume.specs.Volume.{State}
 use Rattle.be_plan.specs.Cover.{leaves, rests_on}
 use Rattle.be_plan.specs.Narrow.{Allows}
 
--- whether the formula is an "or"
+-- Whether the formula is an "or".
 abbrev pub is_or : Formula → Bool
 is_or (Leaf name op literal) = false
 is_or (And a b) = false
 is_or (Or a b) = true
 
--- The part, whose first comparison is at the place `from`, is only under "or". If it is true, so is
--- the whole. What the whole allows through a pick in the part, the part allows, too. If the whole
--- isn't an "or", the part is the whole itself.
+-- The part, whose first comparison is at position `from`, is only under "or". If the part is true,
+-- the whole is true. Any value that the whole allows through a pick in the part is also allowed by
+-- the part. If the whole isn't an "or", the part is the whole itself.
 pub record IsUnderOr (whole : Formula) (from : ℕ) (part : Formula) : Type 0 where
   pub places : (i : ℕ) → i < comparisons part → slice_get (leaves whole) (from + i)
       ≡ slice_get (leaves part) i
@@ -24,20 +24,21 @@ pub record IsUnderOr (whole : Formula) (from : ℕ) (part : Formula) : Type 0 wh
   pub means : (s : State) (node : ℕ) → sat s part node ≡ true → sat s whole node ≡ true
   pub alone : is_or whole ≡ false → part ≡ whole
 
--- the pick is a place in such a part
+-- The part is only under "or", and the pick is a position in it.
 pub record LiesIn (whole : Formula) (pick from : ℕ) (part : Formula) : Type 0 where
   pub under : IsUnderOr whole from part
   pub first : from ≤ pick
   pub last : pick < from + comparisons part
 
--- The part begins with the first comparison of the whole and is only under "or"; it has `count`
+-- The part is only under "or", begins with the first comparison of the whole, and has `count`
 -- comparisons.
 pub record IsFrontOf (whole part : Formula) (count : ℕ) : Type 0 where
   pub end : count ≡ comparisons part
   pub few : count ≤ 256
   pub under : IsUnderOr whole 0 part
 
--- The pick is a place in such a part, and the comparison there is on a name that has an index.
+-- The part is only under "or", the pick is a position in it, and the comparison at this position is
+-- on an indexed name.
 pub record IsPickOf (s : State) (whole : Formula) (pick from : ℕ) (part : Formula) : Type 0 where
   pub few : from + comparisons part ≤ 256
   pub rests : rests_on (has_index s) part (pick - from) ≡ true

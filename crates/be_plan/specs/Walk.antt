@@ -18,80 +18,81 @@ use Rattle.be_volume.specs.PairKeys.{is_at_or_after}
 use Rattle.be_volume.specs.Reading.{index_kind}
 use Rattle.be_plan.specs.Narrow.{Within, Allows, LeavesRest}
 
--- a comparison of the formula is on this name
+-- At least one comparison of the formula is on this name.
 abbrev pub asks_name : Formula → List ℕ → Bool
 asks_name (Leaf own op literal) name = pointwise nat_eq own name
 asks_name (And a b) name = asks_name a name || asks_name b name
 asks_name (Or a b) name = asks_name a name || asks_name b name
 
--- all comparisons of the formula are on this name, and none is under "or"
+-- All comparisons of the formula are on this name, and none of them is under "or".
 abbrev pub AreAllOn : Formula → List ℕ → Type 0
 AreAllOn (Leaf own op literal) name = own ≡ name
 AreAllOn (And a b) name = AreAllOn a name × AreAllOn b name
 AreAllOn (Or a b) name = ⊥
 
--- all comparisons of the formula are on this name, whose index has this kind
+-- All comparisons of the formula are on this name, none of them is under "or", and the name's index
+-- has this kind.
 pub record AreOnIndex (s : State) (f : Formula) (name : List ℕ) (kind : Kind) : Type 0 where
   pub named : AreAllOn f name
   pub kind_is : index_kind s name ≡ Some kind
 
--- the bytes are a key of the index of that name, which has this kind
+-- The bytes are a key of the index of that name, and the index has this kind.
 pub record IsKeyOfKind (s : State) (name : List ℕ) (kind : Kind) (bytes : List ℕ) : Type 0 where
   pub kind_is : index_kind s name ≡ Some kind
   pub is_key : IsKey s name bytes
 
 -- The index of that name has this kind. A node with a key from `low` to `high` satisfies the
--- formula exactly if it satisfies what is left to ask.
+-- formula if and only if it satisfies the remaining condition.
 pub record LeavesInIndex (s : State) (f : Formula) (name : List ℕ) (kind : Kind) (low : List ℕ)
     (high : Option (List ℕ)) (rest : Option Formula) : Type 0 where
   pub kind_is : index_kind s name ≡ Some kind
   pub leaves : LeavesRest f name kind low high rest
 
--- each of the nodes is still there
+-- Every node that was in the list is still in it.
 abbrev pub Keeps : List ℕ → List ℕ → Type 0
 Keeps before after = (n : ℕ) → Contains before n → Contains after n
 
--- each of the nodes was there before, or satisfies the formula
+-- Every node in the list was there before or satisfies the formula.
 abbrev pub AddsTrue : State → Formula → List ℕ → List ℕ → Type 0
 AddsTrue s f before after = (n : ℕ) → Contains after n → Contains before n ⊎ (sat s f n ≡ true)
 
--- No node is lost, and each new node satisfies the formula.
+-- The list loses no node, and every node added to it satisfies the formula.
 pub record Collects (s : State) (f : Formula) (before after : List ℕ) : Type 0 where
   pub keeps : Keeps before after
   pub only : AddsTrue s f before after
 
--- each node that satisfies the formula is there
+-- Every node that satisfies the formula has been found.
 abbrev pub HasAllTrue : State → Formula → List ℕ → Type 0
 HasAllTrue s f found = (n : ℕ) → sat s f n ≡ true → Contains found n
 
--- each of the nodes was there before, or is one of `nodes` and satisfies the formula
+-- Every node in the list was there before, or is one of `nodes` and satisfies the formula.
 abbrev pub AddsTrueOf : State → Formula → List ℕ → List ℕ → List ℕ → Type 0
 AddsTrueOf s f nodes before after = (n : ℕ) → Contains after n → Contains before n
     ⊎ (Contains nodes n × (sat s f n ≡ true))
 
--- each of these nodes that satisfies the formula is there
+-- Every one of these nodes that satisfies the formula has been found.
 abbrev pub HasTrueOf : State → Formula → List ℕ → List ℕ → Type 0
 HasTrueOf s f nodes found = (n : ℕ) → Contains nodes n → sat s f n ≡ true → Contains found n
 
--- either memory ran out, or no index covers the query
+-- Either memory ran out, or the indices don't cover the query.
 abbrev pub IsNoAnswer : State → Formula → Refusal → Type 0
 IsNoAnswer s f e = (e ≡ OutOfMemory) ⊎ ((e ≡ NotCovered) × (covered s f ≡ false))
 
--- each wanted node with a key from `low` to `high` is there
+-- Every wanted node with a key from `low` to `high` has been found.
 abbrev pub HasWanted : State → (ℕ → Type 0) → List ℕ → List ℕ → Option (List ℕ) → List ℕ → Type 0
 HasWanted s Wanted name low high found = (k : List ℕ) (h : IsKey s name k) → Within low high k
     → Wanted h.node → Contains found h.node
 
--- each node that satisfies the formula and has a key from `low` to `high` is there
+-- Every node that satisfies the formula and has a key from `low` to `high` has been found.
 abbrev pub HasWithin : State → Formula → List ℕ → List ℕ → Option (List ℕ) → List ℕ → Type 0
 HasWithin s f = HasWanted s (λ n. sat s f n ≡ true)
 
--- each node with a key from `low` to `high` is there
+-- Every node with a key from `low` to `high` has been found.
 abbrev pub HasNodes : State → List ℕ → List ℕ → Option (List ℕ) → List ℕ → Type 0
 HasNodes s name low high found = (k : List ℕ) (h : IsKey s name k) → Within low high k
     → Contains found h.node
 
--- the node has a key from `low` to `high`
+-- The node has a key from `low` to `high`.
 pub record IsNodeWithin (s : State) (name low : List ℕ) (high : Option (List ℕ)) (node : ℕ) : Type 0
   where
     pub key : List ℕ
@@ -99,26 +100,28 @@ pub record IsNodeWithin (s : State) (name low : List ℕ) (high : Option (List �
     pub within : Within low high key
     pub node_is : is_key.node ≡ node
 
--- each of the nodes has a key from `low` to `high`, or was there before
+-- Every node in the list was there before or has a key from `low` to `high`.
 abbrev pub HasOnly : State → List ℕ → List ℕ → Option (List ℕ) → List ℕ → List ℕ → Type 0
 HasOnly s name low high before after = (n : ℕ) → Contains after n → Contains before n
     ⊎ IsNodeWithin s name low high n
 
--- each of the nodes was there before, or has a key from `low` to `high` and satisfies the formula
+-- Every node in the list was there before, or has a key from `low` to `high` and satisfies the
+-- formula.
 abbrev pub HasOnlyTrue : State → Formula → List ℕ → List ℕ → Option (List ℕ) → List ℕ → List ℕ
     → Type 0
 HasOnlyTrue s f name low high before after = (n : ℕ) → Contains after n → Contains before n
     ⊎ (IsNodeWithin s name low high n × (sat s f n ≡ true))
 
--- the same for the keys that the walk has passed; its place is `from`
+-- Of the keys from `low` to `high` that the walk has visited, every wanted node has been found. The
+-- walk is at `from`, and `after` says whether it has already visited the key there.
 abbrev pub HasPassed : State → (ℕ → Type 0) → List ℕ → List ℕ → Option (List ℕ) → List ℕ → Bool
     → List ℕ → Type 0
 HasPassed s Wanted name low high from after found =
     (k : List ℕ) (h : IsKey s name k) → Within low high k → is_at_or_after from after k ≡ false
     → Wanted h.node → Contains found h.node
 
--- The walk's next key is this one, or there is none. Among the nodes of the keys that it has
--- passed, those that are wanted are there.
+-- `next` is the walk's next key, or None if there are no more keys. Every wanted node among those
+-- of the visited keys has been found.
 pub record HasCome (s : State) (Wanted : ℕ → Type 0) (name low : List ℕ)
     (high next : Option (List ℕ)) (found : List ℕ) : Type 0 where
   pub from : List ℕ
@@ -127,8 +130,8 @@ pub record HasCome (s : State) (Wanted : ℕ → Type 0) (name low : List ℕ)
   pub start : is_lt (name_cmp from low) ≡ false
   pub passed : HasPassed s Wanted name low high from after found
 
--- The node is reached through the pick: the picked comparison sees a value of it, and the query
--- allows this value through the pick.
+-- The node is reached through the pick: the picked comparison sees a value of the node, and the
+-- query allows this value through the pick.
 pub record Reaches (s : State) (f : Formula) (pick : ℕ) (node : ℕ) : Type 0 where
   pub picked : Comparison
   pub there : slice_get (leaves f) pick ≡ Some picked
@@ -136,7 +139,7 @@ pub record Reaches (s : State) (f : Formula) (pick : ℕ) (node : ℕ) : Type 0 
   pub seen : sees s node picked.name ≡ Some value
   pub allows : Allows pick 0 f picked.name value
 
--- each node that is reached through the pick and satisfies the formula is there
+-- Every node that is reached through the pick and satisfies the formula has been found.
 abbrev pub HasReached : State → Formula → ℕ → List ℕ → Type 0
 HasReached s f pick found = (node : ℕ) → Reaches s f pick node → sat s f node ≡ true
     → Contains found node

@@ -1,9 +1,9 @@
-//! Answering a query with what is chosen from a source's own indices.
+//! Query evaluation with picks chosen from a source's own indices.
 //!
-//! The sides of an `||` are computed one after the other, each by itself. So a comparison that is
-//! only under `||`, as most are, leaves nothing to choose. Neither do comparisons of one name under
-//! `&&`, such as the two ends of a range: their index is looked up once, and no cover is made. For
-//! any other side under `&&` the choice is made as for a query of its own.
+//! The sides of an `||` are evaluated one after the other, independently. A side that is a single
+//! comparison, as most are, therefore leaves nothing to choose. Neither do comparisons on one name
+//! under `&&`, such as the two ends of a range: their index is looked up once, and no cover is
+//! built. For any other side with an `&&`, picks are chosen as if it were a query of its own.
 ghost use Rattle.std.specs.Prelude.{◌≡◌, ◌≤◌, true, OnOk, IfOk, IfErr};
 ghost use Rattle.std.specs.List.Sorted.{IsStrictlyIncreasing};
 ghost use Rattle.be_value.specs.Refusal.{Answers};
@@ -25,7 +25,7 @@ use be_query::{Query, Tree};
 use be_value::{Name, Refusal};
 use std::alloc::Global;
 
-/// Adds the nodes that match a side whose comparisons are all on one name.
+/// Adds the nodes that match a side of the query in which all comparisons are on one name.
 fn collect_named<S: Source>(
     alloc: Global,
     source: &mut S,
@@ -51,8 +51,9 @@ fn collect_named<S: Source>(
     walk_index(alloc, source, range, tree, index, found)
 }
 
-/// Adds the nodes that match a side, using the comparisons that are chosen for it from the source's
-/// indices. It is a separate function so that comparisons of one name need no room for a cover.
+/// Adds the nodes that match a side of the query, using picks chosen for it from the source's
+/// indices. This is a separate function so that comparisons on one name need no stack space for a
+/// cover.
 #[inline(never)]
 fn collect_chosen<S: Source>(
     alloc: Global,
@@ -101,8 +102,8 @@ fn collect_side<S: Source>(
     }
 }
 
-/// Adds the nodes that match the tree, side by side. A query of many parts under `||` leans to the
-/// left, so its last side comes first.
+/// Adds the nodes that match the tree, one side of an `||` at a time. A query with many parts under
+/// `||` leans to the left, so its last side is evaluated first.
 fn collect<S: Source>(
     alloc: Global,
     source: &mut S,
@@ -128,8 +129,8 @@ fn collect<S: Source>(
     collect_side(alloc, source, range, rest, found)
 }
 
-/// Puts the nodes that match a part of a query into a list, as `answer_into` does for a whole
-/// query.
+/// Replaces the content of a list with the nodes that match a part of a query, just as
+/// `answer_into` does for a whole query.
 pub fn true_nodes_into<S: Source>(
     alloc: Global,
     tree: &Tree,
@@ -151,16 +152,16 @@ pub fn true_nodes_into<S: Source>(
     Ok(())
 }
 
-/// Replaces a list's content with the nodes that match the query, in ascending order. They come
-/// from comparisons that are chosen from the source's own indices; to see which, call `explain`
-/// with the cover that `choose_from` returns. NotCovered if no index covers the query.
+/// Replaces the content of a list with the nodes that match the query, in ascending order. The
+/// picks are chosen from the source's own indices; to see them, call `explain` with the cover that
+/// `choose_from` returns. Returns `NotCovered` if the indices don't cover the query.
 ///
-/// The function looks up the index of each comparison once, or once for all comparisons of one name
-/// under `&&`; for others under `&&` it does so a second time for each pick. If a walk leaves more
-/// than 64 nodes to test against comparisons on one other name, it asks for the `estimate` of that
-/// name's index. Unless that is too large, it looks up the index once more. A list with room for
-/// the nodes allocates no memory. After an error the source still answers for the volume, and the
-/// list may hold any numbers.
+/// The index of each comparison is looked up once; comparisons on one name under `&&` share a
+/// single lookup. If picks have to be chosen under an `&&`, each pick takes a second lookup. If a
+/// walk leaves more than 64 nodes to test against comparisons on one other name, the function calls
+/// `estimate` for that name's index, and looks that index up once more unless the estimate is too
+/// large. The list isn't reallocated if it already has room for the nodes. After an error the
+/// source still represents the volume, but the content of the list is unspecified.
 pub fn answer_into<S: Source>(
     alloc: Global,
     query: &Query,
@@ -177,7 +178,7 @@ pub fn answer_into<S: Source>(
     true_nodes_into(alloc, query.tree(), source, found)
 }
 
-/// The nodes that `answer_into` would put into a list, in a new list.
+/// Does what `answer_into` does, but returns the nodes in a new list.
 pub fn answer<S: Source>(alloc: Global, query: &Query, source: &mut S) -> Result<Vec<u64>, Refusal>
     ghost volume: { State }
     requires { S.answers_for source.old volume }

@@ -1,8 +1,8 @@
-//! What a query says about the values in one index.
+//! Bounds on the keys that a query allows in one index.
 //!
-//! A page in the order of an index comes from a walk over that index, whatever indices cover the
-//! query. The comparisons on the index's own name bound the walk, and the nodes are only asked
-//! about the rest.
+//! A page in index order comes from a walk over that index, no matter which indices cover the
+//! query. Comparisons on the index's own name bound the walk, and each node is tested only against
+//! the rest of the query.
 ghost use Rattle.std.specs.Prelude.{◌≡◌, List, ℕ};
 ghost use Rattle.std.specs.Option.{option_copied, option_map};
 ghost use Rattle.be_query.specs.Grammar.{comparisons};
@@ -17,7 +17,8 @@ use be_query::Tree;
 use be_value::{Kind, Name};
 use std::marker::Model;
 
-/// The ends of a range of keys in an index. A contract sees them, the low end first.
+/// The bounds of a range of keys in an index. Contracts view them as a pair with the low bound
+/// first.
 #[derive(Drop)]
 pub struct KeyBounds {
     range: Range,
@@ -34,7 +35,7 @@ impl Model for KeyBounds {
 }
 
 impl KeyBounds {
-    /// All keys.
+    /// Returns bounds that allow every key.
     pub fn new() -> KeyBounds
         ensures { (k : List ℕ) → Within result.0 result.1 k }
     {
@@ -43,9 +44,9 @@ impl KeyBounds {
         }
     }
 
-    /// Sets the keys to those that a part of a query leaves in the index of that name, which has
-    /// this kind. Returns what is left to ask about their nodes: nothing, if the keys decide the
-    /// part.
+    /// Sets the bounds to the keys that a part of a query allows in the index of `name`, which has
+    /// this kind. Returns the condition that remains to be tested on their nodes, or `None` if the
+    /// bounds decide the part.
     pub fn narrow<'t>(&mut self, tree: &'t Tree, name: &Name, kind: Kind) -> Option<&'t Tree>
         ensures bounds { Bounding (formula tree.now) name.now kind self.new.0 self.new.1
             (option_map formula (option_copied result)) }
@@ -56,7 +57,7 @@ impl KeyBounds {
         narrow_beside(&mut self.range, tree, name, kind)
     }
 
-    /// The keys, for the index of a name.
+    /// Returns the keys within the bounds, in the index of `name`.
     pub fn keys<'a>(&'a self, name: &'a Name) -> KeyRange<'a>
         ensures name { result.name.now ≡ name.now }
         ensures low { result.low.now ≡ self.now.0 }

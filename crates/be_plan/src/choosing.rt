@@ -1,9 +1,9 @@
-//! Choosing comparisons.
+//! Choosing the picks for a query.
 //!
-//! Each comparison on an indexed name has a score by its operator. It goes from 1 for an exact
-//! match to 5 for `!=`, which passes nearly the whole index. An `||` needs both its sides, so their
-//! scores are added. An `&&` is answered from the cheaper side, as in the Be File System
-//! (Giampaolo, "Practical File System Design", on queries).
+//! Each comparison on an indexed name gets a score, from 1 for an exact match to 5 for `!=`, which
+//! visits nearly the whole index. The score depends on the operator and, for `==`, on the pattern.
+//! An `||` needs both of its sides, so their scores are added. An `&&` is answered from its cheaper
+//! side, as in the Be File System (Giampaolo, "Practical File System Design", on queries).
 ghost use Rattle.std.specs.Prelude.{◌≡◌, ◌≤◌, ◌<◌, ◌+◌, ◌*◌, ◌∷◌, ◌++◌, [], IfOk, IfErr, IfSome};
 ghost use Rattle.std.specs.Prelude.{◌⊎◌, true, false, Some, None, if◌then◌else◌};
 ghost use Rattle.be_value.specs.Refusal.{Answers};
@@ -21,10 +21,10 @@ use be_query::{Cmp, Comparison, Literal, Query, Tree};
 use be_value::Refusal;
 use std::alloc::{AllocError, Global};
 
-/// The comparisons from which to answer the query. For an `&&` it chooses the covered side with the
-/// lower score, or the left one if both are equal. NotCovered if no index covers the query. The
-/// source is asked only about the query's names, once for each comparison, so the number of the
-/// volume's indices doesn't matter.
+/// Chooses the picks for the query. For an `&&`, it chooses the covered side with the lower score,
+/// or the left side if the scores are equal. Returns `NotCovered` if the indices don't cover the
+/// query. The source is asked once for each comparison, so the cost doesn't depend on the number of
+/// indices in the volume.
 pub fn choose_from<S: Source>(
     alloc: Global,
     query: &Query,
@@ -33,8 +33,8 @@ pub fn choose_from<S: Source>(
     ghost volume: { State }
     requires { S.answers_for source.old volume }
     ensures choice { Answers (λ cover. cover) result (chosen (has_index volume) query.now) }
-    // The choice covers the query, so each pick is the place of a comparison. There is no choice
-    // exactly if no index covers the query.
+    // The choice covers the query, so each pick is the position of a comparison. `NotCovered` is
+    // returned if and only if the indices don't cover the query.
     ensures covers { IfOk result (λ cover. covers (has_index volume) cover.picks query.now ≡ true) }
     ensures rests { IfOk result (λ _. covered volume query.now ≡ true) }
     ensures places { IfOk result (λ cover. are_places query.now cover.picks ≡ true) }
@@ -49,7 +49,7 @@ pub fn choose_from<S: Source>(
     }
 }
 
-/// The choice for a whole query, if it is covered.
+/// Returns the choice for a whole query, or `None` if the indices don't cover it.
 pub(crate) fn choose_by_source<S: Source>(
     alloc: Global,
     tree: &Tree,
@@ -66,7 +66,7 @@ pub(crate) fn choose_by_source<S: Source>(
     Ok(cover)
 }
 
-/// The number of comparisons.
+/// Returns the number of comparisons in the tree.
 pub(crate) fn count(tree: &Tree) -> usize
     requires { comparisons (formula tree.now) ≤ 256 }
     ensures { result ≡ comparisons (formula tree.now) }
@@ -77,15 +77,15 @@ pub(crate) fn count(tree: &Tree) -> usize
     }
 }
 
-/// What is chosen for a part of a query, and the place after its last comparison.
+/// The choice for a part of a query, and the position after the part's last comparison.
 #[derive(Drop)]
 pub(crate) struct PartChoice {
     pub(crate) cover: Option<Cover>,
     pub(crate) end: usize,
 }
 
-/// The choice for a part of a query whose first comparison is at the place `at`. The source is
-/// asked once for each comparison.
+/// Returns the choice for a part of a query whose first comparison is at position `at`. The source
+/// is asked once for each comparison.
 fn choose_part<S: Source>(
     alloc: Global,
     tree: &Tree,
@@ -130,7 +130,8 @@ fn choose_part<S: Source>(
     }
 }
 
-/// The choice for a comparison at a place, if its name has an index. No memory is allocated.
+/// Returns the choice for the comparison at position `at`: the comparison itself if its name has an
+/// index. Allocates no memory.
 pub(crate) fn choose_leaf(comparison: &Comparison, at: usize, indexed: bool) -> PartChoice
     requires { at < 256 }
     ensures cover { result.cover ≡ if indexed
@@ -156,7 +157,8 @@ pub(crate) fn choose_leaf(comparison: &Comparison, at: usize, indexed: bool) -> 
     }
 }
 
-/// The one with the lower score, or the left one if both are equal.
+/// Returns the cover with the lower score, or the left one if the scores are equal. If there is
+/// only one cover, returns that one.
 pub(crate) fn cheaper(left: Option<Cover>, right: Option<Cover>) -> Option<Cover>
     ensures { result ≡ cheaper left right }
 {
@@ -171,7 +173,7 @@ pub(crate) fn cheaper(left: Option<Cover>, right: Option<Cover>) -> Option<Cover
     }
 }
 
-/// The picks of both.
+/// Returns a cover with the picks of both covers and the sum of their scores.
 pub(crate) fn join(alloc: Global, left: Cover, right: Cover) -> Result<Cover, AllocError>
     requires { left.score + right.score ≤ 1280 }
     ensures { IfOk result (λ c. c ≡ record {
@@ -188,7 +190,8 @@ pub(crate) fn join(alloc: Global, left: Cover, right: Cover) -> Result<Cover, Al
     })
 }
 
-/// How expensive it is to answer from the comparison.
+/// Returns the score of the comparison. A higher score means that answering from this comparison is
+/// more expensive.
 fn score_of(comparison: &Comparison) -> u64
     ensures score { result ≡ score_of comparison.now.op (literal comparison.now.literal) }
     ensures small { result ≤ 5 }

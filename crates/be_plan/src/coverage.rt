@@ -1,7 +1,7 @@
-//! Whether picks cover a query.
+//! Checking whether picks cover a query.
 //!
-//! `run` takes any picks that cover the query. Those of `choose_from` do; picks from elsewhere can
-//! be checked here.
+//! `run` accepts any picks that cover the query. Those from `choose_from` always do; use `covers`
+//! to check picks from elsewhere.
 ghost use Rattle.std.specs.Prelude.{◌≡◌, ◌≤◌, ◌+◌};
 ghost use Rattle.std.specs.List.{list_all};
 ghost use Rattle.be_query.specs.Grammar.{comparisons};
@@ -15,7 +15,7 @@ use crate::running::comparison_at;
 use crate::{Cover, Source};
 use be_query::{Query, Tree};
 
-/// Whether the pick is the place of a comparison whose name has an index.
+/// Returns `true` if the pick is the position of a comparison whose name has an index.
 fn rests_on<S: Source>(source: &mut S, tree: &Tree, pick: usize) -> bool
     ghost volume: { State }
     requires answers { S.answers_for source.old volume }
@@ -30,7 +30,7 @@ fn rests_on<S: Source>(source: &mut S, tree: &Tree, pick: usize) -> bool
     }
 }
 
-/// Whether each pick is such a place.
+/// Returns `true` if every pick is the position of a comparison whose name has an index.
 fn all_rest<S: Source>(source: &mut S, tree: &Tree, picks: &[usize]) -> bool
     ghost volume: { State }
     requires answers { S.answers_for source.old volume }
@@ -47,7 +47,7 @@ fn all_rest<S: Source>(source: &mut S, tree: &Tree, picks: &[usize]) -> bool
     true
 }
 
-/// Whether the picks cover the part whose first comparison is at the place `at`.
+/// Returns `true` if the picks cover the part whose first comparison is at position `at`.
 fn covers_part(picks: &[usize], at: usize, tree: &Tree) -> bool
     requires { at + comparisons (formula tree.now) ≤ 256 }
     ensures { result ≡ covers_part picks.now at (formula tree.now) }
@@ -59,10 +59,10 @@ fn covers_part(picks: &[usize], at: usize, tree: &Tree) -> bool
     }
 }
 
-/// Whether the picks cover the query on the source's volume. Each has to be the place of a
-/// comparison on an indexed name. For each `&&` one side has to be covered, and for each `||` both.
-/// So a cover from anywhere can be checked before `run`. It asks the source for one kind for each
-/// pick.
+/// Returns `true` if the picks cover the query on the source's volume, so that any cover can be
+/// checked before it is passed to `run`. Each pick must be the position of a comparison on an
+/// indexed name. At least one side of each `&&` must be covered, and both sides of each `||`. The
+/// source is asked for at most one index per pick.
 pub fn covers<S: Source>(cover: &Cover, query: &Query, source: &mut S) -> bool
     ghost volume: { State }
     requires { S.answers_for source.old volume }

@@ -1,7 +1,7 @@
-//! Whether a node matches a query, as a source says.
+//! Testing whether a node matches a query, with the help of a source.
 //!
-//! The source says for each comparison whether it is true of what it sees: on an indexed name that
-//! is what the index has, otherwise the attribute.
+//! The source evaluates each comparison on the value that the comparison sees. On an indexed name
+//! that is the value in the index; on any other name it is the attribute.
 ghost use Rattle.std.specs.Prelude.{◌≡◌, Some};
 ghost use Rattle.be_query.specs.View.{formula};
 ghost use Rattle.be_volume.specs.Query.{sees, sat};
@@ -14,8 +14,8 @@ use be_query::Tree;
 use be_value::{Name, Value};
 use be_volume::holds;
 
-/// Whether the node satisfies the tree, if a comparison on `name` sees this value of it. The source
-/// is asked only about comparisons on other names.
+/// Returns `true` if the node satisfies the tree, provided that comparisons on `name` see this
+/// value. The source evaluates only comparisons on other names.
 pub(crate) fn satisfies<S: Source>(
     source: &mut S,
     tree: &Tree,
@@ -48,7 +48,8 @@ pub(crate) fn satisfies<S: Source>(
     }
 }
 
-/// Whether the node satisfies the tree. The source is asked about each comparison.
+/// Returns `true` if the node satisfies the tree. The source evaluates the comparisons, from left
+/// to right, until the result is known.
 pub fn is_true<S: Source>(source: &mut S, tree: &Tree, node: u64) -> bool
     requires { (volume : State) × S.answers_for source.old volume }
     ensures answer { (volume : State) → S.answers_for source.old volume → result
@@ -64,7 +65,7 @@ pub fn is_true<S: Source>(source: &mut S, tree: &Tree, node: u64) -> bool
     }
 }
 
-/// Whether a comparison of the tree is on this name.
+/// Returns `true` if any comparison in the tree is on this name.
 pub(crate) fn asks_name(tree: &Tree, name: &Name) -> bool
     ensures { result ≡ asks_name (formula tree.now) name.now }
 {

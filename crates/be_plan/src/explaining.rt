@@ -1,4 +1,4 @@
-//! Explaining a cover.
+//! Explaining which comparisons a cover picks.
 ghost use Rattle.std.specs.Prelude.{◌≡◌, ◌≤◌, true, IfOk, IfErr};
 ghost use Rattle.std.specs.String.{string_bytes};
 ghost use Rattle.be_value.specs.declared.refusals.Refusal.TheVariants.{OutOfMemory};
@@ -12,7 +12,7 @@ use be_query::{Query, Tree, print_comparison};
 use be_value::Refusal;
 use std::alloc::Global;
 
-/// The canonical text of the comparison at a place.
+/// Returns the canonical text of the comparison at a position.
 fn print_at(alloc: Global, tree: &Tree, place: usize) -> Result<String, Refusal>
     requires { comparisons (formula tree.now) ≤ 256 }
     ensures text { IfOk result (λ text. string_bytes text ≡ text_at (formula tree.now) place) }
@@ -24,7 +24,7 @@ fn print_at(alloc: Global, tree: &Tree, place: usize) -> Result<String, Refusal>
     }
 }
 
-/// The texts of the picked comparisons, with ` || ` between two.
+/// Returns the canonical texts of the picked comparisons, joined by ` || `.
 fn print_picks(alloc: Global, tree: &Tree, picks: &[usize]) -> Result<String, Refusal>
     requires { comparisons (formula tree.now) ≤ 256 }
     ensures text { IfOk result (λ text. string_bytes text
@@ -42,8 +42,8 @@ fn print_picks(alloc: Global, tree: &Tree, picks: &[usize]) -> Result<String, Re
     Ok(text)
 }
 
-/// The picked comparisons in canonical form and in the order of the picks, joined by ` || `, and
-/// the score. An example is `"a"=="1" score 1`.
+/// Returns the picked comparisons in canonical form, joined by ` || ` in the order of the picks,
+/// followed by the score. For example: `"a"=="1" score 1`.
 pub fn explain(alloc: Global, query: &Query, cover: &Cover) -> Result<String, Refusal>
     requires { are_places (query.now) cover.now.picks ≡ true }
     ensures text { IfOk result (λ text. string_bytes text ≡ explanation (query.now) cover.now) }

@@ -1,7 +1,8 @@
-//! What a walk over an index asks about the keys that it passes.
+//! The test that a walk over an index applies to each key.
 use crate::{Marks, TextTest};
 
-/// Whether a comparison is true of a key's text, or whether the key's node is marked.
+/// A test of a key: whether a comparison is true of the string in the key, or whether the key's
+/// node is marked.
 #[derive(Clone, Copy)]
 pub enum KeyTest<'t, 'q> {
     Text(&'t TextTest<'q>),

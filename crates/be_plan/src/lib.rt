@@ -1,15 +1,16 @@
-//! Plans: from which comparisons a query is answered, and how walks over their indices answer it.
+//! Plans: which comparisons a query is answered from, and how index walks produce the answer.
 //!
-//! A query on a large volume must not look at every node. It is computed from a few of its
-//! comparisons, the picks. For each pick the index of its name is walked over the keys that can
-//! matter. Each node found there is tested against the whole query. Picks cover a query if these
-//! walks can't miss an answer: for an `&&` one side is enough, for an `||` both are needed. The
-//! answer doesn't depend on the plan. Any picks that cover the query give the ascending list of all
-//! nodes that match it.
+//! On a large volume, a query can't afford to test every node. Instead, a few of its comparisons
+//! are picked. For each pick, the index of its name is walked over the range of keys that can
+//! matter, and each node found there is tested against the whole query. The picks cover the query
+//! if these walks can't miss an answer: an `&&` needs one covered side, an `||` needs both. The
+//! answer doesn't depend on the plan: any picks that cover the query yield the same ascending list
+//! of all nodes that match it.
 //!
-//! `choose_from` chooses picks, and `choose` does so from a list of indices. `run` makes the walks,
-//! `explain` says what was picked, and `answer` does all of it; `answer_into` does so for a
-//! caller's list. Walks read a `Source`, which is a plain volume or a page reader.
+//! `choose_from` chooses the picks from a source, and `choose` from a list of indices. `run` walks
+//! the indices, `explain` prints what was picked, and `answer` chooses and walks in one call;
+//! `answer_into` does the same for a list that the caller provides. Walks read a `Source`: a plain
+//! volume or a page reader.
 #![tactic(auto)]
 
 mod asking;

@@ -1,4 +1,4 @@
-//! Choosing comparisons from a list of the indices, such as a version's `indices`.
+//! Choosing picks from a list of indices, such as the `indices` of a version.
 ghost use Rattle.std.specs.Prelude.{◌≡◌, ◌≤◌, ◌+◌, ◌*◌, IfOk, IfErr, IfSome, ◌⊎◌, true, false};
 ghost use Rattle.be_value.specs.Refusal.{Answers};
 ghost use Rattle.be_value.specs.declared.refusals.Refusal.TheVariants.{OutOfMemory, NotCovered};
@@ -14,14 +14,14 @@ use be_query::{Query, Tree};
 use be_value::{Kind, Name, Refusal};
 use std::alloc::{AllocError, Global};
 
-/// The comparisons from which to answer the query if a volume has these indices. The rule is that
-/// of `choose_from`, and no volume is needed. NotCovered if none of them covers the query; the only
-/// other error is OutOfMemory. It costs one pass over the tree, and a search of the list for each
-/// comparison.
+/// Chooses the picks for the query on a volume with these indices. It follows the same rule as
+/// `choose_from` but needs no volume. Returns `NotCovered` if the indices don't cover the query;
+/// the only other error is `OutOfMemory`. It makes one pass over the tree and searches the list
+/// once for each comparison.
 pub fn choose(alloc: Global, query: &Query, indices: &[(Name, Kind)]) -> Result<Cover, Refusal>
     ensures choice { Answers (λ cover. cover) result (chosen (is_listed indices.now) query.now) }
-    // The choice covers the query, so each pick is the place of a comparison. There is no choice
-    // exactly if no index covers the query.
+    // The choice covers the query, so each pick is the position of a comparison. `NotCovered` is
+    // returned if and only if the indices don't cover the query.
     ensures covers { IfOk result (λ cover. covers (is_listed indices.now) cover.picks query.now
         ≡ true) }
     ensures rests { IfOk result (λ _. rests (is_listed indices.now) query.now ≡ true) }
@@ -35,7 +35,7 @@ pub fn choose(alloc: Global, query: &Query, indices: &[(Name, Kind)]) -> Result<
     }
 }
 
-/// The choice for a whole query, if it is covered.
+/// Returns the choice for a whole query, or `None` if the indices don't cover it.
 fn choose_by_list(
     alloc: Global,
     tree: &Tree,
@@ -49,7 +49,7 @@ fn choose_by_list(
     Ok(cover)
 }
 
-/// The choice for a part of a query whose first comparison is at the place `at`.
+/// Returns the choice for a part of a query whose first comparison is at position `at`.
 fn choose_part(
     alloc: Global,
     tree: &Tree,
@@ -90,7 +90,7 @@ fn choose_part(
     }
 }
 
-/// Whether the list has an index of that name.
+/// Returns `true` if the list contains an index of that name.
 fn is_listed(indices: &[(Name, Kind)], name: &Name) -> bool
     ensures { result ≡ is_listed indices.now name.now }
 {

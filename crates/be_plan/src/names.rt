@@ -1,4 +1,4 @@
-//! The name that comparisons are on.
+//! The name that all comparisons of a query share.
 ghost use Rattle.std.specs.Prelude.{◌≡◌, true, IfSome};
 ghost use Rattle.std.specs.Option.{option_copied};
 ghost use Rattle.be_query.specs.View.{formula};
@@ -7,7 +7,7 @@ ghost use Rattle.be_plan.specs.Walk.{AreAllOn};
 use be_query::Tree;
 use be_value::Name;
 
-/// Whether each comparison is on this name, and none is under `||`.
+/// Returns `true` if every comparison is on this name and none of them is under `||`.
 fn are_all_on(tree: &Tree, name: &Name) -> bool
     ensures { result ≡ true → AreAllOn (formula tree.now) name.now }
 {
@@ -18,7 +18,8 @@ fn are_all_on(tree: &Tree, name: &Name) -> bool
     }
 }
 
-/// The name that all comparisons are on, if there is one and none is under `||`.
+/// Returns the name that all comparisons are on, or `None` if their names differ or the tree
+/// contains an `||`.
 pub(crate) fn only_name(tree: &Tree) -> Option<&Name>
     ensures { IfSome (option_copied result) (λ name. AreAllOn (formula tree.now) name) }
 {

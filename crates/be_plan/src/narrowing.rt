@@ -1,19 +1,22 @@
-//! The keys that a walk over an index has to pass.
+//! Narrowing the range of keys that a walk over an index has to visit.
 //!
-//! A walk for a pick begins with all keys of the index, and leaves out those that can't give an
-//! answer through this pick. Each comparison on the picked name that is next to it under `&&` gives
-//! a bound, and a pattern gives its literal prefix. A comparison on the other side of an `||` gives
-//! none, because it need not be true. A number outside the index's kind leaves out all keys or
-//! none, depending on the side on which it lies; a literal that isn't a number leaves out all. For
-//! a text longer than any value, the bytes that a value may have decide.
+//! The walk for a pick starts with all keys of the index and excludes those that can't yield an
+//! answer through this pick. Each comparison on the picked name that is joined to the pick by `&&`
+//! sets a bound; a pattern sets one through its literal prefix. A comparison on the other side of
+//! an `||` sets no bound, because it need not be true. A number outside the range of the index's
+//! kind excludes either all keys or none, depending on whether it is below or above that range. A
+//! literal that isn't a number excludes all keys of an index of numbers. A string longer than any
+//! value sets a bound with its first 255 bytes.
 //!
-//! Bounds are bytes, both included: a value's key with the lowest or the highest node number, or
-//! the bytes next to it if the value is left out. So a range of numbers has no useless key. The key
-//! is never made: its front is the bytes of the literal or the number, and its end is one of four.
+//! Bounds are inclusive byte strings. Each is the key of a value with the lowest or the highest
+//! node number, or the byte string next to that key if the value itself is excluded. A range of
+//! numbers therefore contains no key that the walk would have to reject. The key itself is never
+//! assembled: its front is the bytes of the literal or the number, and its end is one of four
+//! constants.
 //!
 //! The functions that narrow a range return whether every remaining value satisfies the comparison,
-//! or the whole query. Then the node of each key is an answer, and nothing is asked about it. The
-//! range decides a pattern only if the pattern just says how a text begins.
+//! or the whole query. If so, the node of every remaining key is an answer and needs no test. A
+//! range decides a pattern only if the pattern does no more than say how a string begins.
 ghost use Rattle.std.specs.Prelude.{◌≡◌, ◌<◌, ◌≤◌, ◌+◌, ℕ, ℤ, ◌≤ℤ◌, true, false, List, []};
 ghost use Rattle.std.specs.Prelude.{◌∷◌, ◌++◌, ◌&&◌};
 ghost use Rattle.std.specs.Prelude.{Some, None, IfSome, IfOk, IfErr, IsUtf8, length};
@@ -41,19 +44,21 @@ use be_query::{Cmp, Comparison, Literal, Tree};
 use be_value::{Kind, Name, counted32, counted64};
 use be_volume::literal_number;
 
-/// The bytes after the text in a text's key, for the lowest node.
+/// The bytes after the string in a string's key, for the lowest node.
 const TEXT_FIRST: [u8; 9] = [0; 9];
 
-/// The same for the highest node, and then a zero byte: with it, the bytes next above the key.
+/// The bytes after the string in a string's key, for the highest node, and one more zero byte. A
+/// key that is extended by this zero byte is the next byte string after the key itself.
 const TEXT_AFTER: [u8; 10] = [0, 255, 255, 255, 255, 255, 255, 255, 255, 0];
 
 /// The bytes after the number in a number's key, for the lowest node.
 const NUMBER_FIRST: [u8; 8] = [0; 8];
 
-/// The same for the highest node, and then a zero byte.
+/// The bytes after the number in a number's key, for the highest node, and one more zero byte.
 const NUMBER_AFTER: [u8; 9] = [255, 255, 255, 255, 255, 255, 255, 255, 0];
 
-/// The end without its last byte. If that byte is zero, no bytes lie between the two.
+/// Returns `end` without its last byte. If that byte is zero, no other byte string lies between the
+/// two.
 fn without_last(end: &[u8]) -> &[u8]
     ensures { (bytes : List ℕ) → end.now ≡ bytes ++ 0 ∷ [] → result.now ≡ bytes }
 {
@@ -63,10 +68,10 @@ fn without_last(end: &[u8]) -> &[u8]
     }
 }
 
-/// Leaves out keys of values that don't satisfy the comparison, using a value that replaces its
-/// literal. The keys of this value begin with `front`. After it comes `first` for the lowest node,
-/// and `after` without its zero byte for the highest. Returns whether all remaining values satisfy
-/// the comparison.
+/// Excludes the keys of values that don't satisfy the comparison, given a value that is equivalent
+/// to its literal. The keys of this value begin with `front`; what follows is `first` for the
+/// lowest node, and `after` without its zero byte for the highest. Returns `true` if all remaining
+/// values satisfy the comparison.
 fn narrow_by(
     range: &mut Range,
     comparison: &Comparison,
@@ -92,7 +97,7 @@ fn narrow_by(
     }
 }
 
-/// Does what `narrow_by` does, for an integer whose bytes in a key these are.
+/// Does what `narrow_by` does, for the integer that is encoded as `bytes` in a key.
 fn narrow_by_integer(range: &mut Range, comparison: &Comparison, kind: Kind, bytes: &[u8]) -> bool
     ghost bound: { AnyValue }
     requires represents { Represents (literal comparison.now.literal) kind bound }
@@ -104,8 +109,8 @@ fn narrow_by_integer(range: &mut Range, comparison: &Comparison, kind: Kind, byt
     narrow_by(range, comparison, kind, bytes, &NUMBER_FIRST, &NUMBER_AFTER)
 }
 
-/// Does the same for the number that the literal encodes, if that is a value of the kind. Otherwise
-/// the range stays.
+/// Does what `narrow_by` does, for the number that the literal encodes. Returns `None` and leaves
+/// the range unchanged if this number isn't a value of the kind.
 fn narrow_by_number(
     range: &mut Range,
     comparison: &Comparison,
@@ -139,7 +144,7 @@ fn narrow_by_number(
     }
 }
 
-/// The lowest and the highest number of an integer kind.
+/// Returns the lowest and the highest number of an integer kind.
 fn numbers_of(kind: Kind) -> Option<(i128, i128)>
     ensures { IfSome result (λ ends. (v : AnyValue) → IsValue v → kind_of v ≡ kind
         → IsBetween ends.0 ends.1 v) }
@@ -153,8 +158,8 @@ fn numbers_of(kind: Kind) -> Option<(i128, i128)>
     }
 }
 
-/// Whether the operator with this number is false for all numbers from `least` to `greatest`.
-/// Without a number it is.
+/// Returns `true` if comparing with `number` yields `false` for every number from `least` to
+/// `greatest`. If `number` is `None`, this is always the case.
 fn is_false_between(op: Cmp, number: Option<i128>, least: i128, greatest: i128) -> bool
     ensures { result ≡ true → (n : ℤ) → least ≤ℤ n → n ≤ℤ greatest → holds_of_number op n number
         ≡ false }
@@ -170,8 +175,8 @@ fn is_false_between(op: Cmp, number: Option<i128>, least: i128, greatest: i128) 
     }
 }
 
-/// Whether the comparison is false for all values of an integer kind. It is if its literal encodes
-/// no number, or one on the wrong side of them all.
+/// Returns `true` if the comparison is false for all values of an integer kind: its literal encodes
+/// either no number or a number on the wrong side of all these values.
 fn is_false_of_all(comparison: &Comparison, kind: Kind, number: Option<i128>) -> bool
     requires { number ≡ literal_number (literal comparison.now.literal) }
     ensures { result ≡ true → (v : AnyValue) → IsValue v → kind_of v ≡ kind
@@ -183,8 +188,8 @@ fn is_false_of_all(comparison: &Comparison, kind: Kind, number: Option<i128>) ->
     is_false_between(comparison.op, number, least, greatest)
 }
 
-/// Leaves out keys of integers that don't satisfy the comparison. Returns whether all remaining
-/// ones do. A literal that isn't a value of the kind decides nothing.
+/// Excludes the keys of integers that don't satisfy the comparison. Returns `true` if all remaining
+/// integers do, and `false` if the literal isn't a value of the kind.
 fn narrow_integers(range: &mut Range, comparison: &Comparison, kind: Kind) -> bool
     ensures within { (k : List ℕ) → IsIn range.new k → IsIn range.old k }
     ensures keeps { KeepsTrueOf kind comparison.now range.old range.new }
@@ -202,18 +207,19 @@ fn narrow_integers(range: &mut Range, comparison: &Comparison, kind: Kind) -> bo
     false
 }
 
-/// A limit above each byte that may follow the pattern's literal characters in a key. Without a
-/// wildcard that byte is zero; with one it may also be the first byte of a character.
+/// Returns a byte that is greater than every byte that may follow the pattern's literal prefix in a
+/// key. Without a wildcard, only a zero byte may follow; with one, so may the first byte of a
+/// character.
 fn limit_of(pattern: &Pattern) -> u8
     ensures { result ≡ limit (is_plain pattern.now) }
 {
     if pattern.is_plain() { 1 } else { 255 }
 }
 
-/// Leaves out keys of texts that don't begin with the pattern's literal characters. If these are
-/// longer than a value may be, it leaves out all keys. Returns whether the pattern matches all
-/// remaining texts. Literal characters with a zero byte would reach into the node's number, so they
-/// decide nothing.
+/// Excludes the keys of strings that don't begin with the pattern's literal prefix, or all keys if
+/// the prefix is longer than any value. Returns `true` if the pattern matches all remaining
+/// strings. A prefix that contains a zero byte could extend into the node number of a key, so the
+/// result is then `false`.
 fn narrow_by_pattern(range: &mut Range, pattern: &Pattern) -> bool
     ensures within { (k : List ℕ) → IsIn range.new k → IsIn range.old k }
     ensures keeps { (text : List ℕ) (n : ℕ) → IsUtf8 text → length text ≤ 255
@@ -238,8 +244,9 @@ fn narrow_by_pattern(range: &mut Range, pattern: &Pattern) -> bool
     pattern.is_prefix() && !front.contains(&0)
 }
 
-/// Leaves out keys of texts for which the operator is false, given a text longer than any value.
-/// The text's first 255 bytes decide, unless a zero byte is among them.
+/// Excludes the keys of strings for which the operator is false, given a literal that is longer
+/// than any value. Its first 255 bytes set the bound. They set no upper bound if they contain a
+/// zero byte, and `==` and `!=` set no bound at all.
 fn narrow_by_long(range: &mut Range, op: Cmp, words: &[u8])
     requires { 255 < length words.now }
     ensures within { (k : List ℕ) → IsIn range.new k → IsIn range.old k }
@@ -262,8 +269,8 @@ fn narrow_by_long(range: &mut Range, op: Cmp, words: &[u8])
     }
 }
 
-/// Leaves out keys of texts that don't satisfy the comparison with this text. Returns whether all
-/// remaining ones do. A text that can't be a value decides nothing.
+/// Excludes the keys of strings that don't satisfy the comparison with `words`. Returns `true` if
+/// all remaining strings do, and `false` if `words` can't be a value.
 fn narrow_by_text(range: &mut Range, comparison: &Comparison, words: &str) -> bool
     requires { literal comparison.now.literal ≡ Exact words.now }
     ensures within { (k : List ℕ) → IsIn range.new k → IsIn range.old k }
@@ -288,8 +295,8 @@ fn narrow_by_text(range: &mut Range, comparison: &Comparison, words: &str) -> bo
     )
 }
 
-/// Leaves out keys of texts that don't satisfy the comparison. Returns whether all remaining ones
-/// do.
+/// Excludes the keys of strings that don't satisfy the comparison. Returns `true` if all remaining
+/// strings do.
 fn narrow_texts(range: &mut Range, comparison: &Comparison) -> bool
     ensures within { (k : List ℕ) → IsIn range.new k → IsIn range.old k }
     ensures keeps { KeepsTrueOf Kind.Cstr comparison.now range.old range.new }
@@ -302,8 +309,8 @@ fn narrow_texts(range: &mut Range, comparison: &Comparison) -> bool
     }
 }
 
-/// Leaves out keys of values that don't satisfy the comparison. Returns whether all remaining ones
-/// do.
+/// Excludes the keys of values that don't satisfy the comparison. Returns `true` if all remaining
+/// values do.
 fn narrow(range: &mut Range, comparison: &Comparison, kind: Kind) -> bool
     ensures within { (k : List ℕ) → IsIn range.new k → IsIn range.old k }
     ensures keeps { KeepsTrueOf kind comparison.now range.old range.new }
@@ -318,7 +325,7 @@ fn narrow(range: &mut Range, comparison: &Comparison, kind: Kind) -> bool
     }
 }
 
-/// What is left to ask of an `&&`, given what is left of its sides.
+/// Returns the remaining condition of an `&&`, given the remaining conditions of its sides.
 fn rest_of_both<'a>(
     tree: &'a Tree,
     left: Option<&'a Tree>,
@@ -342,8 +349,8 @@ fn rest_of_both<'a>(
     }
 }
 
-/// What is left to ask of an `||`, given what is left of one side: nothing if nothing is left of
-/// that side.
+/// Returns the remaining condition of an `||`, given that of one side: `None` if nothing remains of
+/// that side, and otherwise the whole `||`.
 pub(crate) fn rest_of_or<'a>(tree: &'a Tree, rest: Option<&'a Tree>) -> Option<&'a Tree>
     ensures { (s : State) (node : ℕ) →
         (option_map formula (option_copied rest.entry) ≡ None → sat s (formula tree.now) node
@@ -357,9 +364,10 @@ pub(crate) fn rest_of_or<'a>(tree: &'a Tree, rest: Option<&'a Tree>) -> Option<&
     }
 }
 
-/// Leaves out keys of values that a node can't have at this name if it satisfies the part. An `||`
-/// leaves out none, because neither side need be true. Returns what is left to ask about the nodes
-/// of the remaining keys; None if the range decides the part.
+/// Excludes the keys of values that a node can't have for this name if it satisfies the part. An
+/// `||` excludes no keys, because either of its sides may be false. Returns the condition that
+/// remains to be tested on the nodes of the remaining keys, or `None` if the range decides the
+/// part.
 pub(crate) fn narrow_beside<'a>(
     range: &mut Range,
     tree: &'a Tree,
@@ -389,8 +397,8 @@ pub(crate) fn narrow_beside<'a>(
     }
 }
 
-/// Does the same if all comparisons are on the index's own name, whatever it is: so no names are
-/// compared.
+/// Does what `narrow_beside` does for a part in which all comparisons are on the index's own name.
+/// No names are compared.
 pub(crate) fn narrow_alone<'a>(range: &mut Range, tree: &'a Tree, kind: Kind) -> Option<&'a Tree>
     ensures within { (k : List ℕ) → IsIn range.new k → IsIn range.old k }
     ensures keeps { (name : List ℕ) → AreAllOn (formula tree.now) name
@@ -415,10 +423,11 @@ pub(crate) fn narrow_alone<'a>(range: &mut Range, tree: &'a Tree, kind: Kind) ->
     }
 }
 
-/// Leaves out keys of values that a node can't have at this name if it satisfies the part through
-/// the pick. The part's first comparison is at the place `at`. Returns what is left to ask about
-/// the nodes of the remaining keys; the pick's side decides an `||`. If the part ends before the
-/// pick, the range stays, and the error is the place after the part.
+/// Excludes the keys of values that a node can't have for this name if it satisfies the part
+/// through the pick. The part's first comparison is at position `at`. Returns the condition that
+/// remains to be tested on the nodes of the remaining keys. If the range decides the pick's side of
+/// an `||`, it decides the `||`. If the part ends before the pick, the range is unchanged, and the
+/// error is the position after the part.
 pub(crate) fn narrow_all<'a>(
     range: &mut Range,
     tree: &'a Tree,

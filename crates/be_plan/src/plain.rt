@@ -1,7 +1,7 @@
 //! A plain volume as a source.
 //!
-//! The source only borrows the volume and allocates no memory, so each call is the volume's. The
-//! nodes of a range are found from key to key.
+//! The source only borrows the volume, so it allocates no memory and forwards each call. The nodes
+//! of a range are found by stepping from key to key.
 ghost use Rattle.std.specs.Prelude.{◌≡◌, OnOk, IfErr};
 ghost use Rattle.std.specs.Option.{option_copied};
 ghost use Rattle.be_value.specs.declared.refusals.Refusal.TheVariants.{OutOfMemory};
@@ -15,7 +15,7 @@ use be_value::{Kind, Name, Refusal, Value, node_of};
 use be_volume::Volume;
 use std::marker::Model;
 
-/// A borrowed volume, seen as its `State`.
+/// A borrowed volume. Contracts view it as the volume's `State`.
 #[derive(Drop)]
 pub struct VolumeSource<'a> {
     volume: &'a Volume,
@@ -31,7 +31,7 @@ impl<'a> Model for VolumeSource<'a> {
     ghost view = { λ s. s.volume.now };
 }
 
-/// The volume as a source.
+/// Returns the volume as a source.
 pub fn volume_source(volume: &Volume) -> VolumeSource<'_>
     ensures view { result ≡ volume.now }
     ensures sound { IsSound volume.now }
@@ -73,8 +73,8 @@ impl Source for VolumeSource<'_> {
     }
 }
 
-/// Adds the nodes of the keys of an index from `low` to `high`, both included; up to the last key
-/// if `high` is None. It makes one search for each key, and one more.
+/// Adds the nodes of an index's keys from `low` to `high`, both inclusive, or to the last key if
+/// `high` is `None`. It makes one search per key, plus one.
 fn nodes_in(
     volume: &Volume,
     name: &Name,
@@ -101,7 +101,7 @@ fn nodes_in(
     Ok(())
 }
 
-/// Whether the key is above the bound, if there is one.
+/// Returns `true` if the key is above the bound. Without a bound, no key is.
 fn is_past(high: Option<&[u8]>, key: &[u8]) -> bool
     ensures { result ≡ is_above (option_copied high.entry) key.now }
 {

@@ -1,20 +1,20 @@
-//! What a query is answered from.
+//! The comparisons that a query is answered from.
 ghost use Rattle.std.specs.Prelude.{◌≡◌, ◌∷◌, [], IfOk};
 
 use std::alloc::{AllocError, Global};
 use std::marker::Model;
 use std::slice::from_ref;
 
-/// A list of places. A single place, which is enough for most queries, is stored in the value
-/// itself; several are stored in a list.
+/// A list of positions. A single position, which is enough for most queries, is stored inline;
+/// several positions are stored in a list on the heap.
 #[derive(Debug, Drop)]
 enum Places {
     One(usize),
     Many(Vec<usize>),
 }
 
-/// Places of comparisons, counted from 0 and from left to right over the whole query. A contract
-/// sees the list of them.
+/// The positions of the picked comparisons, counted from 0 and from left to right over the whole
+/// query. Contracts view them as a list.
 #[derive(Debug, Drop)]
 pub struct Picks {
     places: Places,
@@ -30,7 +30,7 @@ impl Model for Picks {
 }
 
 impl Picks {
-    /// These places. No memory is allocated.
+    /// Creates picks from a list of positions. Allocates no memory.
     pub fn new(places: Vec<usize>) -> Picks
         ensures { result ≡ places.items }
     {
@@ -39,7 +39,7 @@ impl Picks {
         }
     }
 
-    /// Only this place. No memory is allocated.
+    /// Creates picks from a single position. Allocates no memory.
     pub fn one(place: usize) -> Picks
         ensures { result ≡ place ∷ [] }
     {
@@ -48,7 +48,7 @@ impl Picks {
         }
     }
 
-    /// The places.
+    /// Returns the positions as a slice.
     pub fn as_slice(&self) -> &[usize]
         ensures { result.now ≡ self.now }
     {
@@ -58,7 +58,8 @@ impl Picks {
         }
     }
 
-    /// The places in a list. Memory is allocated only if a single place was stored in the value.
+    /// Returns the positions as a list. Allocates memory only for a single position that was stored
+    /// inline.
     pub fn into_vec(self, alloc: Global) -> Result<Vec<usize>, AllocError>
         ensures { IfOk result (λ places. places.items ≡ self) }
     {
@@ -74,8 +75,8 @@ impl Picks {
     }
 }
 
-/// The comparisons that a query is answered from, and their score. The lower the score, the fewer
-/// keys the walks are expected to pass.
+/// The comparisons that a query is answered from, and their score. A lower score means that the
+/// walks are expected to visit fewer keys.
 #[derive(Debug, Drop)]
 pub struct Cover {
     pub picks: Picks,

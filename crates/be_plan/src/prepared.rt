@@ -1,9 +1,8 @@
-//! Queries that are used again and again.
+//! Queries that are used repeatedly.
 //!
-//! Most queries have all their comparisons on one name. What they do with a version then depends
-//! only on that name's index: the range of keys that they leave depends on the query and on the
-//! index's kind. So a prepared query keeps that range, and the place where the index was last
-//! found.
+//! In most queries, all comparisons are on one name. The answer then depends only on that name's
+//! index, and the range of keys to read depends only on the query and the kind of the index. A
+//! prepared query therefore keeps that range, along with the place where the index was last found.
 ghost use Rattle.std.specs.Prelude.{◌≡◌, true, IfSome};
 ghost use Rattle.std.specs.Option.{option_copied};
 ghost use Rattle.be_plan.specs.Narrow.{high_of};
@@ -18,9 +17,10 @@ use be_query::Query;
 use be_value::{Kind, Name};
 use std::marker::Model;
 
-/// A query with what its uses share. If all its comparisons are on one name, it has that name, and
-/// the range of keys that decides them. The range is for an index of the kind that was last met. It
-/// may be used on any versions of any stores, one after the other. A contract sees the query.
+/// A query, together with what its uses have in common. If all its comparisons are on one name, it
+/// keeps that name and the range of keys that decides them. The range is valid for indices of the
+/// kind that was last passed to `meet`. A prepared query can be used with any version of any store,
+/// one at a time. Contracts view it as the query.
 #[derive(Drop)]
 pub struct PreparedQuery {
     query: Query,
@@ -49,7 +49,8 @@ impl Model for PreparedQuery {
         × DecidesIf p.decided p.query p.range.low.items (high_of p.range) };
 }
 
-/// The name that all comparisons of the query are on, if there is one and none is under `||`.
+/// Returns the name that all comparisons of the query are on, or `None` if their names differ or
+/// the query contains an `||`.
 fn name_asked(query: &Query) -> Option<Name>
     ensures { IfSome result (λ name. AreAllOn query.now name) }
 {
@@ -59,8 +60,8 @@ fn name_asked(query: &Query) -> Option<Name>
     }
 }
 
-/// Computes the range that comparisons on one name leave of its index. Returns whether the range
-/// decides them.
+/// Computes the range of keys that comparisons on one name allow in its index. Returns `true` if
+/// the range decides the comparisons.
 fn range_decides(range: &mut Range, query: &Query, kind: Kind) -> bool
     ensures { result ≡ true → Decides query.now kind range.new.low.items (high_of range.new) }
 {
@@ -72,8 +73,7 @@ fn range_decides(range: &mut Range, query: &Query, kind: Kind) -> bool
 }
 
 impl PreparedQuery {
-    /// The query, ready to be used. No memory is allocated. The range is computed when an index is
-    /// met.
+    /// Prepares a query. Allocates no memory. The range isn't computed until `meet` is called.
     pub fn new(query: Query) -> PreparedQuery
         ensures { result ≡ query }
     {
@@ -88,14 +88,15 @@ impl PreparedQuery {
         }
     }
 
-    /// The query.
+    /// Returns the query.
     pub fn query(&self) -> &Query
         ensures { result.now ≡ self.now }
     {
         &self.query
     }
 
-    /// The name that all comparisons are on, if there is one and none is under `||`.
+    /// Returns the name that all comparisons are on, or `None` if their names differ or the query
+    /// contains an `||`.
     pub fn name(&self) -> Option<&Name>
         ensures { IfSome (option_copied result) (λ name. AreAllOn self.now name) }
     {
@@ -105,14 +106,13 @@ impl PreparedQuery {
         }
     }
 
-    /// The place of that name's index at the last use, as it was passed to `meet`; 0 before the
-    /// first.
+    /// Returns the place of the index that was last passed to `meet`, or 0 before the first call.
     pub fn place(&self) -> usize {
         self.place
     }
 
-    /// Computes the range for an index of this kind, unless it was last computed for this kind, and
-    /// keeps the index's place.
+    /// Stores the place of the index, and computes the range for its kind unless the range was last
+    /// computed for the same kind.
     #[inline(always)]
     pub fn meet(&mut self, place: usize, kind: Kind)
         ensures { self.new ≡ self.old }
@@ -136,8 +136,8 @@ impl PreparedQuery {
         }
     }
 
-    /// The range that decides the query in an index of this kind. None if the range was computed
-    /// for another kind, or if it leaves something to ask.
+    /// Returns the range that decides the query in an index of this kind. Returns `None` if the
+    /// range was computed for another kind, or if it doesn't decide the query.
     #[inline(always)]
     pub fn keys_for(&self, kind: Kind) -> Option<KeyRange<'_>>
         ensures on { IfSome result (λ keys. AreAllOn self.now keys.name.now) }

@@ -1,8 +1,9 @@
 //! Ranges of keys.
 //!
-//! A range is narrowed by bounds. A bound is given in two parts, a front and an end, such as a
-//! literal's bytes and those of a node after it. So its bytes need not be joined to be compared.
-//! They are written directly to where they stay, and only if the range changes.
+//! Bounds narrow a range. A bound is passed in two parts, a front and an end: for example, the
+//! bytes of a literal and the bytes of a node. To be compared, the two parts need not be
+//! concatenated. They are copied only if the range changes, and then directly to their final
+//! location.
 ghost use Rattle.std.specs.Prelude.{◌≡◌, ◌+◌, ◌≤◌, true, false, List, [], ◌++◌, ℕ, length};
 ghost use Rattle.std.specs.Option.{option_copied};
 ghost use Rattle.std.specs.Ordering.{is_lt, is_gt};
@@ -13,10 +14,10 @@ use arrayvec::ArrayVec;
 use std::cmp::Ordering;
 use std::marker::Model;
 
-/// The bytes at one end of a range; the longest are those next above the longest key. A few bytes
-/// have their own array, because an array is cleared when it is made: 40 bytes are enough for
-/// numbers and for texts of 30 bytes. Setting `many` to None clears that array, too, so it is set
-/// only if it was Some.
+/// The bytes at one end of a range. The longest possible are one byte longer than the longest key.
+/// Short byte strings have an array of their own, because creating an array clears it: 40 bytes are
+/// enough for numbers and for strings of up to 30 bytes. Setting `many` to `None` would also clear
+/// its array, so it is set only if it is `Some`.
 #[derive(Drop)]
 struct Bound {
     few: ArrayVec<u8, 40>,
@@ -37,7 +38,7 @@ impl Model for Bound {
 }
 
 impl Bound {
-    /// No bytes.
+    /// Creates an empty byte string.
     fn new() -> Bound
         ensures { result.items ≡ [] }
     {
@@ -47,7 +48,7 @@ impl Bound {
         }
     }
 
-    /// The bytes.
+    /// Returns the bytes.
     fn as_slice(&self) -> &[u8]
         ensures value { result.now ≡ self.now.items }
     {
@@ -57,7 +58,7 @@ impl Bound {
         }
     }
 
-    /// Makes the bytes empty.
+    /// Empties the byte string.
     fn clear(&mut self)
         ensures { self.new.items ≡ [] }
     {
@@ -67,7 +68,7 @@ impl Bound {
         }
     }
 
-    /// Replaces the bytes with a front and an end, in the small array.
+    /// Replaces the bytes with a front and an end, stored in the small array.
     fn put_few(&mut self, front: &[u8], end: &[u8])
         requires { length front.now + length end.now ≤ 40 }
         ensures { self.new.items ≡ front.now ++ end.now }
@@ -80,8 +81,8 @@ impl Bound {
         }
     }
 
-    /// Replaces the bytes with a front and an end, in the large array. It is a separate function
-    /// because its array is cleared at every call.
+    /// Replaces the bytes with a front and an end, stored in the large array. This is a separate
+    /// function because each call clears the array.
     #[inline(never)]
     fn put_many(&mut self, front: &[u8], end: &[u8])
         requires { length front.now + length end.now ≤ 265 }
@@ -94,7 +95,7 @@ impl Bound {
     }
 }
 
-/// The keys from `low` to `high`, both included; up to the last key if the range isn't bounded.
+/// The keys from `low` to `high`, both inclusive, or to the last key if the range isn't bounded.
 #[derive(Drop)]
 pub(crate) struct Range {
     low: Bound,
@@ -103,7 +104,7 @@ pub(crate) struct Range {
 }
 
 impl Range {
-    /// All keys.
+    /// Returns the range of all keys.
     pub(crate) fn whole() -> Range
         ensures { (k : List ℕ) → IsIn result k }
     {
@@ -114,8 +115,8 @@ impl Range {
         }
     }
 
-    /// Takes all keys again, so that a range is made once for all walks of a query. Clearing a new
-    /// range's arrays would take as long as narrowing it.
+    /// Resets the range to all keys, so that one range serves all walks of a query. Clearing the
+    /// arrays of a new range would take as long as narrowing it.
     pub(crate) fn open(&mut self)
         ensures { (k : List ℕ) → IsIn self.new k }
     {
@@ -123,14 +124,14 @@ impl Range {
         self.bounded = false;
     }
 
-    /// The bytes below which the range has no key.
+    /// Returns the low bound. The range has no key below it.
     pub(crate) fn low(&self) -> &[u8]
         ensures { result.now ≡ self.now.low.items }
     {
         self.low.as_slice()
     }
 
-    /// The bytes above which the range has no key, if it has a high end.
+    /// Returns the high bound, if there is one. The range has no key above it.
     pub(crate) fn high(&self) -> Option<&[u8]>
         ensures { option_copied result ≡ high_of self.now }
     {
@@ -141,15 +142,16 @@ impl Range {
         }
     }
 
-    /// Whether the key is above all keys of the range.
+    /// Returns `true` if the key is above all keys of the range.
     pub(crate) fn ends_before(&self, key: &[u8]) -> bool
         ensures { result ≡ is_above (high_of self.now) key.now }
     {
         self.bounded && key.cmp(&self.high.as_slice()).is_gt()
     }
 
-    /// Whether no key of the range is below the front followed by the end. If false, no key from
-    /// there on is below the low end. If the low end is empty, nothing is compared.
+    /// Returns `true` if the low bound already excludes all keys below `front` followed by `end`.
+    /// Otherwise, the low bound excludes no key from that point on. An empty low bound needs no
+    /// comparison.
     fn starts_at(&self, front: &[u8], end: &[u8]) -> bool
         ensures starts { result ≡ true → (k : List ℕ) → is_lt (name_cmp k self.now.low.items)
             ≡ false → is_lt (name_cmp k (front.now ++ end.now)) ≡ false }
@@ -160,8 +162,8 @@ impl Range {
         !low.is_empty() && !order(low, front, end).is_lt()
     }
 
-    /// Leaves out keys below the front followed by the end, unless these are too long for an end of
-    /// a range. Returns whether no such key is left.
+    /// Excludes keys below `front` followed by `end`, unless the two are too long for a bound.
+    /// Returns `true` if the range contains no such keys afterward.
     pub(crate) fn raise_to(&mut self, front: &[u8], end: &[u8]) -> bool
         ensures within { (k : List ℕ) → IsIn self.new k → IsIn self.old k }
         ensures keeps { KeepsFrom (front.now ++ end.now) self.old self.new }
@@ -170,8 +172,8 @@ impl Range {
         self.starts_at(front, end) || put(&mut self.low, front, end)
     }
 
-    /// Whether no key of the range is above the front followed by the end. If false, no key up to
-    /// there is above the high end.
+    /// Returns `true` if the high bound already excludes all keys above `front` followed by `end`.
+    /// Otherwise, the high bound excludes no key up to that point.
     fn ends_at(&self, front: &[u8], end: &[u8]) -> bool
         ensures ends { result ≡ true → (k : List ℕ) → is_above (high_of self.now) k ≡ false
             → is_gt (name_cmp k (front.now ++ end.now)) ≡ false }
@@ -181,8 +183,8 @@ impl Range {
         self.bounded && !order(self.high.as_slice(), front, end).is_gt()
     }
 
-    /// Leaves out keys above the front followed by the end, unless these are too long for an end of
-    /// a range. Returns whether no such key is left.
+    /// Excludes keys above `front` followed by `end`, unless the two are too long for a bound.
+    /// Returns `true` if the range contains no such keys afterward.
     pub(crate) fn lower_to(&mut self, front: &[u8], end: &[u8]) -> bool
         ensures within { (k : List ℕ) → IsIn self.new k → IsIn self.old k }
         ensures keeps { KeepsTo (front.now ++ end.now) self.old self.new }
@@ -198,8 +200,8 @@ impl Range {
         true
     }
 
-    /// Leaves out all keys, because no key is empty. The walk then ends at the first key that it
-    /// gets.
+    /// Excludes all keys by setting the high bound to the empty byte string, which no key equals.
+    /// The walk ends at the first key that it reads.
     pub(crate) fn close(&mut self)
         ensures within { (k : List ℕ) → IsIn self.new k → IsIn self.old k }
         ensures leaves { (k : List ℕ) → IsIn self.new k → k ≡ [] }
@@ -209,7 +211,7 @@ impl Range {
     }
 }
 
-/// Replaces these bytes with a front and an end, if they fit.
+/// Replaces the bytes with a front and an end if they fit. Returns whether they do.
 fn put(bytes: &mut Bound, front: &[u8], end: &[u8]) -> bool
     ensures fits { result ≡ true → bytes.new.items ≡ front.now ++ end.now }
     ensures not { result ≡ false → bytes.new ≡ bytes.old }
@@ -225,7 +227,7 @@ fn put(bytes: &mut Bound, front: &[u8], end: &[u8]) -> bool
     true
 }
 
-/// The order between bytes and a front followed by an end.
+/// Compares `bytes` with a front followed by an end.
 fn order(bytes: &[u8], front: &[u8], end: &[u8]) -> Ordering
     ensures { result ≡ name_cmp bytes.now (front.now ++ end.now) }
 {

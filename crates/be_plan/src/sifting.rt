@@ -1,13 +1,14 @@
-//! Walks that leave only comparisons on other names to ask.
+//! Walks after which only comparisons on other names remain to be tested.
 //!
-//! The range of a walk may decide everything that the query says about the index's name, for
-//! example one side of an `&&`. Then the source returns the nodes of the range's keys in one call,
-//! and these are tested against the rest, in ascending order.
+//! The range of a walk may decide everything that the query says about the index's name, as for one
+//! side of an `&&`. The source then returns the nodes of the range in one call, and these are
+//! tested against the remaining condition in ascending order.
 //!
-//! If there are few nodes, the source is asked about each of them. If there are many, and the rest
-//! is all on one name whose index isn't much larger than their number, that index is walked, too.
-//! The nodes in both lists are the answer. Such a walk passes several keys in the time that one
-//! question about a node takes. All other walks go as `walks` says.
+//! If there are few nodes, the source tests each of them. If there are many, and the remaining
+//! condition is entirely on one name whose index isn't much larger than their number, that index is
+//! walked as well, and the answer is the intersection of both lists. In the time that testing one
+//! node takes, such a walk visits several keys. All other walks are handled as described in
+//! `walks`.
 ghost use Rattle.std.specs.Prelude.{◌≡◌, ◌⊎◌, ◌<◌, ◌≤◌, ℕ, true, Some, OnOk, IfErr, IfOk};
 ghost use Rattle.std.specs.Prelude.{IfSome, length, slice_index};
 ghost use Rattle.std.specs.Option.{option_copied, option_map};
@@ -34,13 +35,13 @@ use be_query::Tree;
 use be_value::{Name, Refusal};
 use std::alloc::{AllocError, Global};
 
-/// Up to this many nodes are few: the source is asked about each of them.
+/// Up to this number of nodes, the source tests each of them.
 const FEW: usize = 64;
 
-/// A question about a node takes at least the time in which a walk passes this many keys.
+/// Testing a node takes at least as long as walking over this number of keys.
 const KEYS_A_NODE: u64 = 8;
 
-/// Adds the node if it satisfies the tree. The source is asked about each comparison.
+/// Adds the node if it satisfies the tree. The source evaluates the comparisons.
 fn add_if_true<S: Source>(
     source: &mut S,
     tree: &Tree,
@@ -64,7 +65,7 @@ fn add_if_true<S: Source>(
     Ok(())
 }
 
-/// Adds those of the nodes that satisfy the tree. The source is asked about each node.
+/// Adds those nodes that satisfy the tree. The source tests each node.
 fn ask_all<S: Source>(
     source: &mut S,
     tree: &Tree,
@@ -86,7 +87,8 @@ fn ask_all<S: Source>(
     Ok(())
 }
 
-/// The first place, from this one on, whose number isn't below `number`; the end if there is none.
+/// Returns the first position, starting from `from`, of a number that isn't below `number`, or the
+/// length of the list if there is none.
 fn pass_below(numbers: &[u64], from: usize, number: u64) -> usize
     requires { from ≤ length numbers.now }
     ensures from { from ≤ result }
@@ -101,7 +103,7 @@ fn pass_below(numbers: &[u64], from: usize, number: u64) -> usize
     at
 }
 
-/// Adds the number if it is at this place in the other list.
+/// Adds the number if the other list has it at this position.
 fn add_if_at(others: &[u64], at: usize, number: u64, found: &mut Vec<u64>) -> Result<(), AllocError>
     ensures keeps { Keeps found.old.items found.new.items }
     ensures only { (n : ℕ) → Contains found.new.items n → Contains found.old.items n
@@ -115,7 +117,7 @@ fn add_if_at(others: &[u64], at: usize, number: u64, found: &mut Vec<u64>) -> Re
     Ok(())
 }
 
-/// Adds the numbers that are in both lists, in one pass over both.
+/// Adds the numbers that are in both lists, in one pass over the two.
 fn add_common(numbers: &[u64], others: &[u64], found: &mut Vec<u64>) -> Result<(), AllocError>
     requires rising { IsStrictlyIncreasing numbers.now }
     requires others { IsStrictlyIncreasing others.now }
@@ -133,8 +135,9 @@ fn add_common(numbers: &[u64], others: &[u64], found: &mut Vec<u64>) -> Result<(
     Ok(())
 }
 
-/// The index of the name that the comparisons are on, if there is one and none is under `||`.
-/// Walking the whole index must take no longer than asking the source about `count` nodes.
+/// Returns the index of the name that all comparisons are on, or `None` if their names differ or
+/// the tree contains an `||`. Also returns `None` unless walking the whole index is expected to
+/// take no longer than testing `count` nodes.
 fn index_to_walk<'t, S: Source>(source: &mut S, tree: &'t Tree, count: usize) -> Option<Index<'t>>
     ghost volume: { State }
     requires answers { S.answers_for source.old volume }
@@ -154,7 +157,7 @@ fn index_to_walk<'t, S: Source>(source: &mut S, tree: &'t Tree, count: usize) ->
     Some(Index { name, kind })
 }
 
-/// Adds the nodes that satisfy a part whose comparisons are all on this index's name.
+/// Adds the nodes that satisfy a part in which all comparisons are on this index's name.
 #[inline]
 pub(crate) fn walk_index<S: Source>(
     alloc: Global,
@@ -178,8 +181,8 @@ pub(crate) fn walk_index<S: Source>(
     walk_alone(alloc, source, Walk { tree, index, range }, rest, found)
 }
 
-/// The nodes, in ascending order, that satisfy a part whose comparisons are all on this index's
-/// name.
+/// Returns the nodes, in ascending order, that satisfy a part in which all comparisons are on this
+/// index's name.
 fn nodes_of_index<S: Source>(
     alloc: Global,
     source: &mut S,
@@ -204,7 +207,7 @@ fn nodes_of_index<S: Source>(
     Ok(nodes)
 }
 
-/// Adds those of the nodes that satisfy the tree. The nodes are in ascending order.
+/// Adds those nodes that satisfy the tree. The nodes must be in ascending order.
 fn add_true<S: Source>(
     alloc: Global,
     source: &mut S,
@@ -233,8 +236,8 @@ fn add_true<S: Source>(
 }
 
 /// Adds the nodes of the keys in the range that satisfy the tree. The source returns the nodes in
-/// one call, and they are tested in ascending order. So what the source reads for one node is near
-/// what it read for the one before, and the nodes are added in order.
+/// one call, and they are tested in ascending order. So what the source reads for one node is close
+/// to what it read for the node before, and the nodes are added in ascending order.
 #[inline(never)]
 fn ask_each<S: Source>(
     alloc: Global,
@@ -267,7 +270,7 @@ fn ask_each<S: Source>(
     add_true(alloc, source, tree, &nodes, found)
 }
 
-/// What is left to ask, if no comparison in it is on the index's own name.
+/// Returns the remaining condition if all its comparisons are on names other than the index's own.
 fn asked_apart<'t>(rest: Option<&'t Tree>, name: &Name) -> Option<&'t Tree>
     ensures { IfSome (option_copied result)
         (λ t. option_map formula (option_copied rest.entry) ≡ Some (formula t)) }
@@ -279,9 +282,9 @@ fn asked_apart<'t>(rest: Option<&'t Tree>, name: &Name) -> Option<&'t Tree>
     Some(rest)
 }
 
-/// Adds the nodes of a walk's keys that satisfy its tree, given what is left to ask about them:
-/// nothing if the range decides the tree. If no comparison on the index's name is left, only the
-/// keys' nodes are needed.
+/// Adds the nodes of a walk's keys that satisfy its tree, given the condition that remains to be
+/// tested on them, or `None` if the range decides the tree. If the condition contains no comparison
+/// on the index's name, only the nodes of the keys are read.
 #[inline]
 pub(crate) fn walk<S: Source>(
     alloc: Global,

@@ -1,10 +1,11 @@
-//! What plans read a volume through.
+//! The interface through which plans read a volume.
 //!
-//! Each call of a source may change the source itself: a cursor moves, or a reader counts its
-//! steps. Two things say what stays. `kept` is the facts about the source that no call changes, and
-//! `answers_for` relates the source to the volume that it reads. This is a relation and not a
-//! function, because a page reader encodes a volume but can't compute it. A contract says what
-//! holds for each volume in that relation, and the caller, who knows the volume, names it.
+//! Any call on a source may change the source itself: for example, a cursor moves, or a reader
+//! counts its steps. Two things describe what is preserved. `kept` is everything about the source
+//! that no call changes, and `answers_for` relates the source to the volume that it reads. It is a
+//! relation and not a function because a page reader encodes a volume but can't compute it.
+//! Contracts are stated for every volume in that relation, and the caller, who knows the volume,
+//! supplies it.
 ghost use Rattle.std.specs.Prelude.{◌≡◌, true, false, OnOk, IfErr, IfOk};
 ghost use Rattle.std.specs.Option.{option_copied, option_map};
 ghost use Rattle.be_value.specs.declared.refusals.Refusal.TheVariants.{OutOfMemory};
@@ -24,8 +25,8 @@ use be_query::Comparison;
 use be_value::{Kind, Name, Refusal, Value, key_of};
 use be_volume::holds;
 
-/// The keys in the index of a name from `low` to `high`, both included; up to the last key if
-/// `high` is None.
+/// The keys from `low` to `high`, both inclusive, in the index of a name. If `high` is `None`, the
+/// range extends to the last key.
 #[derive(Clone, Copy)]
 pub struct KeyRange<'a> {
     pub name: &'a Name,
@@ -33,20 +34,20 @@ pub struct KeyRange<'a> {
     pub high: Option<&'a [u8]>,
 }
 
-/// A reader of one volume. Its calls may change the reader itself, but neither the volume nor the
-/// facts in `kept`. Each call requires that the source answers for some volume, and its clauses
-/// hold for every volume for which it does. No call allocates memory, except for what is added to a
-/// list.
+/// A reader of one volume. A call may change the reader itself, but neither the volume nor the
+/// facts in `kept`. Every call requires that the source represents some volume, and ensures its
+/// clauses for each volume that the source represents. No call allocates memory except to grow the
+/// list that it adds to.
 pub trait Source {
-    /// The facts about the source that no call changes.
+    /// The type of `kept`.
     ghost Kept: { Type 0 };
 
     ghost kept: { Self → Kept };
 
-    /// Whether the source answers for this volume.
+    /// Whether the source represents this volume.
     ghost answers_for: { Self → State → Type 0 };
 
-    /// The kind of the index of that name; None if there is no index.
+    /// Returns the kind of the index of that name, or `None` if there is no index.
     fn kind_of(&mut self, name: &Name) -> Option<Kind>
         requires { (volume : State) × answers_for self.old volume }
         ensures answer { (volume : State) → answers_for self.old volume → result
@@ -54,8 +55,9 @@ pub trait Source {
         ensures stays { kept self.new ≡ kept self.old }
         ensures answers { StillAnswers answers_for self.old self.new };
 
-    /// The lowest key in the index of that name that is at `from` or after it, or strictly after
-    /// it. Keys are ordered by their bytes, and `from` may be any bytes. None if there is no index.
+    /// Returns the first key at or after `from` in the index of that name, or strictly after `from`
+    /// if `after` is `true`. Keys are ordered bytewise, and `from` may be any bytes. Returns `None`
+    /// if there is no such key or no index.
     fn next_key(&mut self, name: &Name, from: &[u8], after: bool) -> Option<ArrayVec<u8, 264>>
         requires { (volume : State) × answers_for self.old volume }
         ensures answer { (volume : State) → answers_for self.old volume →
@@ -63,8 +65,8 @@ pub trait Source {
         ensures stays { kept self.new ≡ kept self.old }
         ensures answers { StillAnswers answers_for self.old self.new };
 
-    /// Adds the node of each of these keys, preferably in the order of the keys. It adds none if
-    /// there is no index.
+    /// Adds the node of each key in the range, preferably in key order. Adds nothing if there is no
+    /// index.
     fn nodes_within(&mut self, keys: KeyRange<'_>, found: &mut Vec<u64>) -> Result<(), Refusal>
         requires { (volume : State) × answers_for self.old volume }
         ensures memory { IfErr result (λ e. e ≡ OutOfMemory) }
@@ -78,9 +80,9 @@ pub trait Source {
         ensures stays { kept self.new ≡ kept self.old }
         ensures answers { StillAnswers answers_for self.old self.new };
 
-    /// Adds the nodes of those keys whose text satisfies the comparison, and returns true. It does
-    /// so only if the source tests texts in place and the index is one of texts. Otherwise it adds
-    /// nothing and returns false, and the caller has to go from key to key.
+    /// Adds the nodes of those keys whose string satisfies the comparison, and returns `true`. It
+    /// does so only if the source tests strings in place and the index holds strings. Otherwise it
+    /// adds nothing and returns `false`, and the caller has to step from key to key.
     fn nodes_passing(
         &mut self,
         keys: KeyRange<'_>,
@@ -107,7 +109,7 @@ pub trait Source {
         Ok(false)
     }
 
-    /// Whether the index of that name has the key; false if there is no index.
+    /// Returns `true` if the index of that name contains the key, and `false` if there is no index.
     fn has_key(&mut self, name: &Name, key: &[u8]) -> bool
         requires { (volume : State) × answers_for self.old volume }
         ensures found { (volume : State) → answers_for self.old volume → result ≡ true
@@ -117,7 +119,7 @@ pub trait Source {
         ensures stays { kept self.new ≡ kept self.old }
         ensures answers { StillAnswers answers_for self.old self.new };
 
-    /// The node's attribute of that name, whether or not an index has it.
+    /// Returns the node's attribute of that name, whether or not it is in an index.
     fn value(&mut self, node: u64, name: &Name) -> Option<Value>
         requires { (volume : State) × answers_for self.old volume }
         ensures answer { (volume : State) → answers_for self.old volume → result
@@ -125,11 +127,11 @@ pub trait Source {
         ensures stays { kept self.new ≡ kept self.old }
         ensures answers { StillAnswers answers_for self.old self.new };
 
-    /// Whether the comparison is true of what it sees of the node. Each pair of an index is its
-    /// node's attribute. So the index of the comparison's name has either the node's attribute or
-    /// nothing of the node. Whether it has the attribute's key shows which. Without an index the
-    /// comparison sees the attribute. A source that can compare a value in place has its own body,
-    /// which copies no value.
+    /// Returns `true` if the comparison is true of the value that it sees for the node. Without an
+    /// index of the comparison's name, it sees the attribute. An index contains either the node's
+    /// attribute or no value for the node, so looking up the attribute's key determines what the
+    /// comparison sees. A source that can compare values in place overrides this method to avoid
+    /// copying the value.
     fn holds(&mut self, node: u64, comparison: &Comparison) -> bool
         requires { (volume : State) × answers_for self.old volume }
         ensures answer { (volume : State) → answers_for self.old volume →
@@ -151,8 +153,9 @@ pub trait Source {
         value.kind().indexable() && self.has_key(name, key_of(&value, node).as_slice())
     }
 
-    /// Does what `holds` does, for a comparison that the caller uses on many nodes and has prepared
-    /// for texts. A source that compares texts in place then decodes none. Others call `holds`.
+    /// Does what `holds` does, for a comparison that the caller applies to many nodes and has
+    /// prepared as `test`. A source that compares strings in place then doesn't have to decode
+    /// them. The default implementation calls `holds`.
     fn holds_tested(&mut self, node: u64, comparison: &Comparison, test: &TextTest<'_>) -> bool
         requires source { (volume : State) × answers_for self.old volume }
         requires test { test.now ≡ (comparison.now.op, literal comparison.now.literal) }
@@ -165,9 +168,10 @@ pub trait Source {
         self.holds(node, comparison)
     }
 
-    /// About how many keys the index of that name has. It only decides how a query is answered, so
-    /// any number is correct, also if there is no index. A source without its own body returns the
-    /// largest number. That index is then never walked for what another walk leaves to ask.
+    /// Returns the approximate number of keys in the index of that name. It affects only the choice
+    /// of plan, so any number is correct, even if there is no index. The default implementation
+    /// returns the highest number, so an index is then never walked to test what another walk
+    /// leaves.
     fn estimate(&mut self, _name: &Name) -> u64
         requires { (volume : State) × answers_for self.old volume }
         ensures stays { kept self.new ≡ kept self.old }
@@ -176,6 +180,7 @@ pub trait Source {
         u64::MAX
     }
 
-    // A law: each pair of an index of the volume is its node's attribute and has the index's kind.
+    // A law: each pair in an index of the volume is an attribute of its node and has the index's
+    // kind.
     ghost sound: { (source : Self) (volume : State) → answers_for source volume → IsSound volume };
 }

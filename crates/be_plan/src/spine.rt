@@ -1,10 +1,11 @@
 //! The parts of a query that are only under `||`.
 //!
-//! The other side of an `||` says nothing about a pick, so a walk for the pick looks only at its
-//! own part. A query of many parts leans to the left: its last part is the right side of its top
-//! `||`, and the left side begins with the same comparison as the query. So if the picks are taken
-//! from the last to the first, each search continues from where the one before ended. All of them
-//! together pass each `||` once.
+//! A part is only under `||` if every operator above it is an `||`. The other side of an `||` says
+//! nothing about a pick, so the walk for a pick considers only the part that contains it. A query
+//! with many parts leans to the left: its last part is the right side of the top `||`, and the left
+//! side begins with the first comparison of the query. So if the picks are taken from the last to
+//! the first, each search continues where the previous one ended, and all searches together visit
+//! each `||` once.
 ghost use Rattle.std.specs.Prelude.{◌≡◌, ◌≤◌, ◌<◌, ◌+◌};
 ghost use Rattle.be_query.specs.Grammar.{Formula, comparisons};
 ghost use Rattle.be_query.specs.View.{formula};
@@ -13,9 +14,9 @@ ghost use Rattle.be_plan.specs.Spine.{IsFrontOf, IsUnderOr, LiesIn};
 use crate::choosing::count;
 use be_query::Tree;
 
-/// A part of a query that begins with the query's first comparison, and how many comparisons it
-/// has. Also its last side, which begins at the place `from`: the right side of an `||`; otherwise
-/// the part itself.
+/// A part of a query that begins with the query's first comparison, and the number of comparisons
+/// in it. Its last side, which begins at position `from`, is the right side if the part is an `||`,
+/// and otherwise the part itself.
 #[derive(Clone, Copy)]
 pub(crate) struct Front<'a> {
     pub(crate) tree: &'a Tree,
@@ -24,7 +25,7 @@ pub(crate) struct Front<'a> {
     pub(crate) from: usize,
 }
 
-/// The whole query, as the first front to search.
+/// Returns the front that is the whole query, where the search starts.
 pub(crate) fn whole_front(tree: &Tree) -> Front<'_>
     requires { comparisons (formula tree.now) ≤ 256 }
     ensures { IsFrontOf (formula tree.now) (formula result.tree.now) result.end }
@@ -37,8 +38,8 @@ pub(crate) fn whole_front(tree: &Tree) -> Front<'_>
     }
 }
 
-/// Cuts off a front's last sides that begin after the pick, so that the pick is in the last side.
-/// The front has `end` comparisons.
+/// Removes the last sides of a front that begin after the pick, so that the last remaining side
+/// contains the pick. The front has `end` comparisons.
 fn cut_after(tree: &Tree, end: usize, pick: usize) -> Front<'_>
     requires end { end ≡ comparisons (formula tree.now) }
     requires few { end ≤ 256 }
@@ -73,8 +74,8 @@ fn cut_after(tree: &Tree, end: usize, pick: usize) -> Front<'_>
     }
 }
 
-/// The front whose last side contains the pick. It is searched for in the previous front, or in the
-/// whole query if the pick is beyond that.
+/// Returns the front whose last side contains the pick. The search starts from the previous front,
+/// or from the whole query if the pick is beyond that front.
 pub(crate) fn front_for<'a>(whole: &'a Tree, before: &Front<'a>, pick: usize) -> Front<'a>
     requires front { IsFrontOf (formula whole.now) (formula before.now.tree.now) before.now.end }
     requires whole { comparisons (formula whole.now) ≤ 256 }

@@ -1,8 +1,8 @@
-//! Comparisons that are used on many texts.
+//! Comparisons that are applied to many strings.
 //!
-//! A walk over an index of texts tests each key against one comparison. So its pattern is compiled
-//! once, and then matched against the keys' bytes: no text is copied out of a key, and none is
-//! decoded.
+//! A walk over an index of strings tests each key against one comparison. The pattern is therefore
+//! compiled once and then matched against the bytes of the keys. No string is decoded or copied out
+//! of a key.
 ghost use Rattle.std.specs.Prelude.{◌≡◌, IsUtf8, IfOk, IfErr};
 ghost use Rattle.be_value.specs.declared.refusals.Refusal.TheVariants.{OutOfMemory};
 ghost use Rattle.be_query.specs.View.{literal};
@@ -16,14 +16,14 @@ use be_volume::is_true_of;
 use std::alloc::Global;
 use std::marker::Model;
 
-/// What texts are compared with.
+/// The literal that strings are compared with.
 #[derive(Drop)]
 enum Compared<'q> {
     Words(&'q str),
     Pattern(BytePattern<'q>),
 }
 
-/// A comparison that is prepared for texts. A contract sees its operator and its literal.
+/// A comparison prepared for strings. Contracts view it as its operator and its literal.
 #[derive(Drop)]
 pub struct TextTest<'q> {
     op: Cmp,
@@ -41,7 +41,7 @@ impl<'q> Model for TextTest<'q> {
 }
 
 impl<'q> TextTest<'q> {
-    /// Prepares a comparison. Memory is allocated only for a pattern.
+    /// Prepares a comparison. Allocates memory only for a pattern.
     pub fn new(alloc: Global, comparison: &'q Comparison) -> Result<TextTest<'q>, Refusal>
         ensures ok { IfOk result (λ test. test
             ≡ (comparison.now.op, literal comparison.now.literal)) }
@@ -57,7 +57,7 @@ impl<'q> TextTest<'q> {
         })
     }
 
-    /// Whether the comparison is true of a text, given its bytes.
+    /// Returns `true` if the comparison is true of the string with these bytes.
     pub fn passes(&self, text: &[u8]) -> bool
         ensures { IsUtf8 text.now → result ≡ holds_of_text self.now.0 text.now self.now.1 }
     {
@@ -71,8 +71,8 @@ impl<'q> TextTest<'q> {
     }
 }
 
-/// The text in a key of an index of texts: what comes before a zero byte and the eight bytes of the
-/// node.
+/// Returns the string in a key of an index of strings: everything before the zero byte and the
+/// eight bytes of the node.
 pub fn text_of(key: &[u8]) -> &[u8]
     ensures { result.now ≡ text_in key.now }
 {

@@ -1,13 +1,14 @@
 //! Walks over indices.
 //!
-//! A walk collects the nodes of the keys in a range that match the query. If the range decides the
-//! query, all of them are answers, and the source returns them in one call. If only one comparison
-//! with a text is left, the source is asked for the nodes that satisfy it.
+//! A walk visits the keys in a range and collects those of their nodes that match the query. If the
+//! range decides the query, every node in it is an answer, and the source returns the nodes in one
+//! call. If a single comparison with a string remains, the source is asked for the nodes that
+//! satisfy it.
 //!
-//! In other cases, or if the source doesn't test texts, the walk goes from key to key with
-//! `next_key`: from the range's low end to the first key above its high end. It tests each node
-//! against the query, and gets one key more than it passes. A walk that leaves only other names to
-//! ask is in `sifting`.
+//! Otherwise, or if the source doesn't test strings, the walk steps from key to key with
+//! `next_key`, from the low end of the range to the first key above its high end, and tests each
+//! node against the query. It reads one key more than it tests. For walks that leave only
+//! comparisons on other names, see `sifting`.
 ghost use Rattle.std.specs.Prelude.{◌≡◌, ◌⊎◌, ◌<◌, ◌^◌, ℕ, true, Some, OnOk, IfErr, IfSome};
 ghost use Rattle.std.specs.Option.{option_copied, option_map};
 ghost use Rattle.std.specs.List.{Contains};
@@ -35,19 +36,18 @@ use be_query::{Comparison, Tree};
 use be_value::{Kind, Name, Refusal, node_of, read_key};
 use std::alloc::Global;
 
-/// A list has room for this many nodes from the start, so it doesn't grow for a hundred hits. Its
-/// 1,024 bytes are the most that an allocator returns as fast as a few bytes.
+/// The initial capacity of a list of nodes, so that a hundred results don't make it grow. An
+/// allocator returns these 1,024 bytes as fast as a few bytes; more would take longer.
 pub(crate) const ROOM: usize = 128;
 
-/// The index of a name, and its kind.
+/// The index of a name, and the kind of the index.
 #[derive(Clone, Copy)]
 pub(crate) struct Index<'a> {
     pub(crate) name: &'a Name,
     pub(crate) kind: Kind,
 }
 
-/// The keys of an index from one end of a range to the other, and the query that their nodes are
-/// tested against.
+/// The keys of an index in a range, and the query that their nodes are tested against.
 #[derive(Clone, Copy)]
 pub(crate) struct Walk<'a> {
     pub(crate) tree: &'a Tree,
@@ -55,7 +55,7 @@ pub(crate) struct Walk<'a> {
     pub(crate) range: &'a Range,
 }
 
-/// Adds the node of a key of the index if it satisfies the tree.
+/// Adds the node of an index key if the node satisfies the tree.
 fn visit<S: Source>(
     source: &mut S,
     tree: &Tree,
@@ -82,7 +82,7 @@ fn visit<S: Source>(
     Ok(())
 }
 
-/// Adds the nodes of a walk's keys that satisfy its tree, from key to key.
+/// Adds the nodes of a walk's keys that satisfy its tree, stepping from key to key.
 fn visit_all<S: Source>(source: &mut S, walk: Walk<'_>, found: &mut Vec<u64>) -> Result<(), Refusal>
     ghost volume: { State }
     requires answers { S.answers_for source.old volume }
@@ -107,7 +107,7 @@ fn visit_all<S: Source>(source: &mut S, walk: Walk<'_>, found: &mut Vec<u64>) ->
     Ok(())
 }
 
-/// Adds the node of a key of an index of texts if the comparison is true of its text.
+/// Adds the node of a key in an index of strings if the comparison is true of the key's string.
 fn visit_text(
     test: &TextTest<'_>,
     name: &Name,
@@ -132,7 +132,8 @@ fn visit_text(
     Ok(())
 }
 
-/// Adds the nodes of those keys in the range whose texts satisfy the comparison, from key to key.
+/// Adds the nodes of those keys in the range whose strings satisfy the comparison, stepping from
+/// key to key.
 fn visit_texts<S: Source>(
     source: &mut S,
     test: &TextTest<'_>,
@@ -165,8 +166,8 @@ fn visit_texts<S: Source>(
     Ok(())
 }
 
-/// Adds the nodes of those keys in the range whose texts satisfy the comparison. This takes one
-/// call if the source tests texts in place, and otherwise goes from key to key.
+/// Adds the nodes of those keys in the range whose strings satisfy the comparison. This takes one
+/// call if the source tests strings in place; otherwise it steps from key to key.
 fn test_texts<S: Source>(
     source: &mut S,
     test: &TextTest<'_>,
@@ -199,7 +200,7 @@ fn test_texts<S: Source>(
     visit_texts(source, test, name, range, found)
 }
 
-/// The comparison that is left to ask about the index's texts, if nothing else is left.
+/// Returns the remaining condition if it is a single comparison with the strings of this index.
 pub fn asked_of_texts<'t>(rest: &'t Tree, name: &Name, kind: Kind) -> Option<&'t Comparison>
     ensures leaf { IfSome (option_copied result)
         (λ c. formula rest.now ≡ Leaf name.now c.op (literal c.literal)) }
@@ -217,9 +218,9 @@ pub fn asked_of_texts<'t>(rest: &'t Tree, name: &Name, kind: Kind) -> Option<&'t
     }
 }
 
-/// Adds the nodes of a walk's keys that satisfy its tree, given that this part is left to ask about
-/// them. The keys' content is enough for that. It is a separate function so that a walk whose range
-/// decides the tree needs no room for keys.
+/// Adds the nodes of a walk's keys that satisfy its tree, given the condition that remains to be
+/// tested on them. The content of the keys is sufficient for the test. This is a separate function
+/// so that a walk whose range decides the tree needs no stack space for keys.
 #[inline(never)]
 fn pass_keys<S: Source>(
     alloc: Global,
@@ -249,8 +250,8 @@ fn pass_keys<S: Source>(
     visit_all(source, walk, found)
 }
 
-/// Adds the nodes of a walk's keys that satisfy its tree, given what is left to ask about them:
-/// nothing if the range decides the tree. What is left is tested from key to key.
+/// Adds the nodes of a walk's keys that satisfy its tree, given the condition that remains to be
+/// tested on them, or `None` if the range decides the tree. The condition is tested key by key.
 #[inline]
 pub(crate) fn walk_alone<S: Source>(
     alloc: Global,

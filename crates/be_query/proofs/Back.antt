@@ -1,4 +1,4 @@
--- A canonical text has no error except a limit that it exceeds.
+-- A canonical text has no error other than exceeding a limit.
 use Rattle.std.proofs.Common.{◌≡◌, ℕ, ◌+◌, ◌-◌, ◌<◌, ◌≤◌, ◌⊎◌, inl, inr, zero, suc, max, true, false, Some, None, List, [], ◌∷◌, ◌++◌, length, refl, sym, ap, ◌∙◌, cond, arith, append_assoc, append-nil}
 use Rattle.std.specs.Prelude.{nat_le, nat_lt}
 use Rattle.std.proofs.Math.Logic.{⊎_elim}
@@ -33,7 +33,7 @@ unfolding parens
 length_parens zero = refl
 length_parens (suc d) = ap suc (length_parens d)
 
--- the first of several whole lexemes
+-- The first of several whole lexemes.
 first_whole : (xs : List Placed) (t : Token) (ts : List Token) → all_whole xs ≡ true → whole xs ≡ t ∷ ts
     → (x : Placed) × (ys : List Placed) × (xs ≡ x ∷ ys) × (x.lexeme ≡ Whole t) × (all_whole ys ≡ true) × (whole ys ≡ ts)
 first_whole [] t ts a e = cc
@@ -57,8 +57,9 @@ none_left (x ∷ ys) a e = go x.lexeme refl
     go (Broken n) k = absurd (false≢true (sym (ap (λ l. elim l [ Whole t ↦ all_whole ys | Broken n ↦ false | Odd ↦ false ]) k) ∙ a))
     go Odd k = absurd (false≢true (sym (ap (λ l. elim l [ Whole t ↦ all_whole ys | Broken n ↦ false | Odd ↦ false ]) k) ∙ a))
 
--- After d parentheses and n comparisons, the tokens of an operand are read to its end, and m comparisons have then been read.
--- This holds if at most 64 parentheses are ever open; otherwise the error is that they are more.
+-- After d open parentheses and n comparisons, the tokens of an operand are read to its end, at
+-- which point m comparisons have been read. This holds if at most 64 parentheses are open at any
+-- time. Otherwise the error is that there are more.
 Reads : ℕ → ℕ → ℕ → List Token → ℕ → Type 0
 Reads d n deepest ts m = (len : ℕ) (xs : List Placed) (more : List Token) → d ≤ 64 → all_whole xs ≡ true → whole xs ≡ ts ++ more
     → ((first_fault Operand (parens d) n len xs ≡ Some TooDeep) × (64 < deepest))
@@ -79,7 +80,7 @@ leaf_reads name op v d n h few len xs more o al e =
     let valued = ap (first_fault (Value op) (parens d) n len) c.2 ∙ goes_on (Value op) (parens d) n len c.0 (Text (literal_text v)) c.1 (Joint, ended (parens d)) c.3 refl (good_value op (literal_text v) (Text (literal_text v)) (parens d) n c.0.start refl (good_literal op v h.1) few) in
     inr (c.1, c.4, c.5, named ∙ signed ∙ valued ∙ ap (λ l. first_fault Joint l (n + 1) len c.1) (ended_parens d), omega arith)
 
--- an operand, then `&&` or `||`, then another operand
+-- An operand, followed by `&&` or `||` and another operand.
 joined_reads : (j : Token) (ts us : List Token) (d n a b x y : ℕ) → next Joint (parens d) j ≡ Some (Operand, parens d) → ((start : ℕ) → own_fault Joint (parens d) (n + x) start j ≡ None)
     → Reads d n (d + a) ts (n + x) → Reads d (n + x) (d + b) us (n + x + y) → Reads d n (d + max a b) (ts ++ j ∷ us) (n + (x + y))
 unfolding Reads
@@ -98,7 +99,7 @@ joined_reads j ts us d n a b x y k own h g len xs more o al e = ⊎_elim
     (g len v.1 more o v.4 v.5))
     (h len xs (j ∷ us ++ more) o al (e ∙ append_assoc ts (j ∷ us) more))
 
--- an operand in parentheses
+-- An operand in parentheses.
 grouped_reads : (ts : List Token) (d n a m : ℕ) → Reads (suc d) n (suc d + a) ts m → Reads d n (d + (1 + a)) (Open ∷ (ts ++ Close ∷ [])) m
 unfolding Reads parens
 grouped_reads ts d n a m h len xs more o al e =
@@ -164,6 +165,6 @@ at_depth t len h k =
     (λ w. w.3 ∙ ap (first_fault Joint [] (0 + comparisons t) len) (none_left w.0 w.1 w.2) ∙ sym (cond-false _ _ _ (le-ltb 64 (or_depth t) (omega (arith, w.4)))))
     (or_reads t 0 0 h (omega (arith, k)) len (lexemes 0 0 (or_text t)) [] (omega arith) (text_whole t q) (text_lexes t q ∙ sym (append-nil (or_printed t))))
 
--- the text's error is the limit that it exceeds
+-- The error of the text is the limit that it exceeds.
 pub only_limits : (t : Formula) → IsKept t → comparisons t ≤ 256 → fault (or_text t) ≡ limit_of t
 only_limits t h k = ap (λ f. cond (nat_lt 4096 (length (or_text t))) (Some TooLong) f) (at_depth t (length (or_text t)) h k)

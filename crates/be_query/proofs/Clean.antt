@@ -1,4 +1,4 @@
--- No name or value in a text has a NUL.
+-- No name or value in a text contains a NUL.
 use Rattle.std.proofs.Common.{◌≡◌, ℕ, ◌+◌, Bool, true, false, suc, List, [], ◌∷◌, take, ◌||◌, refl, sym, ap, ◌∙◌, subst, arith}
 use Rattle.std.specs.Prelude.{not}
 use Rattle.std.specs.Bool.{◌==◌}

@@ -1,4 +1,4 @@
--- Backslashes are put before characters.
+-- Backslashes are inserted before characters.
 use Rattle.std.proofs.Common.{◌≡◌, ℕ, ◌<◌, true, false, suc, List, [], ◌∷◌, ◌++◌, length, get_or, refl, sym, ap, ◌∙◌, arith, append_assoc}
 use Rattle.std.specs.Prelude.{encode_utf8, codes}
 use Rattle.std.proofs.Math.Logic.{⊎_elim}

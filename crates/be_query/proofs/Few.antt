@@ -1,4 +1,4 @@
--- How many comparisons a tree has that was read from a text or built from items.
+-- The number of comparisons in a tree that was read from a text or built from items.
 use Rattle.std.proofs.Common.{◌≡◌, ℕ, ◌+◌, ◌<◌, ◌≤◌, Bool, true, false, Option, Some, None, Result, Ok, Err, List, [], ◌∷◌, length, refl, sym, ap, ◌∙◌, subst, arith, cond}
 use Rattle.std.specs.Prelude.{nat_le, nat_lt}
 use Rattle.std.proofs.lemmas.Bool.{leb-false, ltb-false, cond_both}
@@ -27,7 +27,7 @@ turned_same : (b : Bool) (t : Formula) → comparisons (turned b t) ≡ comparis
 turned_same false t = refl
 turned_same true t = complement_same t
 
--- how many comparisons are in a side, in a level, in all levels and in a stage
+-- The number of comparisons in a side, in a level, in all levels and in a stage.
 in_side : Option Formula → ℕ
 in_side None = 0
 in_side (Some t) = comparisons t
@@ -48,7 +48,7 @@ in_stage (Joints t) = comparisons t
 in_state : Stage → Level → List Level → ℕ
 in_state stage level outer = in_stage stage + (in_level level + in_levels outer)
 
--- how many comparisons the next token completes: one or none
+-- The number of comparisons that the next token completes: one or none.
 ends_one : Stage → ℕ
 ends_one Operands = 0
 ends_one (Operators n) = 0
@@ -118,7 +118,7 @@ build_holds (Joints t) level outer Either = let a = joined_or level.negated leve
 build_holds (Joints t) level outer (Compares op) = tt
 build_holds (Joints t) level outer (Text raw) = tt
 
--- a value without an error is at most the 256th
+-- A value without an error is at most the 256th.
 value_few : (n start : ℕ) (o : Option ℕ) → value_fault n start o ≡ None → n < 256
 value_few n start (Some at) h = cc
 value_few n start None h = go (nat_le 256 n) refl h
@@ -205,7 +205,7 @@ fault_short text h = go (nat_lt 4096 (length text)) refl h
     go true e k = absurd (let no : Some TooLong ≡ None = k in cc)
     go false e k = ltb-false 4096 (length text) e
 
--- If there is no error, each lexeme is a token.
+-- If there is no error, every lexeme is a token.
 Unbroken : ℕ → List Placed → Type 0
 Unbroken len xs = (place : Awaited) (marks : List Mark) (n : ℕ) → first_fault place marks n len xs ≡ None → all_whole xs ≡ true
 
@@ -236,7 +236,7 @@ pub whole_text : (text : List ℕ) → fault text ≡ None → all_whole (lexeme
 unfolding Unbroken
 whole_text text f = unbroken (length text) (lexemes 0 0 text) Operand [] 0 (sym (fault_within text (fault_short text f)) ∙ f)
 
--- the tree of a text without an error has at most 256 comparisons
+-- The tree of a text without an error has at most 256 comparisons.
 pub few_parsed : (text : List ℕ) (t : Formula) → fault text ≡ None → ParsesTo (tokens text) t → comparisons t ≤ 256
 unfolding Few in_state in_stage in_level in_levels in_side
 few_parsed text t f (o, same, tree) =
@@ -244,7 +244,7 @@ few_parsed text t f (o, same, tree) =
     let built = ap (λ l. tree_of (build_from (Some nothing_built) l)) (sym same) ∙ tree_built o ∙ ap Some tree in
     read_few (lexemes 0 0 text) nothing_built 0 (length text) t tt first (omega arith) (omega arith) built
 
--- The same for items.
+-- The number of comparisons in things on the stack.
 
 on_stack : List rpn.Thing → ℕ
 on_stack [] = 0
@@ -363,7 +363,7 @@ from_few at (Err x) items t h e = cc
 from_few at (Ok s) [] t h e = let a = one_few at s.0 s.1 t e h.0 in let b = h.1 in omega arith
 from_few at (Ok s) (i ∷ items) t h e = from_few (at + 1) (rpn.shallow (rpn.work at s.0 s.1 i)) items t (shallow_is_few _ (work_is_few at s.0 s.1 i h.0 h.1)) e
 
--- a tree built from items has at most 256 comparisons
+-- A tree built from items has at most 256 comparisons.
 pub few_built : (items : List rpn.Item) (t : Formula) → rpn.rpn items ≡ Ok t → comparisons t ≤ 256
 unfolding IsFew on_stack
 few_built items t e = from_few 0 (Ok (0, [])) items t (omega arith, omega arith) e

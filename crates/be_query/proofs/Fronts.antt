@@ -1,4 +1,4 @@
--- What is at the front of a text.
+-- What a text begins with.
 use Rattle.std.proofs.Common.{◌≡◌, ℕ, ◌+◌, ◌-◌, ◌<◌, ◌≤◌, Bool, true, false, zero, suc, Option, List, [], ◌∷◌, length, take, drop, get_or, ◌||◌, refl, sym, ap, ◌∙◌, subst, arith, cond, not}
 use Rattle.std.specs.Bool.{◌==◌}
 use Rattle.std.proofs.lemmas.Bool.{true≢false, cond-true, cond-false, cond_both, or_cases, or_parts, eqb-true}
@@ -25,7 +25,7 @@ separator_ascii b h = ⊎_elim (λ k. ⊎_elim (λ l. ⊎_elim (is_at b 32 (omeg
 pub quote_ascii : (b : ℕ) → is_quote b ≡ true → b < 128
 quote_ascii b h = ⊎_elim (is_at b 34 (omega arith)) (is_at b 39 (omega arith)) (or_cases _ _ h)
 
--- a quoted text ends at its quote
+-- A quoted string ends at its closing quote.
 abbrev pub IsQuotedSpan : ℕ → List ℕ → Span → Type 0
 IsQuotedSpan q bs (Ends n) = (n < length bs) × (get_or bs n 0 ≡ q)
 IsQuotedSpan q bs (Breaks n) = n ≤ length bs
@@ -43,7 +43,7 @@ quoted_within q false (b ∷ bs) =
     (λ e. cond_both (b == 0) _ _ (IsQuotedSpan q (b ∷ bs)) (λ k. omega arith)
     (λ k. cond_both (b == 92) _ _ (IsQuotedSpan q (b ∷ bs)) (λ l. further_quoted q b bs _ (quoted_within q true bs)) (λ l. further_quoted q b bs _ (quoted_within q false bs))))
 
--- a word ends at the text's end or before an ASCII character
+-- A word ends at the end of the text or before an ASCII character.
 abbrev pub IsWordSpan : List ℕ → Span → Type 0
 IsWordSpan bs (Ends n) = (n ≤ length bs) × (n < length bs → get_or bs n 0 < 128)
 IsWordSpan bs (Breaks n) = n ≤ length bs
@@ -107,7 +107,7 @@ pick false false false false false false false true a0 x1 x2 x3 x4 x5 x6 x7 x8 x
 pick false false false false false false false false true x1 x2 x3 x4 x5 x6 x7 x8 x9 z w h = refl
 pick false false false false false false false false false x1 x2 x3 x4 x5 x6 x7 x8 x9 z w h = absurd (true≢false (sym h))
 
--- what a sign is depends only on the byte after it
+-- The meaning of a sign depends only on the byte after it.
 pub front_sign : (b : ℕ) (bs : List ℕ) → is_separator b ≡ false → is_quote b ≡ false → (is_sign b || (b == 0)) ≡ true → front b bs ≡ front b (take 1 bs)
 front_sign b [] h q s = refl
 front_sign b (c ∷ cs) h q s =
@@ -220,7 +220,7 @@ take_one_le : (xs : List ℕ) → length (take 1 xs) ≤ length xs
 take_one_le [] = omega arith
 take_one_le (x ∷ xs) = omega arith
 
--- where a sign ends
+-- Where a sign ends.
 pub sign_boundary : (text : List ℕ) (first width : ℕ) (second : Option ℕ) → IsUtf8 text → 0 < length text → get_or text 0 0 ≡ first → second ≡ slice_get text 1 → 1 ≤ width → width ≤ 1 + length (second_of second) → get_or (first ∷ second_of second) (width - 1) 0 < 128 → (width ≤ length text) × IsCharBoundary text width
 sign_boundary text first width second u l f s p w a =
     let two : second_of second ≡ take 1 (drop 1 text) = ap second_of s ∙ second_byte text in

@@ -1,4 +1,4 @@
--- Printing keeps whatever was read from clean tokens.
+-- Printing preserves whatever was read from clean tokens.
 use Rattle.std.proofs.Common.{◌≡◌, ℕ, Bool, true, false, Option, Some, None, Result, Ok, Err, List, [], ◌∷◌, ◌&&◌, refl, sym, ap, ◌∙◌, subst, cond, arith}
 use Rattle.std.specs.Prelude.{not, encode_utf8, encode_utf8_all, IsUtf8}
 use Rattle.std.specs.List.{list_all}
@@ -25,7 +25,7 @@ use Rattle.be_query.specs.View.{IsClean}
 use Rattle.be_query.proofs.Names.{own_name}
 use Rattle.be_query.proofs.Kept.{nul_parts}
 
--- Texts without a NUL.
+-- Strings without a NUL.
 
 abbrev pub some : ℕ → Bool
 some c = not (c == 0)
@@ -56,7 +56,7 @@ pub scalars_all : (cs : List ℕ) → all_scalars cs ≡ list_all scalar cs
 scalars_all [] = refl
 scalars_all (c ∷ cs) = ap (λ b. scalar c && b) (scalars_all cs)
 
--- a pattern's tokens are kept if its characters are scalars
+-- The tokens of a pattern are preserved if its characters are scalar values.
 pub parts_kept : (ps : List Part) → pattern (canonical ps) ≡ Ok ps → list_all (has_only some) ps ≡ true → list_all (has_only scalar) ps ≡ true
     → (pattern (canonical ps) ≡ Ok ps) × (has_nul (canonical ps) ≡ false) × (all_scalars (canonical ps) ≡ true)
 parts_kept ps r n s = (r, none_nul (canonical ps) (canonical_on some ps refl n), scalars_all (canonical ps) ∙ canonical_on scalar ps refl s)
@@ -75,7 +75,7 @@ wild_kept : (op : Cmp) (cs : List ℕ) (r : Result (List Part) ℕ) → takes_pa
 wild_kept op cs (Ok ps) t e n s = let k = parts_kept ps (canonical_back cs ps e) (pattern_on some cs ps e n) (pattern_on scalar cs ps e s) in (t, k.0, k.1, k.2)
 wild_kept op cs (Err at) t e n s = (t, refl, refl, refl)
 
--- the value that clean bytes encode is kept
+-- The value that clean bytes encode is preserved.
 pub literal_kept : (op : Cmp) (raw : List ℕ) → has_nul raw ≡ false → IsUtf8 raw → IsKeptBy op (literal_of op raw)
 literal_kept op raw h u = go op
   where
@@ -116,7 +116,7 @@ turned_kept : (b : Bool) (t : Formula) → IsKept t → IsKept (turned b t)
 turned_kept false t h = h
 turned_kept true t h = complement_kept t h
 
--- While a text is read.
+-- While a text is being read.
 
 abbrev pub SideKept : Option Formula → Type 0
 SideKept None = Unit {0}
@@ -135,7 +135,7 @@ StageKept (Operators n) = name_from n ≡ Ok n
 StageKept (Values n op) = name_from n ≡ Ok n
 StageKept (Joints t) = IsKept t
 
--- everything built so far is kept
+-- Everything that has been built is preserved by printing.
 abbrev pub StateKept : State → Type 0
 StateKept s = StageKept s.stage × LevelKept s.level × LevelsKept s.outer
 
@@ -163,7 +163,7 @@ closed_kept t (l ∷ ls) h o = operand_kept t l ls h o.0 o.1
 named_kept : (raw : List ℕ) (level : Level) (outer : List Level) → LevelKept level → LevelsKept outer → IfKept (cond (is_name raw) (Some (record { stage = Operators (plain raw); level = level; outer = outer })) None)
 named_kept raw level outer k o = cond_both (is_name raw) (Some (record { stage = Operators (plain raw); level = level; outer = outer })) None IfKept (λ e. (own_name (plain raw) e, k, o)) (λ e. tt)
 
--- one clean token preserves this
+-- Building with a clean token adds only what printing preserves.
 pub build_kept : (stage : Stage) (level : Level) (outer : List Level) (t : Token) → StageKept stage → LevelKept level → LevelsKept outer → IsClean t → IfKept (build_at stage level outer t)
 build_kept Operands level outer Open s k o c = (tt, (tt, tt), (k, o))
 build_kept Operands level outer Close s k o c = tt
@@ -197,7 +197,7 @@ build_kept (Joints t) level outer (Text raw) s k o c = tt
 pub step_kept : (s p : State) (t : Token) → StateKept s → IsClean t → build_at s.stage s.level s.outer t ≡ Some p → StateKept p
 step_kept s p t h c e = subst IfKept e (build_kept s.stage s.level s.outer t h.0 h.1 h.2 c)
 
--- at the end the tree is kept
+-- At the end, the tree is preserved.
 pub end_kept : (s : State) (t : Formula) → StateKept s → tree_at s.stage s.level s.outer ≡ Some t → IsKept t
 end_kept s t h e = subst SideKept e (go s.stage s.outer h.0)
   where

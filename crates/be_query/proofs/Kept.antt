@@ -73,7 +73,7 @@ taken_char c bs h =
     let some : 0 < length (encode_utf8 c) = omega (arith, length-encode c, (len_utf8_bounds c).0) in
     span_taken (encode_utf8 c) bs some (first_nonzero c h some) (λ k l. later_bare c k l)
 
--- the characters are skipped whole
+-- The characters are skipped as a whole.
 Passes : List ℕ → Type 0
 Passes cs = (bs : List ℕ) → quoted_span 34 false (encode_utf8_all cs ++ bs) ≡ shifted (length (encode_utf8_all cs)) (quoted_span 34 false bs)
 
@@ -162,7 +162,7 @@ pub canonical_whole : (ps : List Part) → has_nul (canonical ps) ≡ false → 
 unfolding Passes
 canonical_whole ps z rest = canonical_passes ps z (34 ∷ rest) ∙ ap Ends (omega arith)
 
--- What printing keeps.
+-- What printing preserves.
 
 pub kept_name : (n : List ℕ) → name_from n ≡ Ok n → is_name (with_backslashes n) ≡ true
 kept_name n h = ap (λ x. is_ok (name_from x)) (plain-escaped n) ∙ ap is_ok h
@@ -200,10 +200,10 @@ kept_quotable (Leaf n op v) h = (escaped_whole n (no_nul n h.0), (kept_literal o
 kept_quotable (And l r) h = (kept_quotable l h.0, kept_quotable r h.1)
 kept_quotable (Or l r) h = (kept_quotable l h.0, kept_quotable r h.1)
 
--- the canonical text of a kept tree encodes it
+-- If printing preserves a tree, the canonical text of the tree encodes it.
 pub kept_parses : (t : Formula) → IsKept t → IsTextOf (or_text t) t
 kept_parses t h = (text_whole t (kept_quotable t h), text_parses t (kept_quotable t h) (kept_printable t h))
 
--- a text encodes at most one tree
+-- A text encodes at most one tree.
 pub one_text : (text : List ℕ) (s t : Formula) → IsTextOf text s → IsTextOf text t → s ≡ t
 one_text text s t h k = one_tree (tokens text) s t h.1 k.1

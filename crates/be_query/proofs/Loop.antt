@@ -46,7 +46,7 @@ taken (b ∷ bs) rest len (suc width) shift lexeme h r p w k =
     ∙ ap (λ l. record { at = at; start = at + shift; lexeme = lexeme } ∷ l)
     (ap (λ n. lexemes n (at + 1) bs) one ∙ lexemes_after width (at + 1) bs ∙ ap (λ a. lexemes 0 a (drop width bs)) place ∙ ap (lexemes 0 (len - length rest)) (sym r))
 
--- the lexeme is at this place, whatever comes after it
+-- The lexeme is at this position, whatever comes after it.
 pub is_there : (text : List ℕ) (at width shift : ℕ) (lexeme : Lexeme) → HasLexeme text lexeme width shift → (more : List Placed) × (lexemes 0 at text ≡ record { at = at; start = at + shift; lexeme = lexeme } ∷ more)
 unfolding after_front
 is_there [] at width shift lexeme h = absurd h

@@ -1,4 +1,4 @@
--- Which texts are names.
+-- The strings that are names.
 use Rattle.std.proofs.Common.{◌≡◌, ℕ, Bool, true, false, Result, Ok, Err, List, length, ◌||◌, refl, ap, cond}
 use Rattle.std.specs.Prelude.{nat_lt}
 use Rattle.std.specs.Result.{is_ok}
@@ -7,7 +7,8 @@ use Rattle.be_value.specs.Name.{name_from, has_nul}
 use Rattle.be_value.specs.declared.refusals.Refusal.{Refusal}
 use Rattle.be_value.specs.declared.refusals.Refusal.TheVariants.{NameLength, HasNul}
 
--- what a text gives, by whether its length is wrong and whether it has a NUL
+-- The result for a string, depending on whether its length is invalid and whether it contains a
+-- NUL.
 made : Bool → Bool → List ℕ → Result (List ℕ) Refusal
 made long nul t = cond long (Err NameLength) (cond nul (Err HasNul) (Ok t))
 
@@ -17,7 +18,7 @@ same_made true nul t n h = cc
 same_made false true t n h = cc
 same_made false false t n h = cc
 
--- the name made from a text is the text itself
+-- The name made from a string is the string itself.
 pub same_name : (t n : List ℕ) → name_from t ≡ Ok n → n ≡ t
 unfolding made
 same_name t n h = same_made (nat_lt (length t) 1 || nat_lt 63 (length t)) (has_nul t) t n h
@@ -38,7 +39,7 @@ kept_made true nul t h = absurd (false≢true h)
 kept_made false true t h = absurd (false≢true h)
 kept_made false false t h = refl
 
--- a text that makes a name makes itself
+-- If a string makes a name, the name is that string.
 pub own_name : (t : List ℕ) → is_ok (name_from t) ≡ true → name_from t ≡ Ok t
 unfolding made
 own_name t h = kept_made (nat_lt (length t) 1 || nat_lt 63 (length t)) (has_nul t) t h

@@ -42,11 +42,11 @@ mutual
   operand_parses (And l r) h = let w = and_of l r (and_parses l h.0) (operand_parses r h.1) in (group (or_one w.0), ap (λ ts. Open ∷ (ts ++ Close ∷ [])) w.1, w.2)
   operand_parses (Or l r) h = let w = or_of l r (or_parses l h.0) (and_parses r h.1) in (group w.0, ap (λ ts. Open ∷ (ts ++ Close ∷ [])) w.1, w.2)
 
--- a printed tree's tokens encode it
+-- The tokens of a printed tree encode the tree.
 pub printed_parses : (t : Formula) → IsPrintable t → ParsesTo (or_printed t) t
 printed_parses t h = or_parses t h
 
--- a name or an order operator's value is read back
+-- A name, or the value of an order operator, is read back.
 pub plain-escaped : (bs : List ℕ) → plain (with_backslashes bs) ≡ bs
 plain-escaped [] = refl
 plain-escaped (b ∷ bs) = cond_both ((b == 34) || (b == 92)) (92 ∷ b ∷ with_backslashes bs) (b ∷ with_backslashes bs) (λ l. plain l ≡ b ∷ bs)

@@ -1,4 +1,4 @@
--- A canonical text is cut into the tokens of its tree.
+-- A canonical text is split into the tokens of its tree.
 use Rattle.std.proofs.Common.{◌≡◌, ℕ, ◌+◌, ◌-◌, true, false, suc, List, [], ◌∷◌, ◌++◌, length, take, drop, refl, sym, ap, ◌∙◌, subst, arith, append_assoc, append-nil}
 use Rattle.std.specs.Prelude.{codes}
 use Rattle.std.specs.List.{list_any}
@@ -17,7 +17,7 @@ use Rattle.be_query.proofs.Sentences.{lexemes_after}
 use Rattle.be_query.proofs.Loop.{taken_at}
 use Rattle.be_query.proofs.Parsed.{printed_parses}
 
--- the text gives these tokens first, whatever comes after it
+-- The text begins with these tokens, whatever comes after it.
 Lexes : List ℕ → List Token → Type 0
 Lexes text ts = (at : ℕ) (rest : List ℕ) → (next : ℕ) × (whole (lexemes 0 at (text ++ rest)) ≡ ts ++ whole (lexemes 0 next rest)) × (all_whole (lexemes 0 at (text ++ rest)) ≡ all_whole (lexemes 0 next rest))
 
@@ -74,7 +74,7 @@ quoted xs h at rest =
           ∙ ap all_whole (lexemes_after n (at + 1) bs ∙ ap (lexemes 0 (at + 1 + n)) (drop_front xs rest 34 n more)),
     )
 
--- an operator before a quote
+-- An operator before a quote.
 op_lexes : (op : Cmp) (ys : List ℕ) (ts : List Token) → Lexes (34 ∷ ys) ts → Lexes (cmp_text op ++ 34 ∷ ys) (Compares op ∷ ts)
 unfolding Lexes
 op_lexes Eq ys ts h at rest = let w = h (at + 1 + 1) rest in (w.0, ap (λ l. Compares Eq ∷ l) w.1, w.2)
@@ -129,7 +129,7 @@ text_whole t h = let w = or_lex t h 0 [] in ap (λ x. all_whole (lexemes 0 0 x))
 pub text_parses : (t : Formula) → IsQuotable t → IsPrintable t → ParsesTo (tokens (or_text t)) t
 text_parses t h k = subst (λ ts. ParsesTo ts t) (sym (text_lexes t h)) (printed_parses t k)
 
--- a text without a NUL is one token between quotes, once its backslashes are put in
+-- Once its backslashes are inserted, a string without a NUL is a single token between quotes.
 further_ends : (n m : ℕ) (s : Span) → s ≡ Ends n → m ≡ n + 1 → further s ≡ Ends m
 further_ends n m s e k = ap further e ∙ ap Ends (sym k)
 

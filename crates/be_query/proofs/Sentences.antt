@@ -73,7 +73,7 @@ whole_view (Values n op) level outer t h e = cc
 whole_view (Joints u) level [] t h e = (refl, ap (λ n. negations_on n []) h)
 whole_view (Joints u) level (l ∷ ls) t h e = cc
 
--- the tokens encode the tree that is built to the end
+-- The tokens encode the tree that is built from them to the end.
 pub built_parses : (ts : List Token) (s : State) (t : Formula) → build_from (Some nothing_built) ts ≡ Some s → tree_at s.stage s.level s.outer ≡ Some t → ParsesTo ts t
 built_parses ts s t e h =
     let settled : IsSettled s = subst SettledIf e (settled_from (Some nothing_built) ts tt) in
@@ -83,7 +83,7 @@ built_parses ts s t e h =
     let same : Some (or_tree o.0) ≡ Some t = sym (tree_built o.0) ∙ ap (λ l. tree_of (build_from (Some nothing_built) l)) o.1 ∙ ap tree_of e ∙ h in
     (o.0, o.1, cc)
 
--- the lexemes left after the bytes that one took
+-- The lexemes after the bytes of one lexeme.
 pub lexemes_after : (n at : ℕ) (bs : List ℕ) → lexemes n at bs ≡ lexemes 0 (at + n) (drop n bs)
 lexemes_after zero at bs = ap (λ a. lexemes 0 a bs) (omega arith)
 lexemes_after (suc n) at [] = refl

@@ -1,4 +1,4 @@
--- Texts whose length is enough to show that they encode names.
+-- Strings whose length alone shows that they encode names.
 use Rattle.std.proofs.Common.{◌≡◌, ℕ, ◌<◌, ◌≤◌, true, false, Ok, List, [], ◌∷◌, length, ap, ◌∙◌, arith}
 use Rattle.std.specs.Prelude.{nat_lt}
 use Rattle.std.specs.Bool.{◌==◌}
@@ -27,7 +27,7 @@ clean_name t z l h =
     let made : name_from t ≡ Ok t = cond-false _ _ _ long ∙ cond-false _ _ _ z in
     ap is_ok made
 
--- resolving backslashes makes no text longer, and none empty
+-- Resolving backslashes makes no string longer, and no string empty.
 pub short_name : (raw : List ℕ) → has_nul raw ≡ false → 0 < length raw → length raw ≤ 63 → is_name raw ≡ true
 short_name raw z l h =
     let some = plain_some raw l in

@@ -22,7 +22,7 @@ length-negations (suc n) marks = ap suc (length-negations n marks) ∙ omega ari
 pub negations_within : (level : Level) (outer : List Level) → level.negations ≤ length (marks_of level outer)
 negations_within level outer = omega (arith, length-negations level.negations (outer_marks outer))
 
--- reading continues after a token that can follow and has no error
+-- Reading continues after a token that can follow and has no error.
 pub goes_on : (place : Awaited) (marks : List Mark) (n len : ℕ) (x : Placed) (t : Token) (xs : List Placed) (s : Awaited × List Mark)
     → x.lexeme ≡ Whole t → next place marks t ≡ Some s → own_fault place marks n x.start t ≡ None
     → first_fault place marks n len (x ∷ xs) ≡ first_fault s.0 s.1 (comparisons_with place n) len xs
@@ -33,7 +33,7 @@ pub built_on : (stage : Stage) (level : Level) (outer : List Level) (n len : ℕ
     → first_fault (awaited_at stage) (marks_of level outer) n len (x ∷ xs) ≡ first_fault (awaited_at p.stage) (marks_of p.level p.outer) (comparisons_with (awaited_at stage) n) len xs
 built_on stage level outer n len x t xs p settled e k h = goes_on (awaited_at stage) (marks_of level outer) n len x t xs (view_of p) e (build_seen stage level outer t settled ∙ ap seen k) h
 
--- the levels around the innermost one, after the next one is popped
+-- The levels around the innermost one, after the next one has been popped.
 pub outer_pop : (xs rest : List code_level.Level) (l : code_level.Level) → xs ≡ rest ++ l ∷ [] → reverse (map level_seen xs) ≡ level_seen l ∷ reverse (map level_seen rest)
 outer_pop xs rest l e = ap (λ v. reverse (map level_seen v)) e ∙ ap reverse (map-append level_seen rest (l ∷ [])) ∙ reverse-append (map level_seen rest) (level_seen l ∷ [])
 
@@ -44,7 +44,7 @@ outer_within level outer rest l e =
     let d = length-negations l.negations (outer_marks rest) in
     omega arith
 
--- a token that can follow but has an error of its own
+-- A token that can follow but has an error of its own.
 pub own_stops : (place : Awaited) (marks : List Mark) (n len : ℕ) (x : Placed) (t : Token) (xs : List Placed) (s : Awaited × List Mark) (e : Refusal)
     → x.lexeme ≡ Whole t → next place marks t ≡ Some s → own_fault place marks n x.start t ≡ Some e
     → first_fault place marks n len (x ∷ xs) ≡ Some e
@@ -89,7 +89,7 @@ good_value op raw t marks n start e b h = ap (own_fault (Value op) marks n start
 pub bad_value : (op : Cmp) (raw : List ℕ) (t : Token) (marks : List Mark) (n start place : ℕ) → t ≡ Text raw → bad_pattern op raw ≡ Some place → own_fault (Value op) marks n start t ≡ Some (BadPattern (start + place))
 bad_value op raw t marks n start place k b = ap (own_fault (Value op) marks n start) k ∙ ap (value_fault n start) b
 
--- a value that is a bad pattern is an error, whatever follows
+-- A value that is a bad pattern is an error, whatever follows.
 pub value_refused : (op : Cmp) (raw : List ℕ) (t : Token) (marks : List Mark) (n at start place : ℕ) → t ≡ Text raw → bad_pattern op raw ≡ Some place
     → (len : ℕ) (xs : List Placed) → first_fault (Value op) marks n len (record { at = at; start = start; lexeme = Whole t } ∷ xs) ≡ Some (BadPattern (start + place))
 value_refused op raw t marks n at start place k b len xs = own_stops (Value op) marks n len _ t xs (Joint, ended marks) _ refl (ap (next (Value op) marks) k) (bad_value op raw t marks n start place k b)

@@ -1,4 +1,5 @@
--- The tree that is built is the grammar's, so each list of tokens has at most one tree.
+-- The tree that is built is the one that the grammar defines, so a list of tokens has at most one
+-- tree.
 use Rattle.std.proofs.Common.{◌≡◌, ℕ, Bool, true, false, zero, suc, Option, Some, None, List, [], ◌∷◌, ◌++◌, refl, sym, ap, ◌∙◌, append_assoc, append-nil, cond}
 use Rattle.std.specs.Prelude.{not}
 use Rattle.std.proofs.lemmas.Bool.{false≢true}
@@ -22,7 +23,7 @@ complement_twice (Leaf n op v) = ap (λ o. Leaf n o v) (opposite_twice op)
 complement_twice (And l r) = λ i. And (complement_twice l i) (complement_twice r i)
 complement_twice (Or l r) = λ i. Or (complement_twice l i) (complement_twice r i)
 
--- one more `!` around a tree complements it inside those already there
+-- One more `!` around a tree complements it inside the existing ones.
 turned_more : (b : Bool) (t : Formula) → turned (not b) t ≡ turned b (complement t)
 turned_more false t = refl
 turned_more true t = sym (complement_twice t)
@@ -35,7 +36,7 @@ either_turned : (b : Bool) (l r : Formula) → disjunction b (turned b l) (turne
 either_turned false l r = refl
 either_turned true l r = refl
 
--- levels in which an operand, a side or a phrase begins
+-- Levels in which an operand, a side or a phrase begins.
 abbrev in_level : Bool → Option Formula → Option Formula → Level
 in_level b o a = record { negated = b; operand_negated = b; or_left = o; and_left = a; negations = 0 }
 
@@ -45,7 +46,7 @@ at_operand level outer = Some (record { stage = Operands; level = level; outer =
 abbrev at_joint : Bool → Formula → Option Formula → List Level → Option State
 at_joint b t o outer = Some (record { stage = Joints t; level = in_level b o None; outer = outer })
 
--- the left side of the last `||`, and its right side so far
+-- The left side of the last `||`, and its right side so far.
 abbrev left_of : Bool → OrPhrase → Option Formula
 left_of b (or_one a) = None
 left_of b (or_more o a) = Some (turned b (or_tree o))
@@ -89,14 +90,14 @@ mutual
       named true e l ls k = refl
       named false e l ls k = absurd (false≢true e)
 
--- the tree built from a phrase's tokens is the phrase's tree
+-- The tree built from the tokens of a phrase is the tree of the phrase.
 pub tree_built : (o : OrPhrase) → tree_of (build_from (Some nothing_built) (or_tokens o)) ≡ Some (or_tree o)
 tree_built o =
     ap (λ ts. tree_of (build_from (Some nothing_built) ts)) (sym (append-nil (or_tokens o)))
     ∙ ap tree_of (or_built o false [] [])
     ∙ ap Some (left_right false o)
 
--- tokens have at most one tree
+-- Tokens have at most one tree.
 pub one_tree : (ts : List Token) (s t : Formula) → ParsesTo ts s → ParsesTo ts t → s ≡ t
 one_tree ts s t (o, eo, es) (p, ep, et) =
     let same = sym (tree_built o) ∙ ap (λ l. tree_of (build_from (Some nothing_built) l)) (eo ∙ sym ep) ∙ tree_built p in

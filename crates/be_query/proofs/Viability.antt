@@ -1,4 +1,4 @@
--- Reading continues exactly as long as the tokens are the front of a sentence.
+-- Reading continues exactly as long as the tokens are the beginning of a sentence.
 use Rattle.std.proofs.Common.{◌≡◌, ℕ, Bool, true, false, Option, Some, None, List, [], ◌∷◌, ◌++◌, refl, sym, ap, ◌∙◌, subst, append_assoc, append-nil, cond}
 use Rattle.std.proofs.lemmas.Bool.{false≢true}
 use Rattle.be_query.specs.declared.tree.Cmp.{Cmp}
@@ -52,7 +52,7 @@ mutual
 
 -- Phrases made from other phrases.
 
--- a phrase extended by `&&` and an operand
+-- A phrase extended by `&&` and an operand.
 and_operand : (o : OrPhrase) (n : NotPhrase) → (r : OrPhrase) × (or_tokens r ≡ or_tokens o ++ Both ∷ not_tokens n)
 and_operand (or_one a) n = (or_one (and_more a n), refl)
 and_operand (or_more o a) n = (or_more o (and_more a n), sym (append_assoc (or_tokens o) (Either ∷ and_tokens a) (Both ∷ not_tokens n)))
@@ -84,9 +84,9 @@ negated : (e : OrPhrase) → (r : OrPhrase) × (or_tokens r ≡ Bang ∷ or_toke
 negated (or_one a) = let p = negated_and a in (or_one p.0, p.1)
 negated (or_more e a) = let p = negated e in (or_more p.0 a, ap (λ l. l ++ Either ∷ and_tokens a) p.1)
 
--- What the tokens read so far are, at each open `(`.
+-- What the tokens that have been read are, at each open `(`.
 
--- followed by any phrase, they are a phrase
+-- Followed by any phrase, these tokens form a phrase.
 abbrev Continues : List Token → Type 0
 Continues ts = (e : OrPhrase) → (o : OrPhrase) × (or_tokens o ≡ ts ++ or_tokens e)
 
@@ -103,7 +103,7 @@ AtJoint [] ts = Whole ts
 AtJoint (Negation ∷ ms) ts = AtJoint ms ts
 AtJoint (Paren ∷ ms) ts = (before : List Token) × (after : List Token) × (ts ≡ before ++ Open ∷ after) × AtOperand ms before × Whole after
 
--- a phrase fills the place of an operand
+-- A phrase takes the place of an operand.
 fill : (ms : List Mark) (ts : List Token) (e : OrPhrase) → AtOperand ms ts → AtJoint ms (ts ++ or_tokens e)
 fill [] ts e h = h e
 fill (Negation ∷ ms) ts e h = fill ms ts e h
@@ -116,7 +116,7 @@ joint_ended [] ts h = h
 joint_ended (Negation ∷ ms) ts h = joint_ended ms ts h
 joint_ended (Paren ∷ ms) ts h = h
 
--- a token that continues a whole phrase
+-- A token that continues a whole phrase.
 continue_with : (t : Token) → ((o e : OrPhrase) → (r : OrPhrase) × (or_tokens r ≡ or_tokens o ++ t ∷ or_tokens e)) → (ts : List Token) → Whole ts → Continues (ts ++ t ∷ [])
 continue_with t join ts w e =
     let j = join w.0 e in
@@ -223,21 +223,21 @@ any_viable Joint ms ts h = joint_viable ms ts h
 reached_whole : (ts : List Token) → ReachedIf (read ts) ts
 reached_whole ts = reached (Some (Operand, [])) [] ts (λ e. (e, refl))
 
--- tokens that can be read are the front of a sentence
+-- If tokens can be read, they are the beginning of a sentence.
 pub read_viable : (ts : List Token) (s : Awaited × List Mark) → read ts ≡ Some s → Viable ts
 read_viable ts s e = any_viable s.0 s.1 ts (subst (λ o. ReachedIf o ts) e (reached_whole ts))
 
 not_none : (s : Awaited × List Mark) → Some s ≡ None → ⊥
 not_none s e = cc
 
--- the front of a sentence can be read
+-- If tokens are the beginning of a sentence, they can be read.
 pub viable_read : (ts : List Token) → Viable ts → read ts ≡ None → ⊥
 viable_read ts v e =
     let whole = or_read v.1 [] [] in
     let split = read-append (Some (Operand, [])) ts v.0 in
     not_none (Joint, []) (sym whole ∙ ap read (append-nil (or_tokens v.1)) ∙ ap read v.2 ∙ split ∙ ap (λ s. read_from s v.0) e ∙ read_none v.0)
 
--- tokens read to a joint with nothing open are a sentence, and conversely
+-- If tokens are read up to a connective and nothing is open, they are a sentence, and vice versa.
 pub read_sentence : (ts : List Token) → read ts ≡ Some (Joint, []) → (o : OrPhrase) × (or_tokens o ≡ ts)
 read_sentence ts e = subst (λ o. ReachedIf o ts) e (reached_whole ts)
 

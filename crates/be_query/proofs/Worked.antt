@@ -1,4 +1,4 @@
--- Printing keeps whatever clean items build.
+-- Printing preserves whatever clean items build.
 use Rattle.std.proofs.Common.{◌≡◌, ℕ, ◌+◌, ◌<◌, ◌^◌, zero, suc, arith, Bool, true, false, Option, Some, None, Result, Ok, Err, List, [], ◌∷◌, ◌++◌, length, map, refl, sym, ap, ◌∙◌, subst}
 use Rattle.std.specs.Prelude.{IsUtf8, nat_le, nat_lt}
 use Rattle.std.specs.List.{list_all}
@@ -76,7 +76,7 @@ trees_kept (Attribute n ∷ things) k = tt
 trees_kept (Value v ∷ things) k = tt
 trees_kept (Whole t ∷ things) k = right_kept t things k.0 k.1
 
--- Patterns around a literal text.
+-- Patterns around a literal string.
 
 only_all : (test : Part → Bool) (cs : List ℕ) (rest : List Part) → list_all (λ c. test (Only c)) cs ≡ true → list_all test rest ≡ true → list_all test (map Only cs ++ rest) ≡ true
 only_all test [] rest h k = k
@@ -163,7 +163,7 @@ shallow_kept : (r : Result (ℕ × List Thing) Refusal) → WorkKept r → WorkK
 shallow_kept (Err e) h = tt
 shallow_kept (Ok s) h = cond_both (nat_lt 64 (length s.1)) _ _ WorkKept (λ e. tt) (λ e. h)
 
--- one clean item preserves this
+-- Applying a clean item adds only what printing preserves.
 pub item_kept : (at n : ℕ) (things : List Thing) (i : Item) (s : ℕ × List Thing) → StackKept things → ItemClean i → shallow (work at n things i) ≡ Ok s → StackKept s.1
 item_kept at n things i s k c e = subst WorkKept e (shallow_kept _ (work_kept at n things i k c))
 

@@ -1,5 +1,5 @@
--- Building a query's tree while its tokens are read. Only the proofs use it: `Grammar` says which
--- tree a text has.
+-- Building the tree of a query while its tokens are read.
+-- This is used only by the proofs: `Grammar` defines the tree of a text.
 use Rattle.std.specs.Prelude.{◌≡◌, ℕ, zero, suc, Bool, true, false, Option, Some, None, List, []}
 use Rattle.std.specs.Prelude.{◌∷◌, not, if◌then◌else◌}
 use Rattle.be_query.specs.declared.tree.Cmp.{Cmp}
@@ -8,13 +8,13 @@ use Rattle.be_query.specs.Tokens.{is_name}
 use Rattle.be_query.specs.Grammar.{Formula, Leaf, And, Or, complement, opposite, literal_of}
 use Rattle.be_query.specs.Reading.{Awaited, Operand, Operator, Value, Joint, Mark, Paren, Negation}
 
--- What is unfinished inside one pair of parentheses: the left sides of `||` and `&&`, and the
+-- The unfinished parts inside one pair of parentheses: the left sides of `||` and `&&`, and the
 -- number of `!`. A tree inside an odd number of `!` is built as its complement, so each side here
 -- is already complemented as its level requires.
 pub record Level : Type 0 where
-  -- an odd number of `!` applies to the level
+  -- Whether an odd number of `!` applies to the level.
   pub negated : Bool
-  -- an odd number of `!` applies to the next operand
+  -- Whether an odd number of `!` applies to the next operand.
   pub operand_negated : Bool
   pub or_left : Option Formula
   pub and_left : Option Formula
@@ -29,14 +29,15 @@ fresh negated = record {
   negations = 0;
 }
 
--- what may come next, with the name or tree read so far
+-- What may come next, along with the name or tree that has been read.
 pub data Stage : Type 0 where
   Operands : Stage
   Operators : List ℕ → Stage
   Values : List ℕ → Cmp → Stage
   Joints : Formula → Stage
 
--- what may come next, the innermost level, and the levels around it, innermost first
+-- What may come next, the innermost level, and the levels around it, from the innermost to the
+-- outermost.
 pub record State : Type 0 where
   pub stage : Stage
   pub level : Level
@@ -45,17 +46,17 @@ pub record State : Type 0 where
 abbrev pub nothing_built : State
 nothing_built = record { stage = Operands; level = fresh false; outer = [] }
 
--- a tree, or its complement inside an odd number of `!`
+-- The tree, or its complement if it is inside an odd number of `!`.
 abbrev pub turned : Bool → Formula → Formula
 turned false t = t
 turned true t = complement t
 
--- a comparison's operator, or its opposite inside an odd number of `!`
+-- The operator of a comparison, or its opposite if it is inside an odd number of `!`.
 abbrev pub turned_operator : Bool → Cmp → Cmp
 turned_operator false op = op
 turned_operator true op = opposite op
 
--- the joint that `&&` builds: inside an odd number of `!` it is `||`
+-- The inner node that `&&` builds. Inside an odd number of `!`, it is `||`.
 abbrev pub conjunction : Bool → Formula → Formula → Formula
 conjunction false l r = And l r
 conjunction true l r = Or l r
@@ -67,7 +68,7 @@ abbrev pub joined : (Formula → Formula → Formula) → Option Formula → For
 joined join None t = t
 joined join (Some l) t = join l t
 
--- after an operand, no `!` and no `&&` waits
+-- The level after an operand, when no `!` and no `&&` is open.
 abbrev pub ended_level : Level → Level
 ended_level level = record {
   negated = level.negated;
@@ -77,7 +78,7 @@ ended_level level = record {
   negations = 0;
 }
 
--- an operand has ended, and with it the `!` and the `&&` that waited for it
+-- The state after an operand is complete, and with it the `!` and the `&&` that were open for it.
 abbrev pub with_operand : Formula → Level → List Level → State
 with_operand t level outer = record {
   stage = Joints
@@ -86,7 +87,7 @@ with_operand t level outer = record {
   outer = outer;
 }
 
--- a side of `||` has ended
+-- The tree after a side of `||` is complete.
 abbrev pub with_side : Formula → Level → Formula
 with_side t level = joined (disjunction level.negated) level.or_left t
 
@@ -133,7 +134,7 @@ abbrev pub tree_at : Stage → Level → List Level → Option Formula
 tree_at (Joints t) level [] = Some (with_side t level)
 tree_at _ _ _ = None
 
--- the tree, if nothing is unfinished
+-- The tree, if nothing is unfinished.
 abbrev pub tree_of : Option State → Option Formula
 tree_of None = None
 tree_of (Some s) = tree_at s.stage s.level s.outer
@@ -152,14 +153,14 @@ abbrev pub outer_marks : List Level → List Mark
 outer_marks [] = []
 outer_marks (level ∷ outer) = Paren ∷ negations_on level.negations (outer_marks outer)
 
--- what is open
+-- The `(` and `!` that are open.
 abbrev pub marks_of : Level → List Level → List Mark
 marks_of level outer = negations_on level.negations (outer_marks outer)
 
 abbrev pub view_of : State → Awaited × List Mark
 view_of s = (awaited_at s.stage, marks_of s.level s.outer)
 
--- after a whole operand no `!` waits
+-- After a complete operand, no `!` is open.
 abbrev pub IsSettledAt : Stage → Level → Type 0
 IsSettledAt (Joints t) level = level.negations ≡ 0
 IsSettledAt _ level = Unit {0}

@@ -1,5 +1,5 @@
--- Encodes formulas so that a model can have them as its value. The code is a list of symbols in
--- reverse Polish order.
+-- Encodes formulas so that they can be the value of a model.
+-- The code is a list of symbols in reverse Polish order.
 use Rattle.std.specs.Prelude.{◌≡◌, ◌⊎◌, ℕ, Bool, true, false, List, [], ◌∷◌, refl}
 use Rattle.std.specs.Coded.{Coded, code_by, coded_ℕ, coded_bool, coded_list, coded×, coded⊎}
 use Rattle.std.proofs.Common.{inl, inr, zero, suc, ◌∙◌}
@@ -77,7 +77,7 @@ abbrev pub coded_literal : Coded Literal
 coded_literal = code_by (List Part ⊎ List ℕ) (coded⊎ (coded_list coded_part) (coded_list coded_ℕ))
     to_literal from_literal same_literal
 
--- a comparison, or a joint: true for `&&`, false for `||`
+-- Either a comparison or a connective: true for `&&`, false for `||`.
 abbrev pub Symbol : Type 0
 Symbol = (List ℕ × (Cmp × Literal)) ⊎ Bool
 

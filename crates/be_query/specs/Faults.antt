@@ -1,4 +1,4 @@
--- The error of a query's text: the first one met when its tokens are read from the left.
+-- The error of a query's text: the first one found when its tokens are read from left to right.
 use Rattle.std.specs.Prelude.{ℕ, ◌+◌, Bool, true, false, Option, Some, None, Result, Ok, Err, List}
 use Rattle.std.specs.Prelude.{[], ◌∷◌, length, nat_lt, nat_le, if◌then◌else◌}
 use Rattle.std.specs.Str.{chars}
@@ -12,7 +12,7 @@ use Rattle.be_query.specs.Tokens.{Token, Open, Bang, Text}
 use Rattle.be_query.specs.Reading.{Awaited, Operand, Value, Joint, Mark, next}
 use Rattle.be_query.specs.Lexing.{Whole, Broken, Odd, Placed, lexemes}
 
--- the operator takes a pattern
+-- The operator takes a pattern.
 abbrev pub takes_pattern : Cmp → Bool
 takes_pattern Eq = true
 takes_pattern Ne = true
@@ -25,16 +25,18 @@ abbrev pub error_of : {A : Type 0} → Result A ℕ → Option ℕ
 error_of (Ok a) = None
 error_of (Err at) = Some at
 
--- the place of the error in a value that is a pattern, if it has one
+-- The position of the error in a value that is a pattern, if there is an error.
 abbrev pub bad_pattern : Cmp → List ℕ → Option ℕ
 bad_pattern op raw = if takes_pattern op then error_of (pattern (chars raw)) else None
 
--- the error of a value: a bad pattern at this place, or a comparison after `comparisons` others
+-- The error of a value: either a bad pattern at this position, or one comparison too many after
+-- `comparisons` others.
 abbrev pub value_fault : ℕ → ℕ → Option ℕ → Option Refusal
 value_fault comparisons start (Some at) = Some (BadPattern (start + at))
 value_fault comparisons start None = if nat_le 256 comparisons then Some TooMany else None
 
--- the token's own error, if it can follow after `comparisons` comparisons; its text begins at start
+-- The error in the token itself, if it is a token that can follow. It comes after `comparisons`
+-- comparisons, and its own text begins at `start`.
 abbrev pub own_fault : Awaited → List Mark → ℕ → ℕ → Token → Option Refusal
 own_fault Operand marks comparisons start Open = if nat_le 64 (length marks) then Some TooDeep
     else None
@@ -48,7 +50,8 @@ abbrev pub comparisons_with : Awaited → ℕ → ℕ
 comparisons_with (Value op) comparisons = comparisons + 1
 comparisons_with _ comparisons = comparisons
 
--- where the error is if a name or value breaks off: where it breaks off, if one may come here
+-- The position of the error in a name or value that is cut off: the point where it is cut off if a
+-- name or value may come here, and otherwise its first byte.
 abbrev pub broken_at : Awaited → ℕ → ℕ → ℕ
 broken_at Operand at n = at + n
 broken_at (Value op) at n = at + n
@@ -58,7 +61,7 @@ abbrev pub ends : Awaited → List Mark → ℕ → Option Refusal
 ends Joint [] len = None
 ends _ _ len = Some (Syntax len)
 
--- the first error of the lexemes, in a text of `len` bytes that has been read up to them
+-- The first error of the lexemes, in text of `len` bytes that has been read up to these lexemes.
 abbrev pub first_fault : Awaited → List Mark → ℕ → ℕ → List Placed → Option Refusal
 first_fault place marks comparisons len [] = ends place marks len
 first_fault place marks comparisons len (x ∷ xs) = elim x.lexeme [

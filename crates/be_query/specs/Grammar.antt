@@ -26,7 +26,7 @@ mutual
     group : OrPhrase → NotPhrase
     comparison : (name : List ℕ) → is_name name ≡ true → Cmp → List ℕ → NotPhrase
 
--- the tokens of a phrase
+-- The tokens of a phrase.
 abbrev mutual
   pub or_tokens : OrPhrase → List Token
   or_tokens (or_one a) = and_tokens a
@@ -41,7 +41,7 @@ abbrev mutual
   not_tokens (group o) = Open ∷ (or_tokens o ++ Close ∷ [])
   not_tokens (comparison name valid op value) = Text name ∷ Compares op ∷ Text value ∷ []
 
--- what an attribute is compared with: a pattern's tokens, or a text as it is
+-- What an attribute is compared with: the tokens of a pattern, or a string as it is.
 pub data Literal : Type 0 where
   Wild : List Part → Literal
   Exact : List ℕ → Literal
@@ -58,7 +58,7 @@ literal_of Le raw = Exact (plain raw)
 literal_of Gt raw = Exact (plain raw)
 literal_of Ge raw = Exact (plain raw)
 
--- A tree, without its place in memory.
+-- A tree, regardless of where it is stored.
 pub data Formula : Type 0 where
   Leaf : List ℕ → Cmp → Literal → Formula
   And : Formula → Formula → Formula
@@ -77,7 +77,7 @@ complement (Leaf name op value) = Leaf name (opposite op) value
 complement (And l r) = Or (complement l) (complement r)
 complement (Or l r) = And (complement l) (complement r)
 
--- the tree of a phrase
+-- The tree of a phrase.
 abbrev mutual
   pub or_tree : OrPhrase → Formula
   or_tree (or_one a) = and_tree a
@@ -92,20 +92,20 @@ abbrev mutual
   not_tree (group o) = or_tree o
   not_tree (comparison name valid op value) = Leaf (plain name) op (literal_of op value)
 
--- how many comparisons a tree has
+-- The number of comparisons in a tree.
 abbrev pub comparisons : Formula → ℕ
 comparisons (Leaf name op value) = 1
 comparisons (And l r) = comparisons l + comparisons r
 comparisons (Or l r) = comparisons l + comparisons r
 
--- the tokens are a sentence with this tree
+-- The tokens are a sentence, and its tree is this one.
 abbrev pub ParsesTo : List Token → Formula → Type 0
 ParsesTo ts tree = (o : OrPhrase) × (or_tokens o ≡ ts) × (or_tree o ≡ tree)
 
--- some more tokens after these complete a sentence
+-- Some further tokens would complete these tokens into a sentence.
 abbrev pub Viable : List Token → Type 0
 Viable ts = (more : List Token) × (o : OrPhrase) × (or_tokens o ≡ ts ++ more)
 
--- the text is cut into tokens, with nothing else in it, and the tokens encode the tree
+-- The text is split into tokens with nothing left over, and the tokens encode the tree.
 abbrev pub IsTextOf : List ℕ → Formula → Type 0
 IsTextOf text tree = (all_whole (lexemes 0 0 text) ≡ true) × ParsesTo (tokens text) tree

@@ -1,4 +1,5 @@
--- How a query's text, a list of bytes, is cut into tokens. The longest token is taken.
+-- How the text of a query, which is a list of bytes, is split into tokens.
+-- The longest possible token is taken.
 use Rattle.std.specs.Prelude.{◌≡◌, ◌≢◌, ◌≤◌, ◌<◌, ◌⊎◌, ℕ, ◌+◌, ◌-◌, zero, suc, Bool, true, false}
 use Rattle.std.specs.Prelude.{List, [], ◌∷◌, length, slice_index, take, ◌||◌, not, ◌==◌}
 use Rattle.std.specs.Prelude.{if◌then◌else◌}
@@ -7,15 +8,15 @@ use Rattle.be_query.specs.declared.lexer.Span.TheVariants.{Ends, Breaks}
 use Rattle.be_query.specs.declared.tree.Cmp.TheVariants.{Eq, Ne, Lt, Le, Gt, Ge}
 use Rattle.be_query.specs.Tokens.{Token, Open, Close, Bang, Both, Either, Compares, Text}
 
--- space, tab, LF and CR
+-- Space, tab, LF and CR.
 abbrev pub is_separator : ℕ → Bool
 is_separator b = (b == 32) || (b == 9) || (b == 10) || (b == 13)
 
--- `"` and `'`
+-- `"` and `'`.
 abbrev pub is_quote : ℕ → Bool
 is_quote b = (b == 34) || (b == 39)
 
--- `=`, `!`, `<`, `>`, `&`, `|`, `(` and `)`
+-- `=`, `!`, `<`, `>`, `&`, `|`, `(` and `)`.
 abbrev pub is_sign : ℕ → Bool
 is_sign b = (b == 61) || (b == 33) || (b == 60) || (b == 62) || (b == 38) || (b == 124) || (b == 40)
     || (b == 41)
@@ -23,18 +24,19 @@ is_sign b = (b == 61) || (b == 33) || (b == 60) || (b == 62) || (b == 38) || (b 
 abbrev pub is_word : ℕ → Bool
 is_word b = not (is_separator b || is_quote b || is_sign b || (b == 0))
 
--- at this byte a quoted text may end or break off, or a backslash escapes the next byte
+-- A byte at which a quoted string may end or be cut off, or a backslash that escapes the next byte.
 abbrev pub is_mark : ℕ → ℕ → Bool
 is_mark quote b = (b == quote) || (b == 0) || (b == 92)
 
--- the place after a byte; after a backslash, the place after the byte that it escapes
+-- `next` is the position after the byte at `at`, or after a backslash there and the byte that it
+-- escapes.
 abbrev pub IsBeyond : List ℕ → ℕ → ℕ → Type 0
 IsBeyond bytes at next =
     ((slice_index bytes at ≢ 92) × (next ≡ at + 1))
     ⊎ ((slice_index bytes at ≡ 92) × (at + 1 < length bytes) × (slice_index bytes (at + 1) ≢ 0)
     × (next ≡ at + 1 + 1))
 
--- there is a backslash at this place, and then a NUL or the end
+-- There is a backslash at this position, followed by a NUL or the end of the bytes.
 abbrev pub IsLone : List ℕ → ℕ → Type 0
 IsLone bytes at = (slice_index bytes at ≡ 92)
     × ((length bytes ≤ at + 1) ⊎ ((at + 1 < length bytes) × (slice_index bytes (at + 1) ≡ 0)))
@@ -43,7 +45,7 @@ abbrev pub further : Span → Span
 further (Ends n) = Ends (n + 1)
 further (Breaks n) = Breaks (n + 1)
 
--- How far a word extends. The first argument says whether a backslash comes before these bytes.
+-- The extent of a word. The first argument says whether these bytes follow a backslash.
 abbrev pub word_span : Bool → List ℕ → Span
 word_span true [] = Breaks 0
 word_span true (b ∷ bs) = if b == 0 then Breaks 0 else further (word_span false bs)
@@ -51,7 +53,8 @@ word_span false [] = Ends 0
 word_span false (b ∷ bs) = if b == 92 then further (word_span true bs)
     else (if is_word b then further (word_span false bs) else Ends 0)
 
--- How far the text after an opening quote extends, up to the next such quote.
+-- The extent of the string that follows an opening quote, up to the next quote of the same kind.
+-- The second argument says whether these bytes follow a backslash.
 abbrev pub quoted_span : ℕ → Bool → List ℕ → Span
 quoted_span quote true [] = Breaks 0
 quoted_span quote true (b ∷ bs) = if b == 0 then Breaks 0 else further (quoted_span quote false bs)
@@ -63,13 +66,13 @@ quoted_span quote false (b ∷ bs) =
 
 pub data Lexeme : Type 0 where
   Whole : Token → Lexeme
-  -- a name or value that breaks off this many bytes after its first
+  -- A name or value that is cut off this many bytes after its first byte.
   Broken : ℕ → Lexeme
-  -- no token begins like this: a single `&` or `|`, or a NUL
+  -- A byte that can't begin a token: a single `&` or `|`, or a NUL.
   Odd : Lexeme
 
--- the front of a text: a separator; or a lexeme, its length, and how many of its bytes come before
--- its text
+-- What the text begins with: a separator, or a lexeme with its length and the number of bytes
+-- before its own text.
 pub data Front : Type 0 where
   Separator : Front
   Takes : Lexeme → ℕ → ℕ → Front
@@ -82,7 +85,7 @@ abbrev pub quoted_front : List ℕ → Span → Front
 quoted_front bs (Ends n) = Takes (Whole (Text (take n bs))) (n + 2) 1
 quoted_front bs (Breaks n) = Takes (Broken (n + 1)) 1 0
 
--- a sign of two bytes, if the second one follows; otherwise the sign of one byte
+-- The sign of two bytes if the second one follows, and otherwise the sign of one byte.
 abbrev pub sign_front : ℕ → Lexeme → Lexeme → List ℕ → Front
 sign_front second two one [] = Takes one 1 0
 sign_front second two one (b ∷ bs) = if b == second then Takes two 2 0 else Takes one 1 0
@@ -102,13 +105,14 @@ front b bs =
     else (if b == 0 then Takes Odd 1 0
     else word_front (b ∷ bs) (word_span false (b ∷ bs))))))))))))
 
--- a lexeme, where it begins, and where its text begins
+-- A lexeme, the position where it begins, and the position where its own text begins.
 pub record Placed : Type 0 where
   pub at : ℕ
   pub start : ℕ
   pub lexeme : Lexeme
 
--- The lexemes of a text at a place, after some bytes at its front that were already taken.
+-- The lexemes of the text that begins at position `at`. The first `taken` bytes of the text belong
+-- to the previous lexeme.
 abbrev pub lexemes : ℕ → ℕ → List ℕ → List Placed
 lexemes taken at [] = []
 lexemes (suc taken) at (b ∷ bs) = lexemes taken (at + 1) bs
@@ -118,16 +122,16 @@ lexemes zero at (b ∷ bs) = elim (front b bs) [
       ∷ lexemes (width - 1) (at + 1) bs
 ]
 
--- the tokens among the lexemes
+-- The tokens among the lexemes.
 abbrev pub whole : List Placed → List Token
 whole [] = []
 whole (x ∷ xs) = elim x.lexeme [ Whole t ↦ t ∷ whole xs | Broken n ↦ whole xs | Odd ↦ whole xs ]
 
--- no lexeme breaks off or is odd
+-- Every lexeme is a token.
 abbrev pub all_whole : List Placed → Bool
 all_whole [] = true
 all_whole (x ∷ xs) = elim x.lexeme [ Whole t ↦ all_whole xs | Broken n ↦ false | Odd ↦ false ]
 
--- a text's tokens
+-- The tokens of the text.
 abbrev pub tokens : List ℕ → List Token
 tokens text = whole (lexemes 0 0 text)

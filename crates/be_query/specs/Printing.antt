@@ -1,4 +1,4 @@
--- A tree's canonical text.
+-- The canonical text of a tree.
 use Rattle.std.specs.Prelude.{◌≡◌, Ok, Some, None, ℕ, ◌+◌, max, nat_lt, Option, Bool, true, false}
 use Rattle.std.specs.Prelude.{List, [], ◌∷◌, ◌++◌, length, ◌||◌, ◌==◌, if◌then◌else◌}
 use Rattle.std.specs.Prelude.{encode_utf8_all, codes}
@@ -16,11 +16,11 @@ use Rattle.be_query.specs.Tokens.{Token, Open, Close, Both, Either, Compares, Te
 use Rattle.be_value.specs.Name.{name_from, has_nul}
 use Rattle.be_query.specs.Grammar.{Formula, Leaf, And, Or, Literal, Wild, Exact, literal_of}
 
--- `"` and `\`
+-- `"` and `\`.
 abbrev pub wants_backslash : ℕ → Bool
 wants_backslash b = (b == 34) || (b == 92)
 
--- a backslash before each `"` and `\`
+-- The bytes, with a backslash before every `"` and `\`.
 abbrev pub with_backslashes : List ℕ → List ℕ
 with_backslashes [] = []
 with_backslashes (b ∷ bs) = if wants_backslash b then 92 ∷ b ∷ with_backslashes bs else b
@@ -42,7 +42,7 @@ abbrev pub leaf_text : List ℕ → Cmp → Literal → List ℕ
 leaf_text name op value = codes "\"" ++ with_backslashes name ++ codes "\"" ++ cmp_text op
     ++ codes "\"" ++ literal_text value ++ codes "\""
 
--- A tree's text where `||`, a side of `||`, or an operand of `&&` may come.
+-- The text of a tree in a position where `||`, a side of `||`, or an operand of `&&` may occur.
 abbrev mutual
   pub or_text : Formula → List ℕ
   or_text (Leaf n op v) = leaf_text n op v
@@ -59,7 +59,7 @@ abbrev mutual
   operand_text (And l r) = codes "(" ++ and_text l ++ codes " && " ++ operand_text r ++ codes ")"
   operand_text (Or l r) = codes "(" ++ or_text l ++ codes " || " ++ and_text r ++ codes ")"
 
--- The greatest number of parentheses around a comparison in that text.
+-- The maximum number of parentheses around a comparison in that text.
 abbrev mutual
   pub or_depth : Formula → ℕ
   or_depth (Leaf n op v) = 0
@@ -76,12 +76,12 @@ abbrev mutual
   operand_depth (And l r) = 1 + max (and_depth l) (operand_depth r)
   operand_depth (Or l r) = 1 + max (or_depth l) (and_depth r)
 
--- the limit that the canonical text exceeds, if it exceeds one
+-- The limit that the canonical text exceeds, if any.
 abbrev pub limit_of : Formula → Option Refusal
 limit_of t = if nat_lt 4096 (length (or_text t)) then Some TooLong
     else (if nat_lt 64 (or_depth t) then Some TooDeep else None)
 
--- The tokens of those texts.
+-- The tokens of these texts.
 abbrev pub leaf_tokens : List ℕ → Cmp → Literal → List Token
 leaf_tokens name op value = Text (with_backslashes name) ∷ Compares op ∷ Text (literal_text value)
     ∷ []
@@ -102,30 +102,30 @@ abbrev mutual
   operand_printed (And l r) = Open ∷ ((and_printed l ++ Both ∷ operand_printed r) ++ Close ∷ [])
   operand_printed (Or l r) = Open ∷ ((or_printed l ++ Either ∷ and_printed r) ++ Close ∷ [])
 
--- each name is valid, and each printed name and value is read back
+-- Every name is valid, and every printed name and value is read back.
 abbrev pub IsPrintable : Formula → Type 0
 IsPrintable (Leaf n op v) = (is_name (with_backslashes n) ≡ true) × (plain (with_backslashes n) ≡ n)
     × (literal_of op (literal_text v) ≡ v)
 IsPrintable (And l r) = IsPrintable l × IsPrintable r
 IsPrintable (Or l r) = IsPrintable l × IsPrintable r
 
--- between two `"` the text is one token
+-- Between two `"`, the string is a single token.
 abbrev pub IsWhole : List ℕ → Type 0
 IsWhole text = (rest : List ℕ) → quoted_span 34 false (text ++ 34 ∷ rest) ≡ Ends (length text)
 
--- each printed name and value is one token
+-- Every printed name and value is a single token.
 abbrev pub IsQuotable : Formula → Type 0
 IsQuotable (Leaf n op v) = IsWhole (with_backslashes n) × IsWhole (literal_text v)
 IsQuotable (And l r) = IsQuotable l × IsQuotable r
 IsQuotable (Or l r) = IsQuotable l × IsQuotable r
 
--- a pattern is read back from its canonical text, and no text has a NUL
+-- The pattern is read back from its canonical text, and no string contains a NUL.
 abbrev pub IsKeptBy : Cmp → Literal → Type 0
 IsKeptBy op (Wild ps) = (takes_pattern op ≡ true) × (pattern (canonical ps) ≡ Ok ps)
     × (has_nul (canonical ps) ≡ false) × (all_scalars (canonical ps) ≡ true)
 IsKeptBy op (Exact bs) = (takes_pattern op ≡ false) × (has_nul bs ≡ false)
 
--- each name is valid, and printing keeps each value
+-- Every name is valid, and printing preserves every value.
 abbrev pub IsKept : Formula → Type 0
 IsKept (Leaf n op v) = (name_from n ≡ Ok n) × IsKeptBy op v
 IsKept (And l r) = IsKept l × IsKept r

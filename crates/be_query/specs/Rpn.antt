@@ -1,4 +1,4 @@
--- The tree that items in reverse Polish order build, or the error why they build none.
+-- The tree that items in reverse Polish notation build, or the error if they don't build one.
 use Rattle.std.specs.Prelude.{◌≡◌, ℕ, ◌+◌, Bool, true, false, Option, Some, None, Result, Ok, Err}
 use Rattle.std.specs.Prelude.{List, [], ◌∷◌, length, map, reverse, nat_le, nat_lt, if◌then◌else◌}
 use Rattle.std.specs.Prelude.{string_bytes, IsUtf8}
@@ -27,10 +27,10 @@ pub data Thing : Type 0 where
 pub data Item : Type 0 where
   Attr : List ℕ → Item
   Given : List ℕ → Item
-  -- a number, as its decimal text
+  -- A number in decimal.
   Number : List ℕ → Item
   Compare : Cmp → Item
-  -- `==` with a literal text, and whether there is a `*` before it and after it
+  -- `==` with a literal string, and whether a `*` precedes it and follows it.
   Around : Bool → Bool → Item
   Both : Item
   Either : Item
@@ -48,7 +48,7 @@ abbrev pub top_tree : List Thing → Option (Formula × List Thing)
 top_tree (Whole t ∷ stack) = Some (t, stack)
 top_tree _ = None
 
--- an attribute, with the value above it
+-- An attribute and the value above it.
 abbrev pub comparison_below : Option (List ℕ × List Thing) → Option (List ℕ × List ℕ × List Thing)
 comparison_below None = None
 comparison_below (Some v) = elim (top_attribute v.1) [ None ↦ None | Some a ↦ Some (a.0, v.0, a.1) ]
@@ -56,7 +56,7 @@ comparison_below (Some v) = elim (top_attribute v.1) [ None ↦ None | Some a �
 abbrev pub top_comparison : List Thing → Option (List ℕ × List ℕ × List Thing)
 top_comparison stack = comparison_below (top_value stack)
 
--- two trees, the lower one first
+-- Two trees, the lower one first.
 abbrev pub tree_below : Option (Formula × List Thing) → Option (Formula × Formula × List Thing)
 tree_below None = None
 tree_below (Some r) = elim (top_tree r.1) [ None ↦ None | Some l ↦ Some (l.0, r.0, l.1) ]
@@ -64,11 +64,12 @@ tree_below (Some r) = elim (top_tree r.1) [ None ↦ None | Some l ↦ Some (l.0
 abbrev pub top_trees : List Thing → Option (Formula × Formula × List Thing)
 top_trees stack = tree_below (top_tree stack)
 
--- pushes one more comparison
+-- Pushes one more comparison.
 abbrev pub counts : ℕ → Formula → List Thing → Result (ℕ × List Thing) Refusal
 counts n leaf stack = if nat_le 256 n then Err TooMany else Ok (n + 1, Whole leaf ∷ stack)
 
--- the literal that a text is compared as: a pattern, or for an order operator the text as it is
+-- The literal that a string is compared as: a pattern, or for an order operator the string as it
+-- is.
 abbrev pub given_literal : Cmp → List ℕ → Literal
 given_literal op text = if takes_pattern op then literal_of op text else Exact text
 
@@ -93,7 +94,7 @@ abbrev pub complements : ℕ → ℕ → Option (Formula × List Thing) → Resu
 complements at n None = Err (BadRpn at)
 complements at n (Some s) = Ok (n, Whole (complement s.0) ∷ s.1)
 
--- what the item at place `at` makes of the stack, after `n` comparisons
+-- The stack after the item at position `at` has been applied to it, following `n` comparisons.
 abbrev pub work : ℕ → ℕ → List Thing → Item → Result (ℕ × List Thing) Refusal
 work at n stack (Attr name) = Ok (n, Attribute name ∷ stack)
 work at n stack (Given text) = if has_nul text then Err (BadRpn at) else Ok (n, Value text ∷ stack)
@@ -104,12 +105,12 @@ work at n stack Both = joins at n And (top_trees stack)
 work at n stack Either = joins at n Or (top_trees stack)
 work at n stack Complement = complements at n (top_tree stack)
 
--- the stack may have at most 64 things
+-- The stack may contain at most 64 things.
 abbrev pub shallow : Result (ℕ × List Thing) Refusal → Result (ℕ × List Thing) Refusal
 shallow (Err e) = Err e
 shallow (Ok s) = if nat_lt 64 (length s.1) then Err TooDeep else Ok s
 
--- exactly one tree has to be left at the end
+-- Exactly one tree must be left at the end.
 abbrev pub one_tree : ℕ → List Thing → Result Formula Refusal
 one_tree at (Whole t ∷ []) = Ok t
 one_tree at _ = Err (BadRpn at)
@@ -122,13 +123,13 @@ rpn_from at (Ok s) (i ∷ items) = rpn_from (at + 1) (shallow (work at s.0 s.1 i
 abbrev pub rpn : List Item → Result Formula Refusal
 rpn = rpn_from 0 (Ok (0, []))
 
--- The code's things, stack and items as these definitions see them.
+-- The program's things, stack and items in terms of these definitions.
 abbrev pub thing_of : code_thing.Thing → Thing
 thing_of (code_thing.TheVariants.Attribute name) = Attribute name
 thing_of (code_thing.TheVariants.Value text) = Value (string_bytes text)
 thing_of (code_thing.TheVariants.Whole tree) = Whole (formula tree)
 
--- the things, the top one first
+-- The things on the stack, from top to bottom.
 abbrev pub things_of : List code_thing.Thing → List Thing
 things_of things = reverse (map thing_of things)
 
@@ -153,7 +154,7 @@ item_of code_item.TheVariants.And = Both
 item_of code_item.TheVariants.Or = Either
 item_of code_item.TheVariants.Not = Complement
 
--- an item's name is valid, and its text is UTF-8
+-- The name of an item is valid, and its string is valid UTF-8.
 abbrev pub ItemClean : Item → Type 0
 ItemClean (Attr name) = name_from name ≡ Ok name
 ItemClean (Given text) = IsUtf8 text

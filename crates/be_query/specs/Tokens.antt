@@ -1,28 +1,28 @@
--- The tokens of a query's text. Texts are lists of bytes.
+-- The tokens of a query's text. Text is a list of bytes.
 use Rattle.std.specs.Prelude.{ℕ, Bool, List, [], ◌∷◌, ◌==◌, if◌then◌else◌}
 use Rattle.std.specs.Result.{is_ok}
 use Rattle.be_value.specs.Name.{name_from}
 use Rattle.be_query.specs.declared.tree.Cmp.{Cmp}
 
 pub data Token : Type 0 where
-  -- `(` and `)`
+  -- `(` and `)`.
   Open : Token
   Close : Token
-  -- `!`
+  -- `!`.
   Bang : Token
-  -- `&&` and `||`
+  -- `&&` and `||`.
   Both : Token
   Either : Token
   Compares : Cmp → Token
-  -- a name or a value, with its backslashes and without its quotes
+  -- A name or a value, with its backslashes and without its quotes.
   Text : List ℕ → Token
 
--- the text with its backslashes resolved: each one takes the next byte as it is
+-- The string with its backslashes resolved: the byte after a backslash is taken literally.
 abbrev pub plain : List ℕ → List ℕ
 plain [] = []
 plain (b ∷ []) = b ∷ []
 plain (b ∷ c ∷ bs) = if b == 92 then c ∷ plain bs else b ∷ plain (c ∷ bs)
 
--- the text is a name once its backslashes are resolved
+-- The string is a name once its backslashes are resolved.
 abbrev pub is_name : List ℕ → Bool
 is_name raw = is_ok (name_from (plain raw))

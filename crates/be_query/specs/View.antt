@@ -1,4 +1,4 @@
--- The code's values as the definitions see them.
+-- How the definitions view the program's values.
 -- Public contracts use only `formula`, `literal` and `IsMemory`.
 use Rattle.std.specs.Prelude.{◌≡◌, ◌⊎◌, ◌<◌, ◌≤◌, ◌-◌, ℕ, Bool, true, if◌then◌else◌, ◌||◌, ◌==◌}
 use Rattle.std.specs.Prelude.{◌+◌, Option, Some, None, List, [], ◌∷◌, string_bytes, map, reverse}
@@ -65,7 +65,7 @@ token_of code_token.TheVariants.Either = Either
 token_of (code_token.TheVariants.Compares op) = Compares op
 token_of (code_token.TheVariants.Text raw) = Text raw.now
 
--- a name or value is UTF-8 without a NUL
+-- A name or value is valid UTF-8 without a NUL.
 abbrev pub IsClean : Token → Type 0
 IsClean Open = Unit {0}
 IsClean Close = Unit {0}
@@ -75,14 +75,14 @@ IsClean Either = Unit {0}
 IsClean (Compares op) = Unit {0}
 IsClean (Text raw) = (has_nul raw ≡ false) × IsUtf8 raw
 
--- any token at the front of a text is clean
+-- If the text begins with a token, the token is clean.
 abbrev pub IsCleanFront : code_front.Front → Type 0
 IsCleanFront (code_front.TheVariants.Separator rest) = Unit {0}
 IsCleanFront (code_front.TheVariants.Token token shift rest) = IsClean (token_of token)
 IsCleanFront (code_front.TheVariants.Broken n) = Unit {0}
 IsCleanFront code_front.TheVariants.Odd = Unit {0}
 
--- the length of a token's text
+-- The length of a token's own text.
 abbrev pub text_len : Token → ℕ
 text_len Open = 0
 text_len Close = 0
@@ -92,7 +92,7 @@ text_len Either = 0
 text_len (Compares op) = 0
 text_len (Text raw) = length raw
 
--- the levels around the innermost one, innermost first
+-- The levels around the innermost one, from the innermost to the outermost.
 abbrev pub outer_of : code_context.Context → List Level
 outer_of c = reverse (map level_seen c.outer.items)
 
@@ -102,14 +102,14 @@ state_of stage c = record { stage = stage; level = level_seen c.level; outer = o
 abbrev pub parser_state : code_parser.Parser → State
 parser_state p = state_of (stage_of p.stage) p.context
 
--- a name that waits for an operator or a value is valid
+-- If an operator or a value is awaited, the name before it is valid.
 abbrev pub IsNamed : Stage → Type 0
 IsNamed Operands = Unit {0}
 IsNamed (Operators name) = is_ok (name_from name) ≡ true
 IsNamed (Values name op) = is_ok (name_from name) ≡ true
 IsNamed (Joints t) = Unit {0}
 
--- the counts are right, and the name is valid
+-- The counts are correct, and the name is valid.
 pub record IsCounted (stage : Stage) (c : code_context.Context) : Type 0 where
   pub named : IsNamed stage
   pub settled : IsSettledAt stage (level_seen c.level)
@@ -117,16 +117,16 @@ pub record IsCounted (stage : Stage) (c : code_context.Context) : Type 0 where
   pub shallow : c.depth ≤ 64
   pub few : c.comparisons ≤ 256
 
--- the first error in the lexemes that follow
+-- The first error in the lexemes that follow.
 abbrev pub fault_in : Stage → code_context.Context → ℕ → List Placed → Option Refusal
 fault_in stage c len xs = first_fault (awaited_at stage)
     (marks_of (level_seen c.level) (outer_of c)) c.comparisons len xs
 
--- the error is that memory ran out, or it is as stated
+-- Either memory ran out, or the error is as stated.
 abbrev pub IsMemory : Refusal → Type 0 → Type 0
 IsMemory e otherwise = (e ≡ OutOfMemory) ⊎ otherwise
 
--- the text of a tree at a place
+-- The text of a tree in this context.
 abbrev pub printed_at : code_place.Place → Formula → List ℕ
 printed_at code_place.TheVariants.Side t = or_text t
 printed_at code_place.TheVariants.Part t = and_text t
@@ -135,7 +135,7 @@ printed_at code_place.TheVariants.Operand t = operand_text t
 abbrev pub only_if : Bool → List ℕ → List ℕ
 only_if shown t = if shown then t else []
 
--- a token was taken, and reading continues
+-- A token was accepted, and reading continues.
 pub record TakesToken (stage : Stage) (c : code_context.Context) (at start : ℕ) (t : Token)
     (after : code_stage.Stage) (d : code_context.Context) : Type 0 where
   pub counted : IsCounted (stage_of after) d
@@ -145,13 +145,13 @@ pub record TakesToken (stage : Stage) (c : code_context.Context) (at start : ℕ
       → fault_in stage c len (record { at = at; start = start; lexeme = Whole t } ∷ xs)
       ≡ fault_in (stage_of after) d len xs
 
--- the token causes this error, whatever follows it, unless memory ran out
+-- The token causes this error, whatever follows it, unless memory ran out.
 abbrev pub Refuses : Stage → code_context.Context → ℕ → ℕ → Token → Refusal → Type 0
 Refuses stage c at start t e = IsMemory e
     ((len : ℕ) (xs : List Placed) → fault_in stage c len
     (record { at = at; start = start; lexeme = Whole t } ∷ xs) ≡ Some e)
 
--- the bytes begin with this lexeme
+-- The bytes begin with this lexeme.
 abbrev pub HasLexeme : List ℕ → Lexeme → ℕ → ℕ → Type 0
 HasLexeme [] lexeme width shift = ⊥
 HasLexeme (b ∷ bs) lexeme width shift = front b bs ≡ Takes lexeme width shift
@@ -173,7 +173,7 @@ abbrev pub second_of : Option ℕ → List ℕ
 second_of None = []
 second_of (Some b) = b ∷ []
 
--- what a sign is, given the byte after it
+-- The token that a sign begins, given the byte after it.
 abbrev pub SignIs : ℕ → Option ℕ → Option (code_token.Token × ℕ) → Type 0
 SignIs first second None = (is_sign first || (first == 0)) ≡ true → front first (second_of second)
     ≡ Takes Odd 1 0

@@ -1,6 +1,6 @@
-//! Cuts a query's text into tokens.
+//! Splits the text of a query into tokens.
 //!
-//! The longest token is taken. A name or value is a word or a quoted text.
+//! The longest possible token is taken. A name or value is either a word or a quoted string.
 ghost use Rattle.std.specs.Prelude.{false, true, ◌||◌, ℕ, ◌≡◌, ◌≤◌, ◌<◌, ◌+◌, ◌==◌, length, take};
 ghost use Rattle.std.specs.Prelude.{drop, slice_get, slice_index, IfNone, IfSome};
 ghost use Rattle.std.specs.List.{list_any};
@@ -11,53 +11,55 @@ ghost use Rattle.be_query.specs.Lexing.{is_mark, word_span, quoted_span};
 use crate::token::Token;
 use crate::tree::Cmp;
 
-/// How many bytes of a quoted text are checked at once.
+/// The number of bytes of a quoted string that are checked at a time.
 const BLOCK: usize = 16;
 
-/// How far a name or value extends.
+/// The extent of a name or value.
 #[derive(Clone, Copy)]
 pub(crate) enum Span {
-    /// It has this many bytes.
+    /// The length of the name or value in bytes.
     Ends(usize),
-    /// It breaks off this many bytes after its first, at a NUL or at the end of the text.
+    /// The name or value is cut off by a NUL or by the end of the text, this many bytes after its
+    /// first byte.
     Breaks(usize),
 }
 
-/// What is at the front of a text.
+/// What the remaining text begins with.
 #[derive(Clone, Copy)]
 pub(crate) enum Front<'a> {
-    /// A separator, and the text after it.
+    /// A separator, followed by this text.
     Separator(&'a str),
-    /// A token, how many bytes come before its text, and the text after the token.
+    /// A token, the number of bytes before the token's own text, and the text that follows the
+    /// token.
     Token(Token<'a>, usize, &'a str),
-    /// A name or value that breaks off this many bytes after its first.
+    /// A name or value that is cut off this many bytes after its first byte.
     Broken(usize),
-    /// No token begins like this.
+    /// A byte that can't begin a token.
     Odd,
 }
 
-/// Whether the byte separates tokens.
+/// Returns `true` if the byte separates tokens.
 fn is_separator(b: u8) -> bool
     ensures { result ≡ is_separator b }
 {
     b == b' ' || b == b'\t' || b == b'\n' || b == b'\r'
 }
 
-/// Whether a word may contain the byte.
+/// Returns `true` if the byte may occur in a word.
 fn is_word(b: u8) -> bool
     ensures { result ≡ is_word b }
 {
     !(is_separator(b) || is_quote(b) || is_sign(b) || b == 0)
 }
 
-/// Whether the byte begins a quoted text.
+/// Returns `true` if the byte begins a quoted string.
 fn is_quote(b: u8) -> bool
     ensures { result ≡ is_quote b }
 {
     b == b'"' || b == b'\''
 }
 
-/// Whether the byte begins a token that isn't a name or value.
+/// Returns `true` if the byte begins a token that isn't a name or value.
 fn is_sign(b: u8) -> bool
     ensures { result ≡ is_sign b }
 {
@@ -71,8 +73,8 @@ fn is_sign(b: u8) -> bool
         || b == b')'
 }
 
-/// The place after the byte at `at`; after a backslash, the place after the byte that it escapes.
-/// It is `None` if that byte is missing or a NUL.
+/// Returns the position after the byte at `at`, or after a backslash and the byte that it escapes.
+/// Returns `None` if the escaped byte is missing or a NUL.
 fn beyond(bytes: &[u8], at: usize) -> Option<usize>
     requires { at < length bytes.now }
     ensures next { IfSome result (λ next. IsBeyond bytes.now at next) }
@@ -92,7 +94,7 @@ fn beyond(bytes: &[u8], at: usize) -> Option<usize>
     Some(next + 1)
 }
 
-/// How far the word at the front extends.
+/// Returns the extent of the word at the start of the bytes.
 fn word_span(bytes: &[u8]) -> Span
     ensures { result ≡ word_span false bytes.now }
 {
@@ -109,7 +111,8 @@ fn word_span(bytes: &[u8]) -> Span
     Span::Ends(at)
 }
 
-/// How far the text after an opening quote extends: up to the next such quote.
+/// Returns the extent of the string that follows an opening quote. The string ends at the next
+/// quote of the same kind.
 fn quoted_span(quote: u8, bytes: &[u8]) -> Span
     ensures { result ≡ quoted_span quote false bytes.now }
 {
@@ -117,8 +120,8 @@ fn quoted_span(quote: u8, bytes: &[u8]) -> Span
     span_after(quote, bytes, front)
 }
 
-/// How many bytes at the front, in whole blocks, have no backslash and nothing that ends the quoted
-/// text.
+/// Returns the number of leading bytes, in whole blocks, that contain neither a backslash nor a
+/// byte that ends the quoted string.
 fn unmarked_front(quote: u8, bytes: &[u8]) -> usize
     ensures within { result ≤ length bytes.now }
     ensures unmarked { list_any (is_mark quote) (take result bytes.now) ≡ false }
@@ -133,7 +136,7 @@ fn unmarked_front(quote: u8, bytes: &[u8]) -> usize
     at
 }
 
-/// Whether a byte of the block is a backslash or ends the quoted text.
+/// Returns `true` if any byte in the block is a backslash or ends the quoted string.
 fn has_mark(quote: u8, block: &[u8]) -> bool
     ensures { result ≡ list_any (is_mark quote) block.now }
 {
@@ -143,8 +146,8 @@ fn has_mark(quote: u8, block: &[u8]) -> bool
     ends | breaks | escapes
 }
 
-/// Whether the byte is in the block. It checks every place, so that the compiler can check all at
-/// once.
+/// Returns `true` if the byte occurs in the block. Every position is checked so that the compiler
+/// can check all of them at once.
 fn has_byte(byte: u8, block: &[u8]) -> bool
     ensures { result ≡ list_any (λ b. b == byte) block.now }
 {
@@ -155,8 +158,8 @@ fn has_byte(byte: u8, block: &[u8]) -> bool
     found
 }
 
-/// How far the text after an opening quote extends. The first `front` bytes are known to be
-/// unmarked.
+/// Returns the extent of the string that follows an opening quote, given that the first `front`
+/// bytes need not be checked.
 fn span_after(quote: u8, bytes: &[u8], front: usize) -> Span
     requires within { front ≤ length bytes.now }
     requires unmarked { list_any (is_mark quote) (take front bytes.now) ≡ false }
@@ -179,7 +182,8 @@ fn span_after(quote: u8, bytes: &[u8], front: usize) -> Span
     Span::Breaks(at)
 }
 
-/// The token that a sign begins, and its length in bytes, given the byte after the sign's first.
+/// Returns the token that a sign begins and the length of the token in bytes, given the first byte
+/// of the sign and the byte after it.
 fn sign(first: u8, second: Option<u8>) -> Option<(Token<'static>, usize)>
     ensures sign { SignIs first second result }
     ensures clean { IfSome result (λ p. IsClean (token_of p.0)) }
@@ -201,7 +205,7 @@ fn sign(first: u8, second: Option<u8>) -> Option<(Token<'static>, usize)>
     }
 }
 
-/// The front of a text that begins with this quote.
+/// Splits off the quoted string that the text begins with.
 fn quoted_front(quote: u8, text: &str) -> Front<'_>
     requires nonempty { 0 < length text.now }
     requires first { slice_index text.now 0 ≡ quote }
@@ -221,14 +225,14 @@ fn quoted_front(quote: u8, text: &str) -> Front<'_>
     }
 }
 
-/// The byte at an index.
+/// Returns the byte at an index.
 fn byte_at(bytes: &[u8], i: usize) -> Option<u8>
     ensures { result ≡ slice_get bytes.now i }
 {
     bytes.get(i).copied()
 }
 
-/// The front of a text that begins with this sign or with a NUL.
+/// Splits off the sign that the text begins with. If the text begins with a NUL, no token is found.
 fn sign_front(first: u8, text: &str) -> Front<'_>
     requires nonempty { 0 < length text.now }
     requires first { slice_index text.now 0 ≡ first }
@@ -248,7 +252,7 @@ fn sign_front(first: u8, text: &str) -> Front<'_>
     }
 }
 
-/// The front of a text that begins with a word.
+/// Splits off the word that the text begins with.
 fn word_front(text: &str) -> Front<'_>
     requires nonempty { 0 < length text.now }
     requires separator { is_separator (slice_index text.now 0) ≡ false }
@@ -267,7 +271,7 @@ fn word_front(text: &str) -> Front<'_>
     }
 }
 
-/// The front of a text that isn't empty.
+/// Splits off the separator or token that nonempty text begins with.
 pub(crate) fn split_front(text: &str) -> Front<'_>
     requires { 0 < length text.now }
     ensures front { IsFront text.now result }

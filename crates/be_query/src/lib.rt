@@ -1,9 +1,9 @@
-//! The query language: it turns texts and predicates into trees of comparisons.
+//! The query language: turns query text and predicates into trees of comparisons.
 //!
-//! A query is a tree whose leaves compare an attribute with a literal, and whose inner nodes are
-//! `&&` and `||`. A `!` is carried down to the leaves while the tree is built. `parse` reads a
-//! query from text, `from_rpn` from items in reverse Polish order, and `print` returns its
-//! canonical text. docs/QUERIES.md shows the language by example.
+//! A query is a tree. Its leaves compare an attribute with a literal, and its inner nodes are `&&`
+//! and `||`. A `!` is pushed down to the leaves while the tree is built. `parse` reads a query from
+//! text, `from_rpn` from items in reverse Polish notation, and `print` returns the canonical text
+//! of a query. docs/QUERIES.md shows the language by example.
 #![tactic(auto)]
 
 pub mod laws;

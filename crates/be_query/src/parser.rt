@@ -1,10 +1,11 @@
-//! Reads a query's tokens from the left. Each open `(` has a level. The level keeps the left sides
-//! of `||` and `&&` that wait for their right sides, and counts the `!` that wait for their
-//! operand.
+//! Reads the tokens of a query from left to right.
 //!
-//! A `!` is applied while its operand is read: inside an odd number of them, each comparison and
-//! each joint is built as its complement. So nothing here recurses, and no finished tree is visited
-//! again.
+//! Every open `(` has a level, which holds the left sides of those `||` and `&&` that still need
+//! their right sides, and counts the `!` that still need their operand.
+//!
+//! A `!` is applied while its operand is read: inside an odd number of `!`, each comparison and
+//! each connective is built as its complement. Nothing here recurses, and no finished tree is
+//! visited again.
 ghost use Rattle.std.specs.Prelude.{false, true, ℕ, ◌≡◌, MatchOption, IfNone, IfSome, [], ◌++◌};
 ghost use Rattle.std.specs.Prelude.{encode_utf8, string_bytes, Some, None};
 ghost use Rattle.std.specs.Prelude.{IfOk, IfErr, ◌<◌, ◌≤◌, ◌+◌, ◌^◌, length};
@@ -29,16 +30,16 @@ use be_value::{Name, Refusal};
 use std::alloc::{AllocError, Global};
 use std::mem;
 
-/// How many `(` and `!` may be open at once.
+/// The maximum number of `(` and `!` that may be open at a time.
 const MAX_OPEN: usize = 64;
 
-/// The longest name, in bytes.
+/// The maximum length of a name in bytes.
 const MAX_NAME: usize = 63;
 
-/// How many comparisons a query may have.
+/// The maximum number of comparisons in a query.
 pub(crate) const MAX_COMPARISONS: usize = 256;
 
-/// What is unfinished inside one pair of parentheses.
+/// The unfinished parts inside one pair of parentheses.
 #[derive(Drop)]
 pub(crate) struct Level {
     /// Whether an odd number of `!` applies to the level.
@@ -49,12 +50,13 @@ pub(crate) struct Level {
     or_left: Option<Box<Tree>>,
     /// The left side of an unfinished `&&`.
     and_left: Option<Box<Tree>>,
-    /// How many `!` wait for their operand.
+    /// The number of `!` that still need their operand.
     negations: usize,
 }
 
-/// What may come next, with the name or tree read so far. A name is kept as the text has it,
-/// because that is cheap to move. The `Name` is made once its comparison is complete.
+/// What may come next, along with the name or tree that has been read. A name is kept as it appears
+/// in the text, because that is cheap to move. The `Name` is created only when its comparison is
+/// complete.
 #[derive(Drop)]
 pub(crate) enum Stage<'a> {
     Operand,
@@ -63,18 +65,18 @@ pub(crate) enum Stage<'a> {
     Joint(Box<Tree>),
 }
 
-/// What is open around the next token.
+/// The levels and counts that are open around the next token.
 #[derive(Drop)]
 pub(crate) struct Context {
     level: Level,
-    /// The levels around the innermost one, outermost first.
+    /// The levels around the innermost one, from the outermost to the innermost.
     outer: Vec<Level>,
-    /// How many `(` and `!` are open.
+    /// The number of open `(` and `!`.
     depth: usize,
     comparisons: usize,
 }
 
-/// A query that has been read up to some token.
+/// The state after reading a query up to some token.
 #[derive(Drop)]
 pub(crate) struct Parser<'a> {
     pub(crate) stage: Stage<'a>,
@@ -82,7 +84,7 @@ pub(crate) struct Parser<'a> {
 }
 
 impl Level {
-    /// An empty level, inside an odd number of `!` if `negated`.
+    /// Creates an empty level. `negated` says whether it is inside an odd number of `!`.
     fn new(negated: bool) -> Level
         ensures { level_seen result ≡ fresh negated }
     {
@@ -100,7 +102,8 @@ impl<'a> Stage<'a> {
     ghost use Rattle.be_query.specs.Faults.{broken_at};
     ghost use Rattle.be_query.specs.Building.{awaited_at};
 
-    /// The error of a name or value that begins at `at` and breaks off `len` bytes after its first.
+    /// Returns the error for a name or value that begins at `at` and is cut off `len` bytes after
+    /// its first byte.
     pub(crate) fn broken(&self, at: usize, len: usize) -> Refusal
         requires { at + len < 2 ^ 64 }
         ensures { result ≡ Refusal.Syntax (broken_at (awaited_at (stage_of self.now)) at len) }
@@ -119,7 +122,7 @@ impl Context {
     ghost use Rattle.be_query.specs.Faults.{ends};
     ghost use Rattle.be_query.specs.View.{outer_of};
 
-    /// Takes the token at `at`, whose text begins at `start`, and returns what may come next.
+    /// Accepts the token at `at`, whose own text begins at `start`, and returns what may come next.
     pub(crate) fn take<'a>(
         &mut self,
         alloc: Global,
@@ -144,7 +147,8 @@ impl Context {
         }
     }
 
-    /// Returns the tree at the end of a text of `len` bytes. No token may be taken after it.
+    /// Returns the tree at the end of the text, which is `len` bytes long. No token may be accepted
+    /// after this.
     pub(crate) fn finish(
         &mut self,
         alloc: Global,
@@ -178,7 +182,7 @@ impl<'a> Parser<'a> {
     ghost use Rattle.be_query.specs.Building.{nothing_built};
     ghost use Rattle.be_query.specs.View.{parser_state};
 
-    /// The parser at the start of a text.
+    /// Creates a parser at the start of the text.
     pub(crate) fn new(alloc: Global) -> Parser<'a>
         ensures counted { IsCounted (stage_of result.stage) result.context }
         ensures start { parser_state result ≡ nothing_built }
@@ -197,7 +201,7 @@ impl<'a> Parser<'a> {
     }
 }
 
-/// Takes a token where an operand begins.
+/// Accepts a token where an operand begins.
 fn take_operand<'a>(
     alloc: Global,
     context: &mut Context,
@@ -242,7 +246,7 @@ fn take_operand<'a>(
     }
 }
 
-/// Takes a token where an operator has to come.
+/// Accepts a token where an operator must follow.
 fn take_operator<'a>(
     raw: &'a str,
     context: &mut Context,
@@ -262,7 +266,7 @@ fn take_operator<'a>(
     }
 }
 
-/// Takes a token where a value has to come. Its text begins at `start`.
+/// Accepts a token where a value must follow. The token's own text begins at `start`.
 fn take_value<'a>(
     alloc: Global,
     name: &'a str,
@@ -303,7 +307,7 @@ fn take_value<'a>(
     Ok(Stage::Joint(tree))
 }
 
-/// Takes a token after an operand.
+/// Accepts a token after an operand.
 fn take_joint<'a>(
     alloc: Global,
     tree: Box<Tree>,
@@ -344,8 +348,8 @@ fn take_joint<'a>(
 }
 
 #[tactic(auto, using(crate::proofs::Short::short_name))]
-/// Whether a text without a NUL encodes a name. Resolving backslashes only shortens a text, so a
-/// text of 1 to 63 bytes needn't be resolved.
+/// Returns `true` if `raw`, which contains no NUL, encodes a name. Unescaping only shortens a
+/// string, so one of 1 to 63 bytes doesn't have to be unescaped.
 fn encodes_name(alloc: Global, raw: &str) -> Result<bool, AllocError>
     requires { has_nul raw.now ≡ false }
     ensures { IfOk result (λ b. is_name raw.now ≡ b) }
@@ -361,7 +365,7 @@ fn encodes_name(alloc: Global, raw: &str) -> Result<bool, AllocError>
     }
 }
 
-/// The name that a text encodes, if it encodes one.
+/// Returns the name that `raw` encodes, if it encodes one.
 fn read_name(alloc: Global, raw: &str) -> Result<Option<Name>, AllocError>
     ensures { IfOk result (λ o. MatchOption o (is_name raw.now ≡ false)
         (λ n. (n ≡ plain raw.now) × (is_name raw.now ≡ true))) }
@@ -373,7 +377,7 @@ fn read_name(alloc: Global, raw: &str) -> Result<Option<Name>, AllocError>
     Ok(name_of(&text))
 }
 
-/// The text as a name, if it is one.
+/// Returns the string as a name, if it is a valid one.
 fn name_of(text: &str) -> Option<Name>
     ensures { MatchOption result (is_ok (name_from text.now) ≡ false)
         (λ n. (n ≡ text.now) × (is_ok (name_from text.now) ≡ true)) }
@@ -384,14 +388,14 @@ fn name_of(text: &str) -> Option<Name>
     }
 }
 
-/// Whether the text has no backslash.
+/// Returns `true` if the string contains no backslash.
 fn is_plain(raw: &str) -> bool
     ensures { result ≡ true → plain raw.now ≡ raw.now }
 {
     !raw.as_bytes().contains(&b'\\')
 }
 
-/// The first character, with its backslash resolved, and the text after it.
+/// Returns the first character, unescaped, and the text after it.
 fn split_plain(text: &str) -> Option<(char, &str)>
     ensures none { IfNone result (plain text.now ≡ []) }
     ensures some { IfSome result (λ p. plain text.now ≡ encode_utf8 p.0 ++ plain p.1.now) }
@@ -409,7 +413,7 @@ fn split_plain(text: &str) -> Option<(char, &str)>
     }
 }
 
-/// The text with its backslashes resolved.
+/// Returns the string with its backslashes resolved.
 fn unescape(alloc: Global, raw: &str) -> Result<String, AllocError>
     ensures { IfOk result (λ s. string_bytes s ≡ plain raw.now) }
 {
@@ -425,7 +429,7 @@ fn unescape(alloc: Global, raw: &str) -> Result<String, AllocError>
     Ok(text)
 }
 
-/// The pattern that a value encodes, or the place of its error.
+/// Returns the pattern that a value encodes, or the position of the error in it.
 fn read_pattern(alloc: Global, raw: &str) -> Result<Result<Pattern, usize>, AllocError>
     ensures { IfOk result (λ r. (pattern (chars raw.now) ≡ r)
         × IfErr r (λ at. at ≤ length raw.now)) }
@@ -437,7 +441,7 @@ fn read_pattern(alloc: Global, raw: &str) -> Result<Result<Pattern, usize>, Allo
     }
 }
 
-/// The literal that a value encodes, or the place of its pattern's error.
+/// Returns the literal that a value encodes, or the position of the error in its pattern.
 pub(crate) fn read_literal(
     alloc: Global,
     op: Cmp,
@@ -460,14 +464,14 @@ pub(crate) fn read_literal(
     }
 }
 
-/// A comparison's operator, or its opposite inside an odd number of `!`.
+/// Returns the operator of a comparison, or its opposite if it is inside an odd number of `!`.
 fn turned_operator(negated: bool, op: Cmp) -> Cmp
     ensures { result ≡ turned_operator negated op }
 {
     if negated { op.opposite() } else { op }
 }
 
-/// Ends an operand, and with it the `!` and the `&&` that waited for it.
+/// Completes an operand, together with the `!` and the `&&` that were open for it.
 fn end_operand(
     alloc: Global,
     level: &mut Level,
@@ -486,7 +490,7 @@ fn end_operand(
     }
 }
 
-/// Ends a side of `||`.
+/// Completes a side of `||`.
 fn end_side(alloc: Global, level: &mut Level, side: Box<Tree>) -> Result<Box<Tree>, AllocError>
     ensures tree { IfOk result (λ t. formula t.value
         ≡ with_side (formula side.value) (level_seen level.old)) }

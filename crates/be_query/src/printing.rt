@@ -1,4 +1,4 @@
-//! Prints a query's canonical text. It has parentheses only where the tree needs them.
+//! Prints the canonical text of a query, with parentheses only where the tree needs them.
 ghost use Rattle.std.specs.Prelude.{◌≡◌, ◌++◌, ◌<◌, [], length, IfOk, IfErr, string_bytes};
 ghost use Rattle.be_value.specs.declared.refusals.Refusal.TheVariants.{OutOfMemory};
 ghost use Rattle.be_query.specs.Printing.{or_text, leaf_text, cmp_text, literal_text};
@@ -12,7 +12,7 @@ use be_pattern::matching::split_first_char;
 use be_value::Refusal;
 use std::alloc::{AllocError, Global};
 
-/// The place at which a tree is printed, which decides whether it needs parentheses.
+/// The context in which a tree is printed. It determines whether the tree needs parentheses.
 #[derive(Clone, Copy, Debug, PartialEq, Eq)]
 pub(crate) enum Place {
     /// On its own, or to the left of `||`.
@@ -23,17 +23,18 @@ pub(crate) enum Place {
     Operand,
 }
 
-/// The query's canonical text: each comparison as `"name"op"value"`, joined by ` && ` and ` || `.
+/// Returns the canonical text of the query: each comparison in the form `"name"op"value"`, joined
+/// by ` && ` and ` || `.
 ///
-/// `parse` reads the text back unless it exceeds a limit: it may have more than 4,096 bytes, or
-/// more than 64 parentheses around a comparison. Printing recurses on the tree's joints, of which a
-/// query has at most 255.
+/// `parse` can read the text back unless it exceeds a limit: it may be longer than 4,096 bytes, or
+/// have more than 64 parentheses around a comparison. Printing recurses on the inner nodes of the
+/// tree, of which a query has at most 255.
 pub fn print(alloc: Global, query: &Query) -> Result<String, Refusal>
-    // It is the tree's canonical text,
+    // The result is the canonical text of the tree.
     ensures text { IfOk result (λ s. string_bytes s ≡ or_text query.now) }
-    // which encodes the tree
+    // The text encodes the tree.
     ensures parses { IfOk result (λ s. IsTextOf (string_bytes s) query.now) }
-    // and no other tree.
+    // The text encodes no other tree.
     ensures alone { IfOk result (λ s. (tree : Formula) → IsTextOf (string_bytes s) tree → tree
         ≡ query.now) }
     ensures err { IfErr result (λ e. e ≡ OutOfMemory) }
@@ -43,7 +44,7 @@ pub fn print(alloc: Global, query: &Query) -> Result<String, Refusal>
     Ok(text)
 }
 
-/// The canonical text of one comparison, as it appears in the query's.
+/// Returns the canonical text of one comparison, just as it appears in that of the query.
 pub fn print_comparison(alloc: Global, comparison: &Comparison) -> Result<String, Refusal>
     ensures ok { IfOk result (λ s. string_bytes s
         ≡ leaf_text comparison.now.name comparison.now.op (literal comparison.now.literal)) }
@@ -54,7 +55,7 @@ pub fn print_comparison(alloc: Global, comparison: &Comparison) -> Result<String
     Ok(text)
 }
 
-/// Appends a tree, with the parentheses that it needs at this place.
+/// Appends a tree, with the parentheses that it needs in this context.
 fn push_tree(alloc: Global, text: &mut String, tree: &Tree, place: Place) -> Result<(), Refusal>
     ensures ok { IfOk result (λ _. string_bytes text.new ≡ string_bytes text.old
         ++ printed_at place (formula tree.now)) }
@@ -83,7 +84,7 @@ fn push_tree(alloc: Global, text: &mut String, tree: &Tree, place: Place) -> Res
     }
 }
 
-/// Appends a text if `shown`.
+/// Appends `piece` if `shown` is `true`.
 fn push_if(text: &mut String, shown: bool, piece: &str) -> Result<(), AllocError>
     ensures { IfOk result (λ _. string_bytes text.new ≡ string_bytes text.old
         ++ only_if shown piece.now) }
@@ -111,7 +112,7 @@ fn push_comparison(alloc: Global, text: &mut String, comparison: &Comparison) ->
     Ok(())
 }
 
-/// The text of an operator.
+/// Returns the text of an operator.
 fn sign_of(op: Cmp) -> &'static str
     ensures { result.now ≡ cmp_text op }
 {
@@ -144,7 +145,7 @@ fn push_value(alloc: Global, text: &mut String, value: &Literal) -> Result<(), R
     }
 }
 
-/// Appends a text with a backslash before each `"` and `\`.
+/// Appends a string with a backslash before every `"` and `\`.
 fn push_escaped(text: &mut String, piece: &str) -> Result<(), AllocError>
     ensures { IfOk result (λ _. string_bytes text.new ≡ string_bytes text.old
         ++ with_backslashes piece.now) }
@@ -158,7 +159,7 @@ fn push_escaped(text: &mut String, piece: &str) -> Result<(), AllocError>
     Ok(())
 }
 
-/// Whether a character is printed with a backslash.
+/// Returns `true` if the character is printed with a backslash.
 fn wants_backslash(c: char) -> bool
     ensures { result ≡ wants_backslash c }
 {

@@ -1,5 +1,7 @@
-//! Queries, and reading them from text. Tokens are read one by one from the left. The first that
-//! can't follow, or has an error of its own, is reported with its byte.
+//! Queries, and how they are read from text.
+//!
+//! Tokens are read one by one from left to right. The first token that can't follow, or that is
+//! itself in error, is reported with its byte offset.
 ghost use Rattle.std.specs.Prelude.{◌≡◌, ◌≤◌, None, Some, IfOk, IfErr};
 ghost use Rattle.be_query.specs.Faults.{fault};
 ghost use Rattle.be_query.specs.Grammar.{IsTextOf, comparisons};
@@ -13,11 +15,11 @@ use be_value::Refusal;
 use std::alloc::Global;
 use std::marker::Model;
 
-/// The longest text of a query, in bytes.
+/// The maximum length of a query's text in bytes.
 const MAX_LEN: usize = 4096;
 
-/// A query: a tree of at most 256 comparisons whose names and values a canonical text can encode. A
-/// contract sees the tree, without its place in memory.
+/// A query: a tree of at most 256 comparisons whose names and values can be encoded in a canonical
+/// text. Contracts view it as the tree, regardless of where it is stored.
 #[derive(Debug, Drop)]
 pub struct Query {
     pub(crate) tree: Box<Tree>,
@@ -41,7 +43,7 @@ impl Model for Query {
 }
 
 impl Query {
-    /// The tree, borrowed.
+    /// Borrows the tree.
     pub fn tree(&self) -> &Tree
         ensures tree { formula result.now ≡ self.now }
         ensures few { comparisons self.now ≤ 256 }
@@ -51,25 +53,28 @@ impl Query {
     }
 }
 
-/// Reads the query that a text encodes.
+/// Parses the text of a query.
 ///
-/// A text of more than 4,096 bytes is `TooLong`, whatever it contains. Otherwise the first error
-/// from the left is returned, with its byte in the text. It is `Syntax` at a token that can't
-/// follow, or at the end of a text that ends too soon. It is `BadPattern` at the `[` of a faulty
-/// set, and `TooMany` at the 257th comparison. It is `TooDeep` at a `(` or `!` inside 64 open ones.
+/// Text of more than 4,096 bytes is `TooLong`, whatever it contains. Otherwise the leftmost error
+/// is returned, with its byte offset:
+///
+/// - `Syntax` at a token that can't follow, or at the end of text that ends too soon
+/// - `BadPattern` at the `[` of an invalid set
+/// - `TooMany` at the 257th comparison
+/// - `TooDeep` at a `(` or `!` inside 64 open ones
 ///
 /// The text is read once, in a loop, and no tree is visited again: a `!` costs no more than any
-/// other token. Nothing recurses, whatever the text is, not even when an error drops the trees
-/// built so far.
+/// other token. Nothing recurses, whatever the text contains, not even when an error drops the
+/// trees that have been built.
 ///
-/// Memory is allocated for a name's text if it has a backslash, and also if it has more than 63
-/// bytes before backslashes are resolved. It is allocated for a value's text, and for a pattern
-/// that uses its notation: its tokens, and each set. It is allocated for each comparison, and for
-/// each joint when it ends.
+/// Memory is allocated for a name if it contains a backslash or is longer than 63 bytes before
+/// unescaping. It is also allocated for every value; for a pattern that uses pattern notation,
+/// including each of its sets; for every comparison; and for every connective when its right side
+/// is complete.
 pub fn parse(alloc: Global, text: &str) -> Result<Query, Refusal>
-    // A text without an error is a sentence of the grammar, and this is its tree.
+    // Text without an error is a sentence of the grammar, and this is its tree.
     ensures ok { IfOk result (λ q. (fault text.now ≡ None) × IsTextOf text.now q) }
-    // The error is the text's, unless memory ran out.
+    // The error is that of the text, unless memory ran out.
     ensures err { IfErr result (λ e. IsMemory e (fault text.now ≡ Some e)) }
 {
     if text.len() > MAX_LEN {

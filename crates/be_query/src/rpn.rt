@@ -1,4 +1,6 @@
-//! Builds queries from items in reverse Polish order, using a stack (like `BQuery` in the Be Book).
+//! Builds queries from items in reverse Polish notation.
+//!
+//! The items operate on a stack (like `BQuery` in the Be Book).
 ghost use Rattle.std.specs.Prelude.{◌≡◌, ◌≤◌, ℕ, ◌∷◌, Ok, Err, Some, None, IfOk, IfErr};
 ghost use Rattle.std.specs.Prelude.{MatchOption, map, string_bytes};
 ghost use Rattle.be_query.specs.Building.{conjunction};
@@ -20,10 +22,10 @@ use be_pattern::Pattern;
 use be_value::{Name, Refusal};
 use std::alloc::{AllocError, Global};
 
-/// How many things may be on the stack after an item.
+/// The maximum number of things on the stack after an item.
 const MAX_THINGS: usize = 64;
 
-/// An item of a predicate in reverse Polish order.
+/// An item of a predicate in reverse Polish notation.
 #[derive(Drop)]
 pub enum Item {
     Attr(Name),
@@ -36,11 +38,11 @@ pub enum Item {
     Le,
     Gt,
     Ge,
-    /// The attribute contains the text.
+    /// The attribute contains the string.
     Contains,
-    /// The attribute begins with the text.
+    /// The attribute begins with the string.
     BeginsWith,
-    /// The attribute ends with the text.
+    /// The attribute ends with the string.
     EndsWith,
     And,
     Or,
@@ -55,26 +57,27 @@ pub(crate) enum Thing {
     Whole(Tree),
 }
 
-/// The stack, and how many comparisons have been built.
+/// The stack, and the number of comparisons that have been built.
 #[derive(Drop)]
 pub(crate) struct Stack {
     things: Vec<Thing>,
     comparisons: usize,
 }
 
-/// The query that the items build.
+/// Builds the query that the items describe.
 ///
-/// `BadRpn` has the index of an item that doesn't find what it needs on the stack, or of a text
-/// with a NUL. If the items leave anything but one query, it has the number of items. `BadPattern`
-/// has the index of the comparison's item.
+/// `BadRpn` and `BadPattern` contain the index of an item, counting from 0. `BadRpn` is returned
+/// for an item whose operands aren't on the stack, and for a string that contains a NUL. If the
+/// items leave anything other than a single query on the stack, its index is the number of items.
+/// `BadPattern` is returned for a comparison with an invalid pattern.
 ///
-/// If one item has several errors, the first of these is returned: `BadRpn`, `BadPattern`,
-/// `TooMany`, `TooDeep`. `TooMany` means that it is the 257th comparison, and `TooDeep` that there
-/// are more than 64 things on the stack.
+/// `TooMany` is returned for the 257th comparison, and `TooDeep` if there are more than 64 things
+/// on the stack. If one item causes several errors, `BadRpn` takes precedence over `BadPattern`,
+/// then `TooMany`, then `TooDeep`.
 pub fn from_rpn(alloc: Global, items: &[Item]) -> Result<Query, Refusal>
     // The tree is the one that the items build.
     ensures ok { IfOk result (λ q. rpn (map item_of items.now) ≡ Ok q) }
-    // The error is the items', unless memory ran out.
+    // The error is that of the items, unless memory ran out.
     ensures err { IfErr result (λ e. IsMemory e (rpn (map item_of items.now) ≡ Err e)) }
 {
     let mut stack = Stack {
@@ -90,7 +93,7 @@ pub fn from_rpn(alloc: Global, items: &[Item]) -> Result<Query, Refusal>
     Ok(Query { tree })
 }
 
-/// States what holds of every item. It does nothing.
+/// States facts that hold for every item. This function does nothing.
 fn know_item(item: &Item)
     ensures { ItemClean (item_of item.now) }
 {
@@ -120,14 +123,14 @@ fn know_item(item: &Item)
     }
 }
 
-/// States what holds of a number's decimal text. It does nothing.
+/// States facts that hold for the decimal form of a number. This function does nothing.
 fn know_uint(n: u64)
     ensures { ItemClean (Number (decimal n)) }
 {
     let _n = n;
 }
 
-/// The tree that is left after `len` items.
+/// Returns the tree that is left after `len` items.
 fn finish(stack: &mut Stack, len: usize) -> Result<Tree, Refusal>
     ensures ok { IfOk result (λ t. one_tree len (stack_of stack.old).1 ≡ Ok (formula t)) }
     ensures err { IfErr result (λ e. one_tree len (stack_of stack.old).1 ≡ Err e) }
@@ -192,7 +195,7 @@ fn work(alloc: Global, stack: &mut Stack, at: usize, item: &Item) -> Result<(), 
     }
 }
 
-/// Whether the text has a NUL.
+/// Returns `true` if the string contains a NUL.
 fn has_nul(text: &str) -> bool
     ensures { result ≡ has_nul text.now }
 {
@@ -209,7 +212,7 @@ fn push(stack: &mut Stack, thing: Thing) -> Result<(), Refusal>
     Ok(())
 }
 
-/// Pushes a comparison onto the stack, and counts it.
+/// Pushes a comparison onto the stack and counts it.
 fn push_comparison(stack: &mut Stack, comparison: Comparison) -> Result<(), Refusal>
     ensures ok { IfOk result (λ _. counts (stack_of stack.old).0
         (Leaf comparison.name comparison.op (literal comparison.literal)) (stack_of stack.old).1
@@ -226,7 +229,7 @@ fn push_comparison(stack: &mut Stack, comparison: Comparison) -> Result<(), Refu
     Ok(())
 }
 
-/// Compares the attribute on the stack with the value above it.
+/// Pops a value and the attribute below it, and pushes their comparison.
 fn compare(alloc: Global, stack: &mut Stack, at: usize, op: Cmp) -> Result<(), Refusal>
     ensures ok { IfOk result (λ _. compares at (stack_of stack.old).0 op
         (top_comparison (stack_of stack.old).1) ≡ Ok (stack_of stack.new)) }
@@ -243,8 +246,8 @@ fn compare(alloc: Global, stack: &mut Stack, at: usize, op: Cmp) -> Result<(), R
     push_comparison(stack, Comparison { name, op, literal })
 }
 
-/// The literal that a text is compared as. `==` and `!=` take a pattern, or return the place of its
-/// error. An order operator takes the text as it is.
+/// Returns the literal for a value. For `==` and `!=` it is a pattern, or the position of the error
+/// in the pattern. For an order operator it is the string as it is.
 fn given_literal(alloc: Global, op: Cmp, text: String) -> Result<Result<Literal, usize>, AllocError>
     ensures ok { IfOk result (λ r. IfOk r
         (λ l. (literal l ≡ given_literal op (string_bytes text))
@@ -258,8 +261,9 @@ fn given_literal(alloc: Global, op: Cmp, text: String) -> Result<Result<Literal,
     }
 }
 
-/// Compares the attribute with the literal text above it, with a `*` before it if `before` and
-/// after it if `beyond`.
+/// Pops a value and the attribute below it, and pushes an `==` comparison of the attribute with a
+/// pattern. The pattern is the literal string, with a `*` before it if `before` is `true` and one
+/// after it if `beyond` is `true`.
 fn surround(
     alloc: Global,
     stack: &mut Stack,
@@ -281,7 +285,7 @@ fn surround(
     push_comparison(stack, Comparison { name, op, literal })
 }
 
-/// Joins the two trees on top, by `||` or by `&&`.
+/// Joins the two topmost trees by `||` or `&&`.
 fn join(alloc: Global, stack: &mut Stack, at: usize, either: bool) -> Result<(), Refusal>
     ensures ok { IfOk result (λ _. joins at (stack_of stack.old).0 (conjunction either)
         (top_trees (stack_of stack.old).1) ≡ Ok (stack_of stack.new)) }
@@ -296,7 +300,7 @@ fn join(alloc: Global, stack: &mut Stack, at: usize, either: bool) -> Result<(),
     push(stack, Thing::Whole(tree))
 }
 
-/// Replaces the tree on top by its complement.
+/// Replaces the topmost tree with its complement.
 fn turn(alloc: Global, stack: &mut Stack, at: usize) -> Result<(), Refusal>
     ensures ok { IfOk result (λ _. complements at (stack_of stack.old).0
         (top_tree (stack_of stack.old).1) ≡ Ok (stack_of stack.new)) }
@@ -349,7 +353,7 @@ fn pop_tree(things: &mut Vec<Thing>) -> Option<Tree>
     }
 }
 
-/// Pops a value, and then the attribute below it.
+/// Pops a value and then the attribute below it.
 fn pop_comparison(things: &mut Vec<Thing>) -> Option<(Name, String)>
     ensures { MatchOption result (top_comparison (things_of things.old.items) ≡ None)
         (λ p. top_comparison (things_of things.old.items)
@@ -360,7 +364,7 @@ fn pop_comparison(things: &mut Vec<Thing>) -> Option<(Name, String)>
     Some((name, text))
 }
 
-/// Pops two trees, and returns the lower one first.
+/// Pops two trees and returns the lower one first.
 fn pop_trees(things: &mut Vec<Thing>) -> Option<(Tree, Tree)>
     ensures { MatchOption result (top_trees (things_of things.old.items) ≡ None)
         (λ p. top_trees (things_of things.old.items)

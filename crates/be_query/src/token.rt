@@ -2,7 +2,7 @@
 
 use crate::tree::Cmp;
 
-/// A token. A name or value is kept as the text has it, without its quotes.
+/// A token. A name or value is kept as it appears in the text, without its quotes.
 #[derive(Clone, Copy)]
 pub(crate) enum Token<'a> {
     Open,

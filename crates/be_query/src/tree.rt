@@ -1,4 +1,4 @@
-//! A query's tree: comparisons under `&&` and `||`.
+//! The tree of a query: comparisons under `&&` and `||`.
 //!
 //! It never contains a `!`, because the complement of a tree is also a tree.
 ghost use Rattle.std.specs.Prelude.{◌≡◌, ◌<◌, true, false, IfOk};
@@ -11,7 +11,7 @@ use be_value::Name;
 use std::alloc::{AllocError, Global};
 use std::mem;
 
-/// A comparison's operator.
+/// The operator of a comparison.
 #[derive(Clone, Copy, Debug, PartialEq, Eq)]
 pub enum Cmp {
     Eq,
@@ -39,7 +39,7 @@ pub struct Comparison {
     pub literal: Literal,
 }
 
-/// Comparisons under `&&` and `||`. It is dropped in a loop: dropping never recurses, however deep
+/// Comparisons under `&&` and `||`. A tree is dropped in a loop, which never recurses, however deep
 /// the tree is.
 #[derive(Debug)]
 pub enum Tree {
@@ -49,7 +49,7 @@ pub enum Tree {
 }
 
 impl Cmp {
-    /// The operator that is true exactly if this one is false.
+    /// Returns the operator that is true if and only if this one is false.
     pub fn opposite(self) -> Cmp
         ensures { result ≡ opposite self }
     {
@@ -65,8 +65,8 @@ impl Cmp {
 }
 
 impl Drop for Tree {
-    /// Turns the joints on the left to the right, one by one, and drops each comparison that
-    /// becomes a left side. This takes at most two rounds for each joint.
+    /// Rotates the inner nodes on the left to the right, one at a time, and drops each comparison
+    /// that becomes a left side. This takes at most two rounds per inner node.
     fn drop(mut self) {
         'joints: loop {
             if turn(&mut self) {
@@ -87,8 +87,9 @@ impl Drop for Tree {
     }
 }
 
-/// If a joint's left side is a joint, makes that the joint's right side. It returns whether it did.
-/// The comparisons keep their order, but the joints no longer join the same trees.
+/// If the left side of an inner node is itself an inner node, rotates it to the right side, and
+/// returns `true`. The comparisons keep their order, but the inner nodes no longer join the same
+/// trees.
 fn turn(tree: &mut Tree) -> bool
     ensures turned { result ≡ true → rounds (formula tree.new) < rounds (formula tree.old) }
     ensures kept { result ≡ false → formula tree.new ≡ formula tree.old }
@@ -101,7 +102,7 @@ fn turn(tree: &mut Tree) -> bool
     }
 }
 
-/// Does this for the two sides of a joint.
+/// Does what `turn` does, given the two sides of an inner node.
 fn turn_sides(left: &mut Box<Tree>, right: &mut Box<Tree>) -> bool
     ensures turned { result ≡ true → rounds (And (formula left.new.value) (formula right.new.value))
         < rounds (And (formula left.old.value) (formula right.old.value)) }
@@ -131,7 +132,7 @@ fn turn_sides(left: &mut Box<Tree>, right: &mut Box<Tree>) -> bool
 impl Tree {
     ghost use Rattle.be_query.specs.Building.{conjunction};
 
-    /// Two sides joined by `||`, or by `&&`.
+    /// Joins two sides by `||` or `&&`.
     pub(crate) fn joined(either: bool, left: Box<Tree>, right: Box<Tree>) -> Tree
         ensures { formula result ≡ conjunction either (formula left.value) (formula right.value) }
     {
@@ -152,8 +153,8 @@ impl Tree {
         }
     }
 
-    /// The tree that is true exactly if this one is false. It recurses on the tree's joints, of
-    /// which `from_rpn` allows at most 255, and builds each of them anew.
+    /// Returns the tree that is true if and only if this one is false. It recurses on the inner
+    /// nodes of the tree, of which `from_rpn` allows at most 255, and rebuilds each of them.
     pub(crate) fn complement(self, alloc: Global) -> Result<Tree, AllocError>
         ensures { IfOk result (λ t. formula t ≡ complement (formula self)) }
     {

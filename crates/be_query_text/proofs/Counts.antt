@@ -1,4 +1,4 @@
--- A query's text has as many places as its tree has comparisons.
+-- The text of a query has as many places as its tree has comparisons.
 use Rattle.std.proofs.Common.{◌≡◌, ℕ, ◌+◌, suc, Bool, true, false, List, [], ◌∷◌, ◌++◌, length, map, refl, sym, ap, ◌∙◌, arith, append_assoc, append-nil}
 use Rattle.be_query.specs.Grammar.{OrPhrase, or_one, or_more, AndPhrase, and_one, and_more, NotPhrase, negation, group, comparison, or_tokens, and_tokens, not_tokens, or_tree, and_tree, not_tree, Formula, Leaf, And, Or, complement, comparisons, IsTextOf}
 use Rattle.be_query.specs.Lexing.{Placed, Lexeme, Whole, Broken, Odd, lexemes, whole}
@@ -6,7 +6,7 @@ use Rattle.be_query.specs.Tokens.{Token, Open, Close, Bang, Both, Either, Compar
 use Rattle.be_query_text.specs.Places.{pieces, pieces_of, three_by_three, places}
 use Rattle.be_query_text.specs.declared.places.Piece as code
 
--- whether a piece is a name or a value, and not an operator
+-- Whether a piece is a name or a value rather than an operator.
 abbrev is_text : code.Piece → Bool
 is_text (code.TheVariants.Text p) = true
 is_text (code.TheVariants.Operator op) = false
@@ -67,7 +67,7 @@ complement_counts (Leaf name op value) = refl
 complement_counts (And l r) = λ i. complement_counts l i + complement_counts r i
 complement_counts (Or l r) = λ i. complement_counts l i + complement_counts r i
 
--- two sides of a joint
+-- The two sides of a connective.
 joined_counts : (xs ys : List Bool) (m n : ℕ) (ms : List Bool) → ((more : List Bool) → threes (xs ++ more) ≡ m + threes more) → ((more : List Bool) → threes (ys ++ more) ≡ n + threes more) → threes ((xs ++ ys) ++ ms) ≡ (m + n) + threes ms
 joined_counts xs ys m n ms h k = ap threes (append_assoc xs ys ms) ∙ h (ys ++ ms) ∙ ap (λ c. m + c) (k ms) ∙ omega arith
 

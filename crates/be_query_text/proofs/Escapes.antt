@@ -1,4 +1,4 @@
--- An escaped text is read back.
+-- An escaped string is read back.
 use Rattle.std.proofs.Common.{◌≡◌, ℕ, ◌+◌, ◌<◌, Bool, true, false, suc, None, Ok, List, [], ◌∷◌, ◌++◌, length, map, get_or, ◌||◌, refl, sym, ap, ◌∙◌, subst, arith, append-nil, IsUtf8}
 use Rattle.std.specs.Prelude.{encode_utf8, encode_utf8_all, not}
 use Rattle.std.specs.Bool.{◌==◌}
@@ -32,7 +32,7 @@ special_ascii b h =
     (is_at b 63 (omega arith)) (or_cases _ _ h3))
     (is_at b 91 (omega arith)) (or_cases _ _ h)
 
--- what holds for a character that needs no backslash
+-- What holds for a character that needs no backslash.
 pub plain_parts : (c : ℕ) → is_special c ≡ false → (((is_separator c || is_quote c) || is_sign c) ≡ false) × ((c == 92) ≡ false) × ((c == 42) ≡ false) × ((c == 63) ≡ false) × ((c == 91) ≡ false)
 plain_parts c h =
     let p3 = or_parts _ _ h in
@@ -76,7 +76,7 @@ pub bytes_escaped : (cs : List ℕ) → escaped (encode_utf8_all cs) ≡ encode_
 bytes_escaped [] = refl
 bytes_escaped (c ∷ cs) = char_escaped c (encode_utf8_all cs) ∙ ap (λ l. encode_utf8_all (escaped_char c) ++ l) (bytes_escaped cs) ∙ sym (encodes-append (escaped_char c) (escaped cs))
 
--- The bytes are a token, and are read as the text again.
+-- The bytes are a token, and reading them yields the string.
 
 pub byte_escapes : (b : ℕ) → (b == 0) ≡ false → Passes (escaped_char b)
 byte_escapes b z = cond_both (is_special b) (92 ∷ b ∷ []) (b ∷ []) Passes (λ w. taken_passes b z) (λ w. byte_passes b (plain_bare b w z))
@@ -153,7 +153,7 @@ escaped_scalars : (cs : List ℕ) → all_scalars cs ≡ true → all_scalars (e
 escaped_scalars [] h = refl
 escaped_scalars (c ∷ cs) h = let p = and_parts _ _ h in char_scalars c (escaped cs) (and_from _ _ p.0 refl) (escaped_scalars cs p.1)
 
--- the bytes encode the text
+-- The bytes encode the string.
 pub encoded : (bytes text : List ℕ) → IsUtf8 text → bytes ≡ encode_utf8_all (escaped (chars text)) → has_nul text ≡ false → Encodes bytes text
 encoded bytes text u e z =
     let same : bytes ≡ escaped text = e ∙ sym (bytes_escaped (chars text)) ∙ ap escaped (encodes-chars text u) in

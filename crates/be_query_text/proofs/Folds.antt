@@ -1,4 +1,4 @@
--- The characters that fold to one character, as the members of a set.
+-- The characters that fold to the same character, as the members of a set.
 use Rattle.std.proofs.Common.{◌≡◌, ◌⊎◌, ℕ, zero, suc, Bool, true, false, ◌||◌, ◌&&◌, nat_le, List, [], ◌∷◌, map, filter, Contains, inl, inr, refl, sym, ap, ◌∙◌, arith}
 use Rattle.std.specs.Prelude.{not}
 use Rattle.std.specs.Bool.{◌==◌}
@@ -13,11 +13,11 @@ use Rattle.ucd_case.specs.FoldOtherRows.{fold_other_rows}
 use Rattle.be_query_text.specs.Encoded.{is_special}
 use Rattle.be_query_text.specs.Cases.{others}
 
--- the second parts of the pairs that begin with this one
+-- The second parts of those pairs that begin with this character.
 abbrev pub others_among : ℕ → List (ℕ × ℕ) → List ℕ
 others_among folded ps = map (λ p. p.1) (filter (λ p. p.0 == folded) ps)
 
--- a member that is one character
+-- A member that is a single character.
 abbrev pub single : ℕ → ℕ × ℕ
 single c = (c, c)
 
@@ -35,7 +35,7 @@ within_single c d h =
 pub single_within : (c : ℕ) → is_within c (single c) ≡ true
 single_within c = and_from (nat_le c c) (nat_le c c) (le-leb c c (omega arith)) (le-leb c c (omega arith))
 
--- c is one of the characters
+-- c is one of the characters.
 abbrev pub is_member : ℕ → List ℕ → Bool
 is_member c ds = list_any (is_within c) (map single ds)
 
@@ -70,7 +70,7 @@ to_member f c (p ∷ ps) (suc k, lt, at) =
     let rest = to_member f c ps (k, omega arith, at) in
     cond_both (p.0 == f) (p ∷ filter (λ q. q.0 == f) ps) (filter (λ q. q.0 == f) ps) (λ l. is_member c (map (λ q. q.1) l) ≡ true) (λ w. right_or _ _ rest) (λ w. rest)
 
--- what folds to a character that folds to itself is that character or one of the others
+-- If f folds to itself, a character folds to f if and only if it is f or one of its others.
 pub fold_member : (f c : ℕ) → IsFoldPairs fold_pairs → simple_fold f ≡ f → is_member c (f ∷ others f) ≡ true → simple_fold c ≡ f
 fold_member f c pairs idem h = ⊎_elim
     (λ v. ap simple_fold (sym (within_single c f v)) ∙ idem)
@@ -83,7 +83,7 @@ member_fold f c pairs idem e = ⊎_elim
     (λ v. right_or _ _ (to_member f c fold_pairs ((pairs f c).1 ((λ k. true≢false (sym (eq-eqb f c k) ∙ v)), idem ∙ sym e))))
     (cases_Bool (f == c))
 
--- The characters of the table need no backslash anywhere.
+-- The characters of the table never need a backslash.
 
 abbrev pub is_plain_char : ℕ → Bool
 is_plain_char c = not (is_special c) && (not (is_special_in_set c) && (not (c == 0) && all_scalars (c ∷ [])))
@@ -95,7 +95,7 @@ pub pairs_plain : are_plain_pairs fold_pairs ≡ true
 unfolding fold_pairs fold_other_rows
 pairs_plain = refl
 
--- each of the others is plain, and so is the first character if there are others
+-- All of the others are plain, and so is the first character if there are others.
 pub others_plain : (f : ℕ) (ps : List (ℕ × ℕ)) → are_plain_pairs ps ≡ true → list_all is_plain_char (others_among f ps) ≡ true
 others_plain f [] h = refl
 others_plain f (p ∷ ps) h =
@@ -122,7 +122,7 @@ contained_plain a b (p ∷ ps) h (zero, lt, at) =
 contained_plain a b (p ∷ ps) h (suc k, lt, at) =
     contained_plain a b ps (and_parts (is_plain_char p.0 && is_plain_char p.1) (are_plain_pairs ps) h).1 (k, omega arith, at)
 
--- a character is its own folding, or its folding is plain
+-- A character is its own folding, or its folding is plain.
 pub folded_plain : (c : ℕ) → IsFoldPairs fold_pairs → simple_fold (simple_fold c) ≡ simple_fold c → (simple_fold c ≡ c) ⊎ (is_plain_char (simple_fold c) ≡ true)
 folded_plain c pairs idem = ⊎_elim
     (λ v. inl (sym (eqb-true c (simple_fold c) v)))

@@ -1,5 +1,5 @@
--- Bytes that are one token, in quotes or not. If a word or a quoted text ends after n bytes, this is written as `shifted n` of
--- the end of an empty word.
+-- Bytes that are one token, in quotes or not. If a word or a quoted string ends after n bytes, this
+-- is written as `shifted n` of the end of an empty word.
 use Rattle.std.proofs.Common.{◌≡◌, ℕ, ◌+◌, ◌<◌, ◌≤◌, Bool, true, false, suc, List, [], ◌∷◌, ◌++◌, length, take, get_or, ◌||◌, refl, sym, ap, ◌∙◌, subst, arith, append_assoc, append-nil, length-append}
 use Rattle.std.specs.Prelude.{encode_utf8, not}
 use Rattle.std.specs.Bool.{◌==◌}
@@ -18,7 +18,7 @@ moved m n e = ap (λ k. shifted k (word_span false [])) e
 one_more : (n : ℕ) → further (shifted n (word_span false [])) ≡ shifted (1 + n) (word_span false [])
 one_more n = let same : n + 0 + 1 ≡ 1 + n + 0 = omega arith in cc
 
--- the bytes are passed as a whole, in quotes and in a word, and can begin a word
+-- The bytes are passed as a whole, both in quotes and in a word, and can begin a word.
 pub record Passes (xs : List ℕ) : Type 0 where
   pub quoted : (q : ℕ) (bs : List ℕ) (n : ℕ) → is_quote q ≡ true → quoted_span q false bs ≡ shifted n (word_span false []) → quoted_span q false (xs ++ bs) ≡ shifted (length xs + n) (word_span false [])
   pub word : (bs : List ℕ) (n : ℕ) → word_span false bs ≡ shifted n (word_span false []) → word_span false (xs ++ bs) ≡ shifted (length xs + n) (word_span false [])
@@ -46,7 +46,7 @@ both_pass xs ys h k = record {
   first = λ b bs e. first_of xs ys h k b bs e;
 }
 
--- the byte can be in a word, and isn't a backslash
+-- The byte can be in a word, and isn't a backslash.
 abbrev pub IsBare : ℕ → Type 0
 IsBare b = (is_word b ≡ true) × ((b == 92) ≡ false)
 
@@ -54,7 +54,7 @@ not_true : (x : Bool) → not x ≡ true → x ≡ false
 not_true true h = absurd (true≢false (sym h))
 not_true false h = refl
 
--- what a byte of a word isn't
+-- What a byte of a word can't be.
 pub record IsOfWord (b : ℕ) : Type 0 where
   pub separator : is_separator b ≡ false
   pub quote : is_quote b ≡ false
@@ -90,7 +90,7 @@ bare_pass (x ∷ xs) h = both_pass (x ∷ []) xs (byte_passes x (h 0 (omega arit
 pair_first : (b c : ℕ) (bs : List ℕ) → 92 ∷ b ∷ [] ≡ c ∷ bs → is_word c ≡ true
 pair_first b c bs e = let same : c ≡ 92 = cc in ap is_word same
 
--- a backslash and the byte that it escapes
+-- A backslash and the byte that it escapes.
 pub taken_passes : (b : ℕ) → (b == 0) ≡ false → Passes (92 ∷ b ∷ [])
 taken_passes b h = record {
   quoted = λ q bs n e f. cond-false _ _ _ (not_the_quote 92 q refl e) ∙ ap further (cond-false _ _ _ h ∙ ap further f ∙ one_more n) ∙ one_more (1 + n) ∙ moved (1 + (1 + n)) (2 + n) (omega arith);
@@ -104,11 +104,11 @@ wide_bare b h = (⊎_elim (λ w. w) (λ w. let l = word_ascii b w in absurd (ome
 byte_same : (c k : ℕ) → k < length (encode_utf8 c) → get_or (encode_utf8 c) k 0 < 128 → c ≡ get_or (encode_utf8 c) k 0
 byte_same c k l w = inside_one c [] (encode_utf8 c) k (sym (append-nil (encode_utf8 c))) l w
 
--- the bytes of a character that can be in a word
+-- The bytes of a character that can be in a word.
 pub char_passes : (c : ℕ) → IsBare c → Passes (encode_utf8 c)
 char_passes c h = bare_pass (encode_utf8 c) (λ k l. ⊎_elim (λ w. subst IsBare (byte_same c k l w) h) (wide_bare _) (cases_lt (get_or (encode_utf8 c) k 0) 128))
 
--- What is passed is one token.
+-- Whatever is passed is one token.
 
 take_front : (xs ys : List ℕ) → take (length xs) (xs ++ ys) ≡ xs
 take_front [] ys = refl

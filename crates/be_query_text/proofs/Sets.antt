@@ -1,4 +1,4 @@
--- A pattern of sets matches the texts with the same foldings.
+-- A pattern of sets matches the strings with the same foldings.
 use Rattle.std.proofs.Common.{◌≡◌, ℕ, ◌+◌, Bool, true, false, Some, None, Ok, List, [], ◌∷◌, ◌++◌, length, map, ◌||◌, ◌&&◌, refl, sym, ap, ◌∙◌, subst, arith, append_assoc, append-nil, length-append, IsUtf8}
 use Rattle.std.specs.Prelude.{encode_utf8, encode_utf8_all, not}
 use Rattle.std.specs.Bool.{◌==◌}
@@ -24,7 +24,7 @@ use Rattle.be_query_text.proofs.Passing.{Passes, none_passes, both_pass, char_pa
 use Rattle.be_query_text.proofs.Escapes.{special_ascii, plain_bare, char_read, char_ends, char_scalars}
 use Rattle.be_query_text.proofs.Folds.{single, is_member, fold_member, member_fold, is_plain_char, pairs_plain, others_plain, first_plain, folded_plain}
 
--- What a plain character isn't.
+-- What a plain character can't be.
 
 record IsPlain (c : ℕ) : Type 0 where
   special : is_special c ≡ false
@@ -64,7 +64,7 @@ plain_char c h =
 bare_letter : (c at : ℕ) (cs : List ℕ) → IsPlain c → letters false at (c ∷ cs) ≡ record { at = at; escaped = false; char = c } ∷ letters false (at + len_utf8 c) cs
 bare_letter c at cs h = cond-false _ _ _ h.bar
 
--- the characters before a `]`
+-- The characters before a `]`.
 inside : List ℕ → List ℕ → List ℕ
 inside ms more = ms ++ 93 ∷ more
 
@@ -98,7 +98,7 @@ none_falls (d ∷ ds) = ap (λ b. b || falls (map single ds)) (le-ltb d d (omega
 singles_are_members : (d : ℕ) (ds : List ℕ) → are_members (map single (d ∷ ds)) ≡ true
 singles_are_members d ds = ap not (none_falls (d ∷ ds))
 
--- the token of a set, or of a single character
+-- The token of a set, or of a single character.
 abbrev case_part : ℕ → List ℕ → Part
 case_part f [] = Only f
 case_part f (d ∷ ds) = Among false (map single (f ∷ d ∷ ds))
@@ -152,7 +152,7 @@ case_one : (f : ℕ) (ds : List ℕ) (ps : List Part) (o : ℕ) (os : List ℕ) 
 case_one f [] ps o os = refl
 case_one f (d ∷ ds) ps o os = refl
 
--- a character is admitted exactly if it folds so
+-- A set admits a character if and only if the character folds to f.
 admitted : (f : ℕ) (ds : List ℕ) (o : ℕ) → others f ≡ ds → IsFoldPairs fold_pairs → simple_fold f ≡ f → admits (case_part f ds) o ≡ true → simple_fold o ≡ f
 admitted f [] o e pairs idem h = ap simple_fold (eqb-true o f h) ∙ idem
 admitted f (d ∷ ds) o e pairs idem h = fold_member f o pairs idem (ap (λ l. is_member o (f ∷ l)) e ∙ h)
@@ -188,7 +188,7 @@ folds_from (c ∷ cs) (o ∷ os) pairs h =
 
 -- The text of all characters.
 
--- the text of one character, in a form that allows for what comes after it
+-- The text of one character, in a form that allows for what comes after it.
 record Represents (f : ℕ) (ds : List ℕ) : Type 0 where
   read : (at : ℕ) (more : List ℕ) → (next : ℕ) × (parts_after 0 (letters false at (set_text f ds ++ more)) ≡ and_then (case_part f ds) (parts_after 0 (letters false next more)))
   ends : (at : ℕ) (more : List ℕ) → (next : ℕ) × (ending_backslash false at (set_text f ds ++ more) ≡ ending_backslash false next more)
@@ -220,7 +220,7 @@ each_ends (c ∷ cs) at =
 any_case_pattern : (cs : List ℕ) → pattern (any_case cs) ≡ Ok (case_parts cs)
 any_case_pattern cs = pattern_read (any_case cs) (each_ends cs 0) ∙ each_read cs 0
 
--- The foldings of characters are characters, and none is a NUL.
+-- The foldings of characters are characters, and none of them is a NUL.
 
 folded_scalar : (c : ℕ) → all_scalars (c ∷ []) ≡ true → all_scalars (simple_fold c ∷ []) ≡ true
 folded_scalar c h = ⊎_elim (λ e. ap (λ x. all_scalars (x ∷ [])) e ∙ h) (λ e. (plain_char (simple_fold c) e).scalar) (folded_plain c IsFoldPairs-fold_pairs (simple_fold_idem c))

@@ -13,25 +13,25 @@ use Rattle.be_query_text.specs.Steps.{SignIs, left, GoesOn, token_of}
 use Rattle.be_query_text.specs.declared.places.Piece as code
 use Rattle.be_query_text.specs.declared.places.Sign.{Sign}
 
--- the pieces of the rest are these, followed by the pieces beyond
+-- The pieces of the rest are these, followed by the pieces of `beyond`.
 abbrev pub Leaves : ℕ → List ℕ → List code.Piece → List ℕ → Type 0
 Leaves total rest taken beyond = (pieces (left total rest) ≡ taken ++ pieces (left total beyond)) × GoesOn total rest beyond
 
--- a token was taken
+-- A token was taken.
 pub token_taken : (total : ℕ) (rest beyond : List ℕ) (t : Token) (width shift : ℕ) → HasLexeme rest (Whole t) width shift → beyond ≡ drop width rest → 1 ≤ width → width ≤ length rest → length rest ≤ total
     → Leaves total rest (pieces_of (total - length rest) (total - length rest + shift) t) beyond
 token_taken total rest beyond t width shift h r p w k =
     let e = taken rest beyond total width shift (Whole t) h r p w k in
     (ap pieces e, (ap all_whole e, taken_shorter rest beyond width r p w))
 
--- a separator was passed
+-- A separator was passed.
 pub separator_passed : (total : ℕ) (rest beyond : List ℕ) → 0 < length rest → is_separator (get_or rest 0 0) ≡ true → beyond ≡ drop 1 rest → length rest ≤ total → Leaves total rest [] beyond
 separator_passed total rest beyond l s d k =
     let b = begins_separated rest beyond l s d in
     let e = separated rest beyond total b k in
     (ap pieces e, (ap all_whole e, separated_shorter rest beyond b))
 
--- a query has no name or value that breaks off, and nothing that isn't a token
+-- A query contains no name or value that is cut off, and nothing that isn't a token.
 pub breaks_off : (total : ℕ) (rest : List ℕ) (n width : ℕ) → HasLexeme rest (Broken n) width 0 → all_whole (left total rest) ≡ false
 breaks_off total rest n width h = ap all_whole (is_there rest (total - length rest) width 0 (Broken n) h).1
 
@@ -63,7 +63,7 @@ pub no_sign_taken : (total : ℕ) (rest : List ℕ) (first : ℕ) (second : Opti
     → is_separator first ≡ false → is_quote first ≡ false → (is_sign first || (first == 0)) ≡ true → SignIs first second None → all_whole (left total rest) ≡ false
 no_sign_taken total rest first second l f e h q g p = is_odd total rest 1 (sign_at rest first second Odd 1 l f e h q g (p g))
 
--- a piece of a name or a value
+-- A piece that is a name or a value.
 abbrev pub text_piece : ℕ → ℕ → ℕ → ℕ → code.Piece
 text_piece at start stop end = code.TheVariants.Text (record { at = at; start = start; stop = stop; end = end })
 

@@ -1,4 +1,4 @@
--- What is reported about a query's comparisons.
+-- What is reported about the comparisons in a query.
 use Rattle.std.specs.Prelude.{ℕ, List, [], ◌∷◌, ◌++◌, Some, None, if◌then◌else◌, string_bytes}
 use Rattle.std.specs.Prelude.{encode_utf8_all}
 use Rattle.std.specs.declared.option.Option.{Option}
@@ -12,13 +12,13 @@ use Rattle.be_query_text.specs.declared.compared.Form.{Form}
 use Rattle.be_query_text.specs.declared.compared.Form.TheVariants.{Number, Text, Pattern}
 use Rattle.be_query_text.specs.declared.places.Place.{Place}
 
--- a comparison of a tree
+-- A comparison in a tree.
 pub record Comparison : Type 0 where
   pub name : List ℕ
   pub op : Cmp
   pub literal : Literal
 
--- the comparisons of a tree, from left to right
+-- The comparisons in a tree, from left to right.
 abbrev pub leaves : Formula → List Comparison
 leaves (Leaf name op literal) = record { name = name; op = op; literal = literal } ∷ []
 leaves (And l r) = leaves l ++ leaves r
@@ -32,7 +32,7 @@ pub record Description : Type 0 where
   pub words : List ℕ
   pub place : Place
 
--- a pattern without a wildcard counts as a text
+-- The form of a literal that encodes no number. A pattern without a wildcard counts as a string.
 abbrev pub form_without_number : Literal → Form
 form_without_number (Exact words) = Text
 form_without_number (Wild parts) = if is_plain parts then Text else Pattern
@@ -41,7 +41,7 @@ abbrev pub form_of : Literal → Option ℤ → Form
 form_of literal (Some n) = Number
 form_of literal None = form_without_number literal
 
--- the text, or for a pattern with a wildcard its canonical text
+-- The string, or the canonical text of a pattern with a wildcard.
 abbrev pub words_of : Literal → List ℕ
 words_of (Exact words) = words
 words_of (Wild parts) = encode_utf8_all (if is_plain parts then literal_prefix parts
@@ -57,13 +57,13 @@ description c place = record {
   place = place;
 }
 
--- the first comparison is at the first place, and so on
+-- The descriptions of the comparisons. The first comparison is at the first place, and so on.
 abbrev pub described : List Comparison → List Place → List Description
 described [] places = []
 described (c ∷ cs) [] = []
 described (c ∷ cs) (place ∷ places) = description c place ∷ described cs places
 
--- the same for the code's value
+-- The description that a value of the program contains.
 abbrev pub reported : code.Compared → Description
 reported c = record {
   name = c.name;

@@ -1,4 +1,4 @@
--- A text as a name or a value in a query.
+-- A string as a name or a value in a query.
 use Rattle.std.specs.Prelude.{◌≡◌, ℕ, ◌+◌, Bool, true, false, ◌||◌, ◌==◌, List, [], ◌∷◌, ◌++◌}
 use Rattle.std.specs.Prelude.{length, map, Ok}
 use Rattle.std.specs.List.{flat_map}
@@ -9,7 +9,7 @@ use Rattle.be_pattern.specs.Parse.{pattern}
 use Rattle.be_query.specs.Lexing.{Takes, Whole, front, is_quote, is_separator, is_sign, is_word}
 use Rattle.be_query.specs.Tokens.{Text, plain}
 
--- the end, or a byte that can't be in a word
+-- The bytes are at an end, or begin with a byte that can't be in a word.
 abbrev pub EndsWord : List ℕ → Type 0
 EndsWord [] = Unit {0}
 EndsWord (b ∷ bs) = is_word b ≡ false
@@ -22,15 +22,15 @@ pub record IsOneToken (bytes : List ℕ) : Type 0 where
   pub word : (b : ℕ) (bs rest : List ℕ) → bytes ≡ b ∷ bs → EndsWord rest → front b (bs ++ rest)
       ≡ Takes (Whole (Text bytes)) (length bytes) 0
 
--- a query reads the bytes as this text, wherever it reads a name or a value
+-- A query reads the bytes as this string, wherever it reads a name or a value.
 pub record Encodes (bytes text : List ℕ) : Type 0 where
   pub token : IsOneToken bytes
-  -- as a name, or as the value of an order operator
+  -- As a name, or as the value of an order operator.
   pub exact : plain bytes ≡ text
-  -- as the value of `==` and `!=`
+  -- As the value of `==` and `!=`.
   pub literal : pattern (chars bytes) ≡ Ok (map Only (chars text))
 
--- the character has a special meaning in a query or a pattern
+-- The character has a special meaning in a query or a pattern.
 abbrev pub is_special : ℕ → Bool
 is_special c = (is_separator c || is_quote c || is_sign c) || (c == 92) || (c == 42) || (c == 63)
     || (c == 91)
@@ -38,6 +38,6 @@ is_special c = (is_separator c || is_quote c || is_sign c) || (c == 92) || (c ==
 abbrev pub escaped_char : ℕ → List ℕ
 escaped_char c = marked (is_special c) c
 
--- the text with a backslash before each special character
+-- The string with a backslash before each special character.
 abbrev pub escaped : List ℕ → List ℕ
 escaped = flat_map escaped_char

@@ -1,4 +1,4 @@
--- Comparisons as other languages get them.
+-- Comparisons in the form that is passed to other languages.
 use Rattle.std.specs.Prelude.{ℕ, ◌+◌, List, [], ◌∷◌, ◌++◌, length}
 use Rattle.std.specs.List.{flat_map}
 use Rattle.be_query.specs.declared.tree.Cmp.{Cmp}
@@ -10,7 +10,7 @@ use Rattle.be_query_text.specs.declared.compared.Form.{Form}
 use Rattle.be_query_text.specs.declared.compared.Form.TheVariants.{Number, Text, Pattern}
 use Rattle.be_query_text.specs.declared.encoding.EncodedComparison.{EncodedComparison}
 
--- an operator's number among the items of a predicate
+-- The number that an operator has among the items of a predicate.
 abbrev pub op_number : Cmp → ℕ
 op_number Eq = 4
 op_number Ne = 5
@@ -24,7 +24,7 @@ form_number Text = 0
 form_number Number = 1
 form_number Pattern = 2
 
--- a comparison whose plain name and value are between these offsets
+-- A comparison whose plain name and value are between these offsets.
 abbrev pub encoded_as : ℕ → ℕ → ℕ → Description → EncodedComparison
 encoded_as name_at value_at end d = record {
   at = d.place.name.at;
@@ -45,13 +45,13 @@ encoded_as name_at value_at end d = record {
   is_never_uint64 = is_never_true d.op d.number kinds.Ullg;
 }
 
--- the comparisons, whose plain names and values begin at an offset
+-- The comparisons, whose plain names and values begin at this offset.
 abbrev pub encoded_from : ℕ → List Description → List EncodedComparison
 encoded_from at [] = []
 encoded_from at (d ∷ ds) = encoded_as at (at + length d.name)
     (at + length d.name + length d.words) d
     ∷ encoded_from (at + length d.name + length d.words) ds
 
--- their plain names and values, end to end
+-- The plain names and values of the comparisons, concatenated.
 abbrev pub bytes_of : List Description → List ℕ
 bytes_of = flat_map (λ d. d.name ++ d.words)

@@ -1,4 +1,4 @@
--- Comparisons that are true of no value of a kind.
+-- Comparisons that are false for all values of a kind.
 use Rattle.std.specs.Prelude.{◌≡◌, ◌≤ℤ◌, Bool, true, false, ◌||◌, Some, None, pos, int_lt, int_le}
 use Rattle.std.specs.declared.option.Option.{Option}
 use lib.IntN.{ℤ, neg_ℤ}
@@ -14,7 +14,7 @@ use Rattle.be_value.specs.declared.values.Value.TheVariants.{Cstr, Long, Llng, M
 use Rattle.be_value.specs.declared.values.Value.TheVariants.{Ullg}
 use Rattle.be_volume.specs.Query.{holds, literal_number}
 
--- no integer from `least` to `greatest` makes the operator true
+-- The operator is false for every integer from `least` to `greatest`.
 abbrev pub is_false_between : Cmp → ℤ → ℤ → ℤ → Bool
 is_false_between Eq n least greatest = int_lt n least || int_lt greatest n
 is_false_between Ne n least greatest = false
@@ -23,7 +23,7 @@ is_false_between Le n least greatest = int_lt n least
 is_false_between Gt n least greatest = int_le greatest n
 is_false_between Ge n least greatest = int_lt greatest n
 
--- without a number this is so
+-- `is_false_between`, if there is a number. Without a number, the comparison is always false.
 abbrev pub is_false_of : Cmp → Option ℤ → ℤ → ℤ → Bool
 is_false_of op None least greatest = true
 is_false_of op (Some n) least greatest = is_false_between op n least greatest
@@ -38,12 +38,13 @@ is_never_true op number kinds.Rawt = false
 is_never_true op number kinds.Ulng = is_false_of op number (pos 0) (pos 4294967295)
 is_never_true op number kinds.Ullg = is_false_of op number (pos 0) (pos 18446744073709551615)
 
--- a comparison whose literal encodes this number, or no number, is true of no value of the kind
+-- A comparison whose literal encodes this number, or no number, is false for all values of the
+-- kind.
 abbrev pub IsNeverTrue : Cmp → Option ℤ → Kind → Type 0
 IsNeverTrue op number kind = (literal : Literal) → literal_number literal ≡ number → (v : Value)
     → IsValue v → kind_of v ≡ kind → holds op v literal ≡ false
 
--- the value is an integer from `least` to `greatest`
+-- The value is an integer from `least` to `greatest`.
 abbrev pub IsBetween : ℤ → ℤ → Value → Type 0
 IsBetween least greatest (Cstr text) = ⊥
 IsBetween least greatest (Long n) = (least ≤ℤ n) × (n ≤ℤ greatest)

@@ -1,4 +1,4 @@
-//! Patterns that match a text in upper and lower case.
+//! Patterns that match a string in both upper and lower case.
 ghost use Rattle.std.specs.Prelude.{◌≡◌, ◌++◌, ◌∷◌, ◌<◌, [], false, IfNone, IfOk, IfSome};
 ghost use Rattle.std.specs.Prelude.{encode_utf8, encode_utf8_all, length, string_bytes};
 ghost use Rattle.std.specs.Char.{IsScalar};
@@ -12,12 +12,12 @@ use std::alloc::{AllocError, Global};
 use std::char;
 use ucd_case::{fold_pairs, simple_fold};
 
-/// A pattern that matches exactly the texts that equal this one by Unicode's simple case folding,
-/// character by character: `[gG][üÜ]n` for `Gün`. A character without another case is written as
-/// `escaped` writes it, so the pattern can be used wherever an escaped text can.
+/// Returns a pattern that matches exactly the strings that equal this one under Unicode's simple
+/// case folding, character by character: `[gG][üÜ]n` for `Gün`. A character that has no other case
+/// is written as `escaped` writes it, so the pattern can be used wherever an escaped string can.
 ///
-/// With simple folding some sets have three characters, such as `k`, `K` and the Kelvin sign. It
-/// doesn't make `ß` equal to `ss`. Each character is searched for among 3,134 pairs.
+/// Under simple folding, some sets have three characters, such as `k`, `K` and the Kelvin sign. `ß`
+/// and `ss` aren't equal. For each character, 3,134 pairs are searched.
 pub fn any_case(alloc: Global, text: &str) -> Result<String, AllocError>
     ensures matches { IfOk result (λ s. MatchesAnyCase (string_bytes s) text.now) }
     ensures token { IfOk result (λ s. has_nul text.now ≡ false → IsOneToken (string_bytes s)) }
@@ -31,7 +31,7 @@ pub fn any_case(alloc: Global, text: &str) -> Result<String, AllocError>
     Ok(pattern)
 }
 
-/// Appends the set of the characters that fold to this one; it folds to itself.
+/// Appends the set of characters that fold to `folded`, which includes `folded` itself.
 fn push_any_case(alloc: Global, pattern: &mut String, folded: char) -> Result<(), AllocError>
     ensures { IfOk result (λ _. string_bytes pattern.new ≡ string_bytes pattern.old
         ++ encode_utf8_all (set_text folded (others folded))) }
@@ -48,7 +48,7 @@ fn push_any_case(alloc: Global, pattern: &mut String, folded: char) -> Result<()
     Ok(())
 }
 
-/// The other characters that fold to this one.
+/// Returns the other characters that fold to `folded`.
 fn others(alloc: Global, folded: char) -> Result<String, AllocError>
     ensures { IfOk result (λ s. string_bytes s ≡ encode_utf8_all (others folded)) }
 {
@@ -63,7 +63,7 @@ fn others(alloc: Global, folded: char) -> Result<String, AllocError>
     Ok(others)
 }
 
-/// The first pair, and the pairs after it.
+/// Returns the first pair and the pairs after it.
 fn split_pair(pairs: &[(u32, u32)]) -> Option<((u32, u32), &[(u32, u32)])>
     ensures some { IfSome result (λ p. pairs.now ≡ p.0 ∷ p.1.now) }
     ensures none { IfNone result (pairs.now ≡ []) }

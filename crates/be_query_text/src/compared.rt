@@ -1,4 +1,4 @@
-//! The comparisons of a query's text.
+//! The comparisons in the text of a query.
 ghost use Rattle.std.specs.Prelude.{◌≡◌, ◌≤◌, ◌+◌, ◌++◌, ◌∷◌, List, IfErr, IfOk, None, Some};
 ghost use Rattle.std.specs.Prelude.{length, map, string_bytes};
 ghost use Rattle.be_query.specs.Faults.{fault};
@@ -19,37 +19,39 @@ use std::alloc::Global;
 /// What a comparison compares with.
 #[derive(Clone, Copy, Debug, PartialEq, Eq)]
 pub enum Form {
-    /// A text that encodes a whole number from -2^63 to 2^64 - 1.
+    /// A string that encodes a whole number from -2^63 to 2^64 - 1.
     Number,
-    /// Any other text.
+    /// Any other string.
     Text,
     /// A pattern with a wildcard.
     Pattern,
 }
 
-/// A comparison of a query's text.
+/// A comparison in the text of a query.
 #[derive(Debug, Drop)]
 pub struct Compared {
     pub name: Name,
-    /// The operator in the tree: each `!` around the comparison inverts it.
+    /// The operator in the tree: it is inverted by every `!` around the comparison.
     pub op: Cmp,
     pub form: Form,
-    /// The number, if it encodes one.
+    /// The number, if the value encodes one.
     pub number: Option<i128>,
-    /// What is compared with, without quotes and backslashes; for a pattern its canonical text.
+    /// What the comparison compares with, without quotes and backslashes. For a pattern, it is the
+    /// canonical text.
     pub words: String,
     /// The place of the comparison, and its operator in the text.
     pub place: Place,
 }
 
-/// The comparisons of a query's text, from left to right, or the error of `parse`. It costs what
-/// `parse` costs, and memory for the comparisons.
+/// Returns the comparisons in the text of a query, from left to right, or the error of `parse`. It
+/// costs as much as `parse`, plus the memory for the comparisons.
 pub fn comparisons(alloc: Global, text: &str) -> Result<Vec<Compared>, Refusal>
-    // They are the comparisons of the tree that the text encodes, each with its place in the text.
+    // The result contains the comparisons of the tree that the text encodes, each with its place in
+    // the text.
     ensures ok { IfOk result (λ v. (fault text.now ≡ None) × (tree : Formula)
         × IsTextOf text.now tree × (map reported v.items
         ≡ described (leaves tree) (places text.now))) }
-    // For a text that isn't a query, the error is that of `parse`.
+    // If the text isn't a query, the error is that of `parse`.
     ensures err { IfErr result (λ e. IsMemory e (fault text.now ≡ Some e)) }
 {
     let query = parse(alloc, text)?;
@@ -59,8 +61,8 @@ pub fn comparisons(alloc: Global, text: &str) -> Result<Vec<Compared>, Refusal>
     Ok(compared)
 }
 
-/// Appends the comparisons of a part of a query, which are at the first places. Returns the places
-/// after those.
+/// Appends the comparisons of a part of a query. The leading places are theirs; returns the places
+/// that follow.
 fn push_each<'a>(
     alloc: Global,
     tree: &Tree,
@@ -91,7 +93,7 @@ fn push_each<'a>(
     }
 }
 
-/// What is reported about a comparison at a place.
+/// Returns the description of a comparison at a place.
 fn describe(alloc: Global, comparison: &Comparison, place: Place) -> Result<Compared, Refusal>
     ensures ok { IfOk result (λ c. reported c ≡ description (record {
       name = comparison.now.name;
@@ -111,7 +113,7 @@ fn describe(alloc: Global, comparison: &Comparison, place: Place) -> Result<Comp
     })
 }
 
-/// The form of a literal, given the number that it encodes, if any.
+/// Returns the form of a literal, given the number that it encodes, if any.
 fn form_of(literal: &Literal, number: Option<i128>) -> Form
     ensures { result ≡ form_of (literal_of literal.now) number }
 {
@@ -130,7 +132,7 @@ fn form_of(literal: &Literal, number: Option<i128>) -> Form
     }
 }
 
-/// What a literal compares with: a text, or a pattern's canonical text.
+/// Returns what a literal compares with: a string, or the canonical text of a pattern.
 fn words_of(alloc: Global, literal: &Literal) -> Result<String, Refusal>
     ensures ok { IfOk result (λ words. string_bytes words ≡ words_of (literal_of literal.now)) }
     ensures memory { IfErr result (λ e. e ≡ OutOfMemory) }

@@ -1,4 +1,4 @@
-//! Comparisons as other languages get them.
+//! Comparisons in the form that is passed to other languages.
 ghost use Rattle.std.specs.Prelude.{◌≡◌, IfOk, map};
 ghost use Rattle.be_query_text.specs.Described.{reported};
 ghost use Rattle.be_query_text.specs.EncodedComparisons.{bytes_of, form_number, op_number};
@@ -11,44 +11,46 @@ use be_query::Cmp;
 use be_value::Kind;
 use std::alloc::{AllocError, Global};
 
-/// A comparison of a query's text as other languages get it. Offsets are in bytes of the text; the
-/// `plain` ones are in one byte string for all comparisons.
+/// A comparison in the form that is passed to other languages. Offsets are in bytes of the text,
+/// except for the `plain` ones, which are in a byte string that all comparisons share.
 #[repr(C)]
 #[derive(Clone, Copy)]
 pub struct EncodedComparison {
-    /// The comparison, from its name to its value.
+    /// The extent of the comparison, from its name to its value.
     pub at: u64,
     pub end: u64,
-    /// The name and the value without quotes, but with their backslashes.
+    /// The extents of the name and the value, without quotes but with their backslashes.
     pub name_at: u64,
     pub name_end: u64,
     pub value_at: u64,
     pub value_end: u64,
-    /// The name without backslashes, followed by the value; for a pattern its canonical text.
+    /// The name without backslashes, followed by the value without backslashes or, for a pattern,
+    /// by the canonical text.
     pub plain_name_at: u64,
     pub plain_value_at: u64,
     pub plain_end: u64,
-    /// 4 to 9 for `==`, `!=`, `<`, `<=`, `>` and `>=`, inverted by each `!`.
+    /// The operator, inverted by every `!` around the comparison: 4 to 9 for `==`, `!=`, `<`, `<=`,
+    /// `>` and `>=`.
     pub kind: u32,
-    /// The same for the operator in the text.
+    /// The operator in the text, with the same numbers.
     pub kind_in_text: u32,
-    /// 0 for a text, 1 for a whole number and 2 for a pattern with a wildcard.
+    /// 0 for a string, 1 for a whole number, and 2 for a pattern with a wildcard.
     pub form: u32,
-    /// Whether the comparison is true of no value of the kind.
+    /// Whether the comparison is false for all values of the kind.
     pub is_never_int32: bool,
     pub is_never_int64: bool,
     pub is_never_uint32: bool,
     pub is_never_uint64: bool,
 }
 
-/// Comparisons, and the bytes of their names and values.
+/// Comparisons, along with the bytes of their names and values.
 #[derive(Drop)]
 pub struct Encoding {
     pub comparisons: Vec<EncodedComparison>,
     pub bytes: Vec<u8>,
 }
 
-/// The comparisons as other languages get them.
+/// Returns the comparisons in the form that is passed to other languages.
 pub fn encoded_comparisons(alloc: Global, compared: &[Compared]) -> Result<Encoding, AllocError>
     ensures comparisons { IfOk result (λ s. s.comparisons.items
         ≡ encoded_from 0 (map reported compared.now)) }
@@ -68,7 +70,7 @@ pub fn encoded_comparisons(alloc: Global, compared: &[Compared]) -> Result<Encod
     Ok(Encoding { comparisons, bytes })
 }
 
-/// A comparison whose plain name and value are at these offsets.
+/// Returns a comparison whose plain name and value are at these offsets.
 fn encode_one(compared: &Compared, name_at: usize, value_at: usize, end: usize) -> EncodedComparison
     ensures { result ≡ encoded_as name_at value_at end (reported compared.now) }
 {
@@ -93,7 +95,7 @@ fn encode_one(compared: &Compared, name_at: usize, value_at: usize, end: usize) 
     }
 }
 
-/// The number of an operator among the items of a predicate.
+/// Returns the number that an operator has among the items of a predicate.
 fn op_number(op: Cmp) -> u32
     ensures { result ≡ op_number op }
 {
@@ -107,7 +109,7 @@ fn op_number(op: Cmp) -> u32
     }
 }
 
-/// The number of a form.
+/// Returns the number of a form.
 fn form_number(form: Form) -> u32
     ensures { result ≡ form_number form }
 {

@@ -1,4 +1,4 @@
-//! A text as a name or a value in a query.
+//! Escapes a string so that it can be a name or a value in a query.
 ghost use Rattle.std.specs.Prelude.{◌≡◌, ◌++◌, ◌||◌, false, IfOk, encode_utf8_all, string_bytes};
 ghost use Rattle.be_pattern.specs.Canonical.{marked};
 ghost use Rattle.be_query.specs.Lexing.{is_quote, is_separator, is_sign};
@@ -8,9 +8,9 @@ ghost use Rattle.be_query_text.specs.Encoded.{Encodes, escaped_char, is_special}
 use be_pattern::matching::split_first_char;
 use std::alloc::{AllocError, Global};
 
-/// The text with a backslash before each character that has a special meaning in a query or a
-/// pattern. A query reads the result as the original text: as a name or a value, in quotes of
-/// either kind or as a word, and also as a part of a pattern. An empty text needs quotes.
+/// Returns the string with a backslash before each character that has a special meaning in a query
+/// or a pattern. A query reads the result as the original string: as a name or a value, in quotes
+/// of either kind or as a word, and also as part of a pattern. An empty string needs quotes.
 pub fn escaped(alloc: Global, text: &str) -> Result<String, AllocError>
     ensures { IfOk result (λ s. has_nul text.now ≡ false → Encodes (string_bytes s) text.now) }
 {
@@ -23,7 +23,7 @@ pub fn escaped(alloc: Global, text: &str) -> Result<String, AllocError>
     Ok(escaped)
 }
 
-/// Appends a character, with a backslash if it needs one.
+/// Appends a character, preceded by a backslash if it needs one.
 pub(crate) fn push_escaped(text: &mut String, c: char) -> Result<(), AllocError>
     ensures { IfOk result (λ _. string_bytes text.new ≡ string_bytes text.old
         ++ encode_utf8_all (escaped_char c)) }
@@ -31,7 +31,7 @@ pub(crate) fn push_escaped(text: &mut String, c: char) -> Result<(), AllocError>
     push_marked(text, c, is_special(c))
 }
 
-/// Appends a character, after a backslash if `backslash` is true.
+/// Appends a character, preceded by a backslash if `backslash` is `true`.
 fn push_marked(text: &mut String, c: char, backslash: bool) -> Result<(), AllocError>
     ensures { IfOk result (λ _. string_bytes text.new ≡ string_bytes text.old
         ++ encode_utf8_all (marked backslash c)) }
@@ -43,14 +43,14 @@ fn push_marked(text: &mut String, c: char, backslash: bool) -> Result<(), AllocE
     text.push(c)
 }
 
-/// Whether the character has a special meaning in a query or a pattern.
+/// Returns `true` if the character has a special meaning in a query or a pattern.
 fn is_special(c: char) -> bool
     ensures { result ≡ is_special c }
 {
     is_delimiter(c) || c == '\\' || c == '*' || c == '?' || c == '['
 }
 
-/// Whether a word ends before the character.
+/// Returns `true` if the character ends a word.
 fn is_delimiter(c: char) -> bool
     ensures { result ≡ (is_separator c || is_quote c || is_sign c) }
 {

@@ -1,9 +1,9 @@
-//! What a query's text compares, and how to put a text into a query.
+//! Finds what the text of a query compares, and escapes strings for use in a query.
 //!
-//! `comparisons` reads a text with be_query's parser, and returns the comparisons of its tree with
-//! their places in the text. `escaped` makes a name or a value from any text, and `any_case` makes
-//! a pattern that matches a text in upper and lower case. The libraries of all languages call
-//! these, so a text has the same reading everywhere.
+//! `comparisons` reads the text with be_query's parser and returns the comparisons of its tree,
+//! with their places in the text. `escaped` turns any string into a name or a value, and `any_case`
+//! turns it into a pattern that matches the string in both upper and lower case. The libraries for
+//! all languages call these functions, so that a query is read the same way everywhere.
 #![tactic(auto)]
 
 mod cases;

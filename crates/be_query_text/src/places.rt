@@ -1,8 +1,8 @@
-//! Where a query's comparisons are in its text.
+//! Finds where the comparisons of a query are in its text.
 //!
-//! be_query's lexer is private, and a tree has no places. So the text's lexemes are found here a
-//! second time. They are those of be_query's definition, and in a text that `parse` has accepted
-//! none breaks off.
+//! be_query's lexer is private, and a tree doesn't record places, so the lexemes of the text are
+//! found here a second time. They are the same as in be_query's definition. In a text that `parse`
+//! has accepted, none of them is cut off.
 ghost use Rattle.std.specs.Prelude.{◌≡◌, ◌<◌, ◌≤◌, ◌+◌, ◌∷◌, ◌||◌, ◌==◌, ℕ, [], true, false};
 ghost use Rattle.std.specs.Prelude.{length, slice_get, slice_index, take, IfNone, IfOk, IfSome};
 ghost use Rattle.be_query.specs.Lexing.{IsBeyond, IsLone, all_whole, is_quote, is_separator};
@@ -16,12 +16,12 @@ ghost use Rattle.be_query_text.specs.declared.places.Piece.TheVariants as AnyPie
 use be_query::Cmp;
 use std::alloc::{AllocError, Global};
 
-/// The place of a name or a value in a text, in bytes.
+/// The place of a name or a value in the text, in bytes.
 #[derive(Clone, Copy, Debug, PartialEq, Eq)]
 pub struct TextPlace {
     /// The offset of the first byte, including an opening quote.
     pub at: usize,
-    /// The offset of the first byte after an opening quote.
+    /// The offset of the first byte after an opening quote, if there is one.
     pub start: usize,
     /// The offset after the last byte, excluding a closing quote.
     pub stop: usize,
@@ -29,11 +29,11 @@ pub struct TextPlace {
     pub end: usize,
 }
 
-/// The place of a comparison in a text, and its operator there.
+/// The place of a comparison in the text, and its operator there.
 #[derive(Clone, Copy, Debug, PartialEq, Eq)]
 pub struct Place {
     pub name: TextPlace,
-    /// The operator in the text: a `!` before the comparison doesn't invert it.
+    /// The operator in the text, which isn't inverted by a `!` before the comparison.
     pub op: Cmp,
     pub value: TextPlace,
 }
@@ -56,32 +56,32 @@ enum Sign {
     Compares(Cmp),
 }
 
-/// What a step takes from the front of a text.
+/// What a step takes from the front of the text.
 #[derive(Clone, Copy)]
 enum Step<'a> {
-    /// No piece, and the bytes after it.
+    /// Something that isn't a piece, followed by these bytes.
     Passed(&'a [u8]),
-    /// A piece, and the bytes after it.
+    /// A piece, followed by these bytes.
     Found(Piece, &'a [u8]),
     /// The text isn't a query.
     Stuck,
 }
 
-/// Whether the byte separates tokens.
+/// Returns `true` if the byte separates tokens.
 fn is_separator(b: u8) -> bool
     ensures { result ≡ is_separator b }
 {
     b == b' ' || b == b'\t' || b == b'\n' || b == b'\r'
 }
 
-/// Whether a quoted text begins with the byte.
+/// Returns `true` if the byte begins a quoted string.
 fn is_quote(b: u8) -> bool
     ensures { result ≡ is_quote b }
 {
     b == b'"' || b == b'\''
 }
 
-/// Whether a token other than a name or a value begins with the byte.
+/// Returns `true` if the byte begins a token that isn't a name or value.
 fn is_sign(b: u8) -> bool
     ensures { result ≡ is_sign b }
 {
@@ -95,14 +95,15 @@ fn is_sign(b: u8) -> bool
         || b == b')'
 }
 
-/// Whether the byte is allowed in a word.
+/// Returns `true` if the byte may occur in a word.
 fn is_word(b: u8) -> bool
     ensures { result ≡ is_word b }
 {
     !(is_separator(b) || is_quote(b) || is_sign(b) || b == 0)
 }
 
-/// The place after a byte. For a backslash, it is the place after the byte that it escapes.
+/// Returns the position after the byte at `at`, or after a backslash and the byte that it escapes.
+/// Returns `None` if the escaped byte is missing or a NUL.
 fn beyond(bytes: &[u8], at: usize) -> Option<usize>
     requires { at < length bytes.now }
     ensures next { IfSome result (λ next. IsBeyond bytes.now at next) }
@@ -122,7 +123,7 @@ fn beyond(bytes: &[u8], at: usize) -> Option<usize>
     Some(next + 1)
 }
 
-/// The length of the word at the front, if it doesn't break off.
+/// Returns the length of the word at the start of the bytes, or `None` if it is cut off.
 fn word_len(bytes: &[u8]) -> Option<usize>
     requires nonempty { 0 < length bytes.now }
     requires word { is_word (slice_index bytes.now 0) ≡ true }
@@ -145,7 +146,8 @@ fn word_len(bytes: &[u8]) -> Option<usize>
     Some(at)
 }
 
-/// The length of the text after a quote, up to the next such quote, if it doesn't break off.
+/// Returns the length of the string that follows an opening quote, up to the next quote of the same
+/// kind, or `None` if the string is cut off.
 fn quoted_len(quote: u8, bytes: &[u8]) -> Option<usize>
     ensures ends { IfSome result (λ n. quoted_front bytes.now (quoted_span quote false bytes.now)
         ≡ Takes (Whole (Text (take n bytes.now))) (n + 2) 1) }
@@ -170,7 +172,8 @@ fn quoted_len(quote: u8, bytes: &[u8]) -> Option<usize>
     None
 }
 
-/// The token that begins with this sign, given the byte after it, and the token's length.
+/// Returns the token that a sign begins and the length of the token in bytes, given the first byte
+/// of the sign and the byte after it.
 fn read_sign(first: u8, second: Option<u8>) -> Option<(Sign, usize)>
     ensures { SignIs first second result }
 {
@@ -191,7 +194,7 @@ fn read_sign(first: u8, second: Option<u8>) -> Option<(Sign, usize)>
     }
 }
 
-/// The operator that a sign is, if it is one.
+/// Returns the operator that the sign denotes, if it denotes one.
 fn operator_of(sign: Sign) -> Option<Cmp>
     ensures some { IfSome result (λ op. (at start : ℕ) → pieces_of at start (token_of sign)
         ≡ AnyPiece.Operator op ∷ []) }
@@ -207,14 +210,14 @@ fn operator_of(sign: Sign) -> Option<Cmp>
     }
 }
 
-/// The byte at an index.
+/// Returns the byte at an index.
 fn byte_at(bytes: &[u8], i: usize) -> Option<u8>
     ensures { result ≡ slice_get bytes.now i }
 {
     bytes.get(i).copied()
 }
 
-/// Takes the sign at the front of the rest of a text of `total` bytes.
+/// Takes the sign at the start of `rest`, the unread part of the text, which is `total` bytes long.
 fn take_sign(total: usize, rest: &[u8]) -> Step<'_>
     requires within { length rest.now ≤ total }
     requires nonempty { 0 < length rest.now }
@@ -233,7 +236,8 @@ fn take_sign(total: usize, rest: &[u8]) -> Step<'_>
     }
 }
 
-/// Takes the quoted text at the front of the rest of a text of `total` bytes.
+/// Takes the quoted string at the start of `rest`, the unread part of the text, which is `total`
+/// bytes long.
 fn take_quoted(total: usize, rest: &[u8]) -> Step<'_>
     requires within { length rest.now ≤ total }
     requires nonempty { 0 < length rest.now }
@@ -257,7 +261,7 @@ fn take_quoted(total: usize, rest: &[u8]) -> Step<'_>
     Step::Found(Piece::Text(place), beyond)
 }
 
-/// Takes the word at the front of the rest of a text of `total` bytes.
+/// Takes the word at the start of `rest`, the unread part of the text, which is `total` bytes long.
 fn take_word(total: usize, rest: &[u8]) -> Step<'_>
     requires within { length rest.now ≤ total }
     requires nonempty { 0 < length rest.now }
@@ -282,7 +286,8 @@ fn take_word(total: usize, rest: &[u8]) -> Step<'_>
     Step::Found(Piece::Text(place), beyond)
 }
 
-/// Takes whatever is at the front of the rest of a text of `total` bytes.
+/// Takes whatever is at the start of `rest`, the unread part of the text, which is `total` bytes
+/// long.
 fn take_front(total: usize, rest: &[u8]) -> Step<'_>
     requires within { length rest.now ≤ total }
     requires nonempty { 0 < length rest.now }
@@ -302,7 +307,8 @@ fn take_front(total: usize, rest: &[u8]) -> Step<'_>
     take_word(total, rest)
 }
 
-/// The next piece in the rest of a text of `total` bytes, and the bytes after it.
+/// Returns the next piece in the unread part of the text, and the bytes after it. The whole text is
+/// `total` bytes long.
 fn next_piece(total: usize, bytes: &[u8]) -> Option<(Piece, &[u8])>
     requires within { length bytes.now ≤ total }
     requires whole { all_whole (left total bytes.now) ≡ true }
@@ -322,7 +328,8 @@ fn next_piece(total: usize, bytes: &[u8]) -> Option<(Piece, &[u8])>
     None
 }
 
-/// The next comparison in the rest of a text of `total` bytes, and the bytes after it.
+/// Returns the next comparison in the unread part of the text, and the bytes after it. The whole
+/// text is `total` bytes long.
 fn next_place(total: usize, bytes: &[u8]) -> Option<(Place, &[u8])>
     requires within { length bytes.now ≤ total }
     requires whole { all_whole (left total bytes.now) ≡ true }
@@ -343,7 +350,7 @@ fn next_place(total: usize, bytes: &[u8]) -> Option<(Place, &[u8])>
     Some((Place { name, op, value }, rest))
 }
 
-/// The places of a query's comparisons in its text, from left to right.
+/// Returns the places of a query's comparisons in its text, from left to right.
 pub(crate) fn places(alloc: Global, text: &str) -> Result<Vec<Place>, AllocError>
     requires { all_whole (lexemes 0 0 text.now) ≡ true }
     ensures { IfOk result (λ v. v.items ≡ places text.now) }

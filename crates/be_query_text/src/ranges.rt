@@ -1,4 +1,4 @@
-//! Comparisons that are true of no value.
+//! Comparisons that are false for all values.
 ghost use Rattle.std.specs.Prelude.{◌≡◌, ℤ, ◌≤ℤ◌, false, true, Some, IfNone, IfSome};
 ghost use Rattle.std.specs.declared.option.Option.{Option};
 ghost use Rattle.be_query.specs.declared.tree.Cmp.{Cmp as AnyCmp};
@@ -12,8 +12,8 @@ ghost use Rattle.be_query_text.specs.Ranges.{is_never_true};
 use be_query::Cmp;
 use be_value::Kind;
 
-/// Whether a comparison is true of no value of the kind, given the number that its literal encodes,
-/// if any. It is true only for kinds of integers.
+/// Returns `true` if a comparison is false for all values of the kind, given the number that its
+/// literal encodes, if any. For kinds other than integers it always returns `false`.
 pub fn is_never_true(op: Cmp, number: Option<i128>, kind: Kind) -> bool
     ensures value { result ≡ is_never_true op number kind }
     ensures never { result ≡ true → IsNeverTrue op number kind }
@@ -27,7 +27,7 @@ pub fn is_never_true(op: Cmp, number: Option<i128>, kind: Kind) -> bool
     is_false_between(op, number, least, greatest)
 }
 
-/// The lowest and the highest number of an integer kind.
+/// Returns the lowest and the highest number of an integer kind.
 fn range_of(kind: Kind) -> Option<(i128, i128)>
     ensures value { IfSome result (λ ends. (op : AnyCmp) (number : Option ℤ)
         → is_never_true op number kind ≡ is_false_of op number ends.0 ends.1) }
@@ -45,7 +45,8 @@ fn range_of(kind: Kind) -> Option<(i128, i128)>
     }
 }
 
-/// Whether the operator with this number is false for all numbers from `least` to `greatest`.
+/// Returns `true` if comparing with `number` yields `false` for every number from `least` to
+/// `greatest`.
 fn is_false_between(op: Cmp, number: i128, least: i128, greatest: i128) -> bool
     ensures value { result ≡ is_false_between op number least greatest }
     ensures never { result ≡ true → (n : ℤ) → least ≤ℤ n → n ≤ℤ greatest

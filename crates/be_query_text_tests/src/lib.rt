@@ -1,4 +1,4 @@
-//! Texts of queries, by be_query_text's public calls.
+//! The text of queries, tested through be_query_text's public calls.
 #![tactic(auto)]
 
 #[cfg(test)]

@@ -1,6 +1,7 @@
-//! Texts of queries, each in a line `REQUEST => REPLY`. `compares` lists a text's comparisons: the
-//! bytes from and to, name, operator, operator in the text, form and value. `escapes` and `cases`
-//! show what is put into a query. `never` shows whether a comparison is true of no value of a kind.
+//! The text of queries, in lines `REQUEST => REPLY`. `compares` lists a query's comparisons: the
+//! byte range, name, operator, operator in the text, form and value of each. `escapes` and `cases`
+//! show the text that goes into a query. `never` shows, for each kind of integer, whether the first
+//! comparison is false for every value.
 use be_query::{Cmp, parse};
 use be_query_text::{
     Compared, Form, any_case, comparisons, encoded_comparisons, escaped, is_never_true,
@@ -57,7 +58,7 @@ never n!=1.5 => yes yes yes yes
 never n==5* => yes yes yes yes
 never n<\\5 => no no no no";
 
-/// Replies to requests about texts.
+/// Replies to requests about a query's text.
 #[derive(Drop)]
 struct Texts;
 
@@ -73,7 +74,7 @@ impl Answers for Texts {
     }
 }
 
-/// A line for each comparison, or one for the error.
+/// A line for each comparison, or a line for the error.
 fn compared_lines(alloc: Global, text: &str) -> Result<String, Refusal> {
     let compared = match comparisons(alloc, text) {
         Ok(compared) => compared,
@@ -118,7 +119,7 @@ fn sign_of(op: Cmp) -> &'static str {
     }
 }
 
-/// Whether the first comparison is never true, for each kind of integers.
+/// Whether the first comparison is never true, for each kind of integer.
 fn never_line(alloc: Global, text: &str) -> Result<String, Refusal> {
     let compared = comparisons(alloc, text)?;
     let mut line = String::new(alloc);
@@ -131,26 +132,26 @@ fn never_line(alloc: Global, text: &str) -> Result<String, Refusal> {
     Ok(String::from_str(alloc, line.as_str().trim_end())?)
 }
 
-/// Names, operators and values, and where they are.
+/// Names, operators and values, and their positions.
 #[test]
 fn comparisons_are_found(rt: HostRuntime) -> Result<(), Fail> {
     check_lines(rt.alloc(), &mut Texts, COMPARED)
 }
 
-/// What is escaped, and what matches in both cases.
+/// Characters that are escaped, and characters that match in both cases.
 #[test]
 fn texts_are_put_into_queries(rt: HostRuntime) -> Result<(), Fail> {
     check_lines(rt.alloc(), &mut Texts, MADE)
 }
 
-/// The lowest and highest number of each kind of integer, and the numbers next to them.
+/// The lowest and highest number of each kind of integer, and the numbers next to these.
 #[test]
 fn integers_have_ranges(rt: HostRuntime) -> Result<(), Fail> {
     check_lines(rt.alloc(), &mut Texts, NEVER)
 }
 
-/// Whether a query of `count` comparisons has as many places, and all the bytes of names and
-/// values.
+/// Whether a query of `count` comparisons gives `count` positions, and all the bytes of the names
+/// and values.
 fn has_all(alloc: Global, count: usize) -> Result<bool, Refusal> {
     let mut text = String::from_str(alloc, "n<1")?;
     for _ in 1..count {
@@ -165,7 +166,7 @@ fn has_all(alloc: Global, count: usize) -> Result<bool, Refusal> {
     )
 }
 
-/// Sizes at and next to each power of two, up to the maximum in a query.
+/// Sizes at and next to each power of two, up to the maximum for a query.
 #[test]
 fn as_many_as_a_query_has(rt: HostRuntime) -> Result<(), Fail> {
     let alloc = rt.alloc();
@@ -184,7 +185,7 @@ fn as_many_as_a_query_has(rt: HostRuntime) -> Result<(), Fail> {
     }
 }
 
-/// Whether a text is read back once it is escaped, as a name and as a value, with and without
+/// Whether an escaped text is read back unchanged, as a name and as a value, with and without
 /// quotes.
 fn is_read_back(alloc: Global, text: &str) -> Result<bool, Refusal> {
     let name = escaped(alloc, text)?;
@@ -202,7 +203,7 @@ fn is_read_back(alloc: Global, text: &str) -> Result<bool, Refusal> {
     Ok(true)
 }
 
-/// Each character that has a meaning in a query or a pattern.
+/// Each character that has a special meaning in a query or a pattern.
 #[test]
 fn escaped_texts_are_read_back(rt: HostRuntime) -> Result<(), Fail> {
     let alloc = rt.alloc();
@@ -218,7 +219,7 @@ fn escaped_texts_are_read_back(rt: HostRuntime) -> Result<(), Fail> {
     Ok(())
 }
 
-/// Whether a text of `count` stars gets as many backslashes.
+/// Whether each of `count` stars gets a backslash.
 fn are_escaped(alloc: Global, count: usize) -> Result<bool, Refusal> {
     let mut stars = String::new(alloc);
     for _ in 0..count {

@@ -1,6 +1,7 @@
-//! Races of scripts, by public calls.
+//! Races of scripts, tested through public calls.
 //!
-//! They have a crate of their own, so that be_script_runner isn't proved a second time with them.
+//! The tests are in a separate crate, so that checking them doesn't prove be_script_runner a second
+//! time.
 #![tactic(auto)]
 
 #[cfg(test)]

@@ -1,4 +1,4 @@
--- Reading hexadecimal digits, byte by byte.
+-- Reads hexadecimal digits, one byte at a time.
 use Rattle.std.proofs.Common.{◌≡◌, ℕ, List, [], ◌∷◌, ◌++◌, refl, sym, ap, ◌∙◌, append_assoc, Some, None}
 use Rattle.std.specs.declared.option.Option.{Option}
 use Rattle.std.specs.Option.{option_map, option_and_then}
@@ -18,7 +18,7 @@ hex-first (c ∷ d ∷ word) rest' byte h = by (byte_in c d) h
     by None g = cc
     by (Some b) g = ap (λ (p : ℕ × List ℕ). option_map (λ bytes. p.0 ∷ bytes) (hex_in p.1)) (same_inside (b, word) (byte, rest') g)
 
--- bytes, then a byte, then others
+-- bytes, followed by a byte and then by more bytes
 before_both : (bytes : List ℕ) (byte : ℕ) (more : Option (List ℕ)) →
     option_map (λ ys. bytes ++ ys) (option_map (λ ys. byte ∷ ys) more) ≡ option_map (λ ys. (bytes ++ byte ∷ []) ++ ys) more
 before_both bytes byte None = refl

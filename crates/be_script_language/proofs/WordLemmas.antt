@@ -1,11 +1,11 @@
--- Reading a quoted word, character by character.
+-- Reads a quoted word, one character at a time.
 use Rattle.std.proofs.Common.{◌≡◌, ℕ, false, List, [], ◌∷◌, ◌++◌, nat_eq, refl, sym, ap, ◌∙◌, append_assoc, Some, None}
 use Rattle.std.specs.declared.option.Option.{Option}
 use Rattle.std.specs.Char.{encode_utf8}
 use Rattle.std.specs.Option.{option_and_then}
 use Rattle.be_script_language.specs.Words.{quoted_in, beyond, meaning_of}
 
--- two parts of a word that were read before
+-- two parts of a word that have been read
 pub after_both : (xs ys : List ℕ) (parts : Option (List ℕ × List ℕ)) → beyond xs (beyond ys parts) ≡ beyond (xs ++ ys) parts
 after_both xs ys None = refl
 after_both xs ys (Some p) = ap (λ z. Some (z, p.1)) (sym (append_assoc xs ys p.0))

@@ -27,17 +27,17 @@ past expected text = option_and_then
 abbrev pub name_in : List ℕ → Option (List ℕ × List ℕ)
 name_in text = option_and_then first_word (past (codes "by") text)
 
--- whether `descending` comes first, and the text after it
+-- whether `descending` comes first, and the text left to read
 abbrev pub direction_in : List ℕ → Bool × List ℕ
 direction_in text = option_map_or (λ rest. (true, rest)) (past (codes "descending") text)
     (false, text)
 
--- the value and the node after which a page begins, or the value's error; the first page has
--- neither value nor node
+-- the value and node after which a page begins, or the value's error; for the first page there is
+-- neither a value nor a node
 abbrev pub Position : Type 0
 Position = Result (Option (Value × ℕ)) Refusal
 
--- the value and the node that three words encode
+-- the value and node that three words encode
 abbrev pub pair_from : List ℕ → List ℕ → List ℕ → Option Position
 pair_from kind value node = option_and_then
     (λ k. option_and_then
@@ -52,7 +52,7 @@ pair_in text = option_and_then
     (λ node. option_map (λ pair. (pair, node.1)) (pair_from kind.0 value.0 node.0))
     (first_word value.1)) (first_word kind.1)) (first_word text)
 
--- `after KIND VALUE NODE`, if `after` comes first, and the text after it
+-- `after KIND VALUE NODE`, if `after` comes first, and the text left to read
 abbrev pub after_in : List ℕ → Option (Position × List ℕ)
 after_in text = option_map_or pair_in (past (codes "after") text) (Some (Ok None, text))
 
@@ -87,25 +87,25 @@ asked_in text = option_and_then
       text_in limit.1,
     )) (limit_in after.1)) (after_in (direction_in name.1).1)) (name_in text)
 
--- the key of a value and a node
+-- the key of this value and node
 abbrev pub key_at : Value × ℕ → List ℕ
 key_at pair = key pair.0 pair.1
 
--- Whether a page may begin there, given the kind of the order's index: the value has to be of that
--- kind. The first page may always begin.
+-- Whether a page may begin after this value, given the kind of the index that gives the order: the
+-- value must be of that kind. The first page may always begin.
 abbrev pub may_begin : Option Kind → Option (Value × ℕ) → Bool
 may_begin kind None = true
 may_begin None (Some pair) = false
 may_begin (Some kind) (Some pair) = is_indexable (kind_of pair.0)
     && nat_eq (kind_number (kind_of pair.0)) (kind_number kind)
 
--- What a line finds: nodes in the index's order, whether more come after them, and the last node's
--- value and number.
+-- What a line finds: nodes in the index's order, whether more nodes follow, and the value and
+-- number of the last node.
 pub record PageFound : Type 0 where
   pub nodes : List ℕ
   pub more : Bool
   pub last : Option (Value × ℕ)
 
--- a page of the code as a page of the definitions
+-- the code's page as a page of the definitions
 abbrev pub page_found : Page → PageFound
 page_found page = record { nodes = page.nodes.items; more = page.more; last = page.last }

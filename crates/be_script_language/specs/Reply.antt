@@ -1,4 +1,4 @@
--- Replies and their texts.
+-- Replies and their text.
 use Rattle.std.specs.Prelude.{ℕ, Bool, List, [], ◌∷◌, ◌++◌, Some, None, codes, length}
 use Rattle.std.specs.Prelude.{if◌then◌else◌}
 use Rattle.std.specs.List.{flat_map}
@@ -38,11 +38,11 @@ pub data Reply : Type 0 where
   committed : ℕ → List Done → Reply
   refused : Refusal → Reply
 
--- a space and the number, for each number
+-- for each number, a space and the number
 abbrev pub numbers : List ℕ → List ℕ
 numbers ns = flat_map (λ n. 32 ∷ decimal n) ns
 
--- a word, and a space and the number for each number
+-- a line with the word, and then each of the numbers after a space
 abbrev pub numbers_line : List ℕ → List ℕ → List ℕ
 numbers_line word ns = (word ++ numbers ns) ++ codes "\n"
 
@@ -53,13 +53,15 @@ kind_and_value v = kind_name (kind_of v) ++ (codes " " ++ value_text v)
 abbrev pub more_word : Bool → List ℕ
 more_word more = if more then codes "more" else codes "end"
 
--- ` after KIND VALUE NODE`, which is where the next page begins; nothing after an empty page
+-- ` after KIND VALUE NODE`, the position at which the next page begins; the empty text if the page
+-- is empty
 abbrev pub after_text : Option (Value × ℕ) → List ℕ
 after_text None = []
 after_text (Some pair) = codes " after "
     ++ (kind_and_value pair.0 ++ (codes " " ++ decimal pair.1))
 
--- a line with the nodes, then a line that says whether there are more, and where they begin
+-- a line with the nodes, then a line that says whether more nodes follow and where the next page
+-- begins
 abbrev pub page_text : PageFound → List ℕ
 page_text p = ((numbers_line (codes "nodes") p.nodes ++ more_word p.more) ++ after_text p.last)
     ++ codes "\n"
@@ -79,11 +81,11 @@ kind_line i = quoted i.0 ++ (codes " " ++ (kind_name i.1 ++ codes "\n"))
 abbrev pub done_line : Done → List ℕ
 done_line done = done_text done ++ codes "\n"
 
--- a line with a word and the number of elements, then a line for each element
+-- a line with a word and the number of elements, followed by a line for each element
 abbrev pub listed : {A : Type 0} → List ℕ → ℕ → (A → List ℕ) → List A → List ℕ
 listed word n line_of xs = (word ++ (decimal n ++ codes "\n")) ++ flat_map line_of xs
 
--- the text of a reply, including line ends
+-- the text of a reply, including its LFs
 abbrev pub text_of : Reply → List ℕ
 text_of none = []
 text_of bad_line = codes "bad line\n"

@@ -23,7 +23,8 @@ use Rattle.be_script_language.specs.Values.{same, kind_in, value_in}
 use Rattle.be_script_language.specs.Words.{is_blank, is_empty, skip, end_of_word, bytes_of}
 use Rattle.be_script_language.specs.Words.{first_word, one_word, two_words, text_in}
 
--- What a line requests. If no store takes its name or value, the request has the error instead.
+-- What a line requests. If no store accepts the name or value, the request contains the error
+-- instead.
 pub data Request : Type 0 where
   silent : Request
   malformed : Request
@@ -60,7 +61,7 @@ set_from node name kind value =
     (λ k. option_map (λ v. write (set_op n (name_from name) v)) (value_in k value))
     (kind_in kind)) (word_in node)
 
--- the text after a command word, for each command
+-- what each command requests, given the text after its word
 
 abbrev pub bare : Request → List ℕ → Option Request
 bare request rest = if is_empty rest then Some request else None
@@ -77,7 +78,7 @@ only_number_in rest = option_and_then word_in (one_word rest)
 abbrev pub drop_in : List ℕ → Option Request
 drop_in rest = option_map (λ node. write (Ok (Drop node))) (only_number_in rest)
 
--- the only two words: a number and any word
+-- a number and a word of any form, if the text has exactly these two words
 abbrev pub number_and_word_in : List ℕ → Option (ℕ × List ℕ)
 number_and_word_in rest = option_and_then
     (λ words. option_map (λ n. (n, words.1)) (word_in words.0)) (two_words rest)
@@ -148,22 +149,22 @@ command_in commands.Begin rest = bare begin rest
 command_in commands.Commit rest = bare commit rest
 command_in commands.Abort rest = bare abort rest
 
--- what a line with a command requests, from its first word on
+-- what a line with a command requests; the line is given from its first word onward
 abbrev pub command_of : List ℕ → Request
 command_of line =
     unwrap_or (option_and_then (λ command. command_in command (drop (end_of_word line) line))
     (command_named (bytes_of (take (end_of_word line) line)))) malformed
 
--- the first byte is '#'
+-- the line's first byte is '#'
 abbrev pub is_comment : List ℕ → Bool
 is_comment [] = false
 is_comment (c ∷ line) = nat_eq c 35
 
--- bytes as text, if they are valid UTF-8
+-- the bytes as text, if they are valid UTF-8
 abbrev pub utf8 : List ℕ → Option (List ℕ)
 utf8 bytes = if is_utf8 bytes then Some bytes else None
 
--- what a line requests, given without its LF or CR
+-- what a line requests; the line is given without its LF or CR
 abbrev pub request_in : List ℕ → Request
 request_in line =
     if is_none (utf8 line) then malformed

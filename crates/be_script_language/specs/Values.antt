@@ -1,4 +1,4 @@
--- Kinds and values, as words of a line encode them.
+-- Kinds and values, as the words of a line encode them.
 use Rattle.std.specs.Prelude.{ℕ, ◌+◌, ◌*◌, ◌-◌, ◌^◌, Bool, List, [], ◌∷◌, length, nat_eq, nat_lt}
 use Rattle.std.specs.Prelude.{nat_le, ◌&&◌, if◌then◌else◌, Some, None, Ok, codes, pos, negsuc}
 use Rattle.std.specs.Option.{option_and_then, option_map}
@@ -31,16 +31,16 @@ kind_in word =
     else if same word (codes "ULLG") then Some kinds.Ullg
     else None
 
--- a number without its sign
+-- the digits of a number, without its sign
 abbrev pub unsigned_part : List ℕ → List ℕ
 unsigned_part [] = []
 unsigned_part (c ∷ word) = if nat_eq c 45 then word else c ∷ word
 
--- an optional '-' and 1 to 19 digits
+-- an optional '-' followed by 1 to 19 digits
 abbrev pub signed_in : List ℕ → Option ℤ
 signed_in word = if nat_le (length (unsigned_part word)) 19 then number_in word else None
 
--- a signed number, if it fits: `half` is 2 to the power of one less than its bits
+-- a signed number, if it fits; with w bits, `half` is 2 to the power of w - 1
 abbrev pub within : ℕ → ℤ → Option ℤ
 within half (pos n) = if nat_lt n half then Some (pos n) else None
 within half (negsuc n) = if nat_lt n half then Some (negsuc n) else None
@@ -51,7 +51,7 @@ int32_in word = option_and_then (within (2 ^ 31)) (signed_in word)
 abbrev pub int64_in : List ℕ → Option ℤ
 int64_in word = option_and_then (within (2 ^ 63)) (signed_in word)
 
--- 1 to 20 digits that encode a number of 32 bits
+-- the number below 2 to the power of 32 that 1 to 20 digits encode
 abbrev pub uint32_in : List ℕ → Option ℕ
 uint32_in word = option_and_then (λ n. if nat_lt n (2 ^ 32) then Some n else None) (word_in word)
 
@@ -68,7 +68,7 @@ abbrev pub byte_in : ℕ → ℕ → Option ℕ
 byte_in c d = option_and_then (λ high. option_map (λ low. 16 * high + low) (hex_digit_in d))
     (hex_digit_in c)
 
--- the byte that the first two digits encode, and what follows them
+-- the byte that the first two digits encode, and the rest of the word
 abbrev pub first_byte_in : List ℕ → Option (ℕ × List ℕ)
 first_byte_in [] = None
 first_byte_in (c ∷ []) = None
@@ -81,8 +81,8 @@ hex_in (c ∷ []) = None
 hex_in (c ∷ d ∷ word) = option_and_then (λ byte. option_map (λ bytes. byte ∷ bytes) (hex_in word))
     (byte_in c d)
 
--- The value of this kind that a word encodes, or the error if no store takes that value. None if
--- the word encodes no value.
+-- The value of this kind that a word encodes, or the error if no store accepts that value. None if
+-- the word encodes no value of this kind.
 abbrev pub value_in : Kind → List ℕ → Option (Result Value Refusal)
 value_in kinds.Cstr word = Some (result_map_both Cstr (λ e. e) (text_from word))
 value_in kinds.Long word = option_map (λ n. Ok (Long n)) (int32_in word)

@@ -1,4 +1,4 @@
--- The code's requests and replies as those of the definitions.
+-- The code's requests and replies as requests and replies of the definitions.
 use Rattle.std.specs.String.{string_bytes}
 use Rattle.be_script_language.specs.Request.{Request, silent, malformed, write, query, page}
 use Rattle.be_script_language.specs.Request.{explain, get, attrs, indices, pin, unpin, live}
@@ -32,7 +32,7 @@ request_of asked.Begin = begin
 request_of asked.Commit = commit
 request_of asked.Abort = abort
 
--- a reply of the code as a reply of the definitions
+-- the code's reply as a reply of the definitions
 abbrev pub reply_of : Answer → Reply
 reply_of answers.Silent = none
 reply_of answers.BadLine = bad_line

@@ -1,9 +1,9 @@
-//! The script language, as text.
+//! The script language as text.
 //!
-//! A script is a text with one command per line. Each line has a reply, except blank lines and
+//! A script is a text with one command per line. Each line gets a reply, except blank lines and
 //! comments. [`read_line`] reads what a line requests, and [`reply_text`] writes a reply. Neither
-//! knows what runs the script. The modules, from the bottom up, are about words, the values that
-//! they encode, commands, lines `page`, requests, and replies.
+//! knows how a script is run. From the bottom up, the modules handle words, the values that words
+//! encode, commands, lines `page`, requests, and replies.
 #![tactic(auto)]
 
 mod commands;

@@ -1,7 +1,7 @@
 //! What a line `page` requests, and what it finds.
 //!
 //! The words come in this order: `by NAME`, `descending` for the reverse order, `after KIND VALUE
-//! NODE` for any page but the first, and `limit N`. The query's text follows them.
+//! NODE` for any page but the first, and `limit N`. The query follows them.
 ghost use Rattle.std.specs.Option.{option_map};
 ghost use Rattle.std.specs.Prelude.{◌≡◌, IfErr, IfOk, false, string_bytes, true};
 ghost use Rattle.be_value.specs.Name.{name_from};
@@ -14,22 +14,23 @@ use arrayvec::ArrayVec;
 use be_value::{Kind, Name, Refusal, Value, key_of, word_of};
 use std::alloc::{AllocError, Global};
 
-/// The page of the query's answer that a line requests.
+/// The page of a query's answer that a line requests.
 #[derive(Debug, Drop)]
 pub struct Paging {
-    /// The name of the index whose order it has.
+    /// The name of the index that gives the order.
     pub by: Name,
-    /// Whether the order is reversed.
+    /// Whether that order is reversed.
     pub descending: bool,
-    /// The value and the node after which the page begins, or `None` for the first page.
+    /// The value and node after which the page begins, or `None` for the first page.
     pub after: Option<(Value, u64)>,
-    /// The maximum number of nodes, at least 1.
+    /// The maximum number of nodes; at least 1.
     pub most: u64,
 }
 
 impl Paging {
     /// The key after which the page begins in an index of this kind, or `None` for the first page.
-    /// The error is `NoSuchIndex` if there is no index, or if its kind isn't the value's.
+    /// For any other page, the error is `NoSuchIndex` if there is no index, or if the value is of a
+    /// different kind.
     pub fn cursor(&self, kind: Option<Kind>) -> Result<Option<ArrayVec<u8, 264>>, Refusal>
         ensures begins { IfOk result (λ _. spec.may_begin kind self.now.after ≡ true) }
         ensures key { IfOk result (λ cursor. option_map (λ key. key.items) cursor
@@ -56,11 +57,12 @@ impl Paging {
 /// The page that a line finds.
 #[derive(Debug, Drop)]
 pub struct Page {
-    /// Its nodes, in the index's order.
+    /// The page's nodes, in the index's order.
     pub nodes: Vec<u64>,
     /// Whether more nodes come after them.
     pub more: bool,
-    /// The last node's value and number, after which the next page begins.
+    /// The last node's value and number, after which the next page begins. `None` if the page is
+    /// empty.
     pub last: Option<(Value, u64)>,
 }
 
@@ -94,7 +96,7 @@ fn name_part(alloc: Global, text: &[char]) -> Result<Option<(String, &[char])>, 
     }
 }
 
-/// Whether `descending` comes first, and the text after it.
+/// Whether `descending` comes first, and the text left to read.
 fn direction_part(alloc: Global, text: &[char]) -> Result<(bool, &[char]), AllocError>
     ensures { IfOk result (λ direction. (direction.0, direction.1.now)
         ≡ spec.direction_in text.now) }
@@ -105,7 +107,8 @@ fn direction_part(alloc: Global, text: &[char]) -> Result<(bool, &[char]), Alloc
     }
 }
 
-/// The value and the node that three words encode, or the value's error. `None` if the line is bad.
+/// The value and node that three words encode, or the error of the value. Returns `None` if the
+/// line is bad.
 fn pair_of(
     alloc: Global,
     kind: &str,
@@ -129,7 +132,7 @@ fn pair_of(
     }
 }
 
-/// Reads `KIND VALUE NODE`, and returns the text after it too.
+/// Reads `KIND VALUE NODE`, and returns the value and node with the text after them.
 fn pair_part(
     alloc: Global,
     text: &[char],
@@ -152,7 +155,8 @@ fn pair_part(
     }
 }
 
-/// Reads `after KIND VALUE NODE`, if `after` comes first, and returns the text after it too.
+/// If `after` comes first, reads `after KIND VALUE NODE`. Returns the value and node, if there are
+/// any, with the text left to read.
 fn after_part(
     alloc: Global,
     text: &[char],
@@ -191,7 +195,7 @@ fn limit_part(alloc: Global, text: &[char]) -> Result<Option<(u64, &[char])>, Al
     }
 }
 
-/// The page of these parts. An error of the name comes before one of the value.
+/// Builds the page request from its parts. An error in the name comes before an error in the value.
 fn paging_of(
     name: &str,
     descending: bool,
@@ -210,8 +214,8 @@ fn paging_of(
     })
 }
 
-/// The page that the words after `page` request, or the error of its name or value; and the query's
-/// text. `None` if the line is bad.
+/// The page that the words after `page` request, or the error of its name or value, with the
+/// query's text. Returns `None` if the line is bad.
 pub(crate) fn page_asked(
     alloc: Global,
     text: &[char],

@@ -1,7 +1,7 @@
-//! Replies and their texts.
+//! Replies and their text.
 //!
-//! A reply has one or more lines, each with its LF. Its whole text is made before any of it is
-//! written, so running out of memory never leaves half a reply written.
+//! A reply has one or more lines, each ending with LF. Its whole text is built before any of it is
+//! written, so a reply is never half written when memory runs out.
 ghost use Rattle.std.specs.Prelude.{◌≡◌, ◌++◌, ◌∷◌, IfOk, OnOk, codes, decimal, flat_map};
 ghost use Rattle.std.specs.String.{string_bytes};
 ghost use Rattle.be_script_language.specs.Page.{page_found};
@@ -22,21 +22,21 @@ pub enum Reply {
     BadLine,
     Done,
     Node(u64),
-    /// The nodes that a query finds.
+    /// The nodes that a query found.
     Nodes(Vec<u64>),
-    /// The page that `page` finds.
+    /// The page that `page` found.
     Page(Page),
-    /// The value that `get` finds.
+    /// The value that `get` found, or `None` if there is no such value.
     Value(Option<Value>),
     Attributes(Vec<(Name, Value)>),
     Kinds(Vec<(Name, Kind)>),
-    /// The plan that `explain` shows.
+    /// The plan that `explain` found, as text.
     Cover(String),
-    /// The number of the newly pinned version.
+    /// The number of the version that was pinned.
     Pinned(u64),
     AlreadyPinned,
     NotPinned,
-    /// What `refresh` finds: the nodes that joined the answer, and those that left it.
+    /// The nodes that joined the answer and those that left it, as `refresh` found them.
     Updates(Vec<u64>, Vec<u64>),
     NoLiveQuery,
     Queued,
@@ -44,14 +44,14 @@ pub enum Reply {
     EmptyBatch,
     AlreadyBegun,
     NotBegun,
-    /// The commit number, and an outcome for each of the operations.
+    /// The commit number, and the outcome of each operation.
     Committed(u64, ArrayVec<Done, 64>),
     Refused(Refusal),
 }
 
 ghost use Rattle.be_script_language.specs.View.{reply_of};
 
-/// The reply's text, as it is written.
+/// The text of a reply, as it is written.
 pub fn reply_text(alloc: Global, reply: &Reply) -> Result<String, AllocError>
     ensures { IfOk result (λ text. string_bytes text ≡ spec.text_of (reply_of reply.now)) }
 {
@@ -81,7 +81,7 @@ pub fn reply_text(alloc: Global, reply: &Reply) -> Result<String, AllocError>
     }
 }
 
-/// A word, and a space and the number for each number.
+/// A line with the word, and then each of the numbers after a space.
 fn numbers_line(alloc: Global, word: &str, numbers: &[u64]) -> Result<String, AllocError>
     ensures { IfOk result (λ text. string_bytes text ≡ spec.numbers_line word.now numbers.now) }
 {

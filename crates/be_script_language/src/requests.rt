@@ -1,8 +1,8 @@
 //! What a line requests.
 //!
-//! The order of checks is fixed: whether the line is valid UTF-8, whether it has a reply at all,
-//! its command word, and the words after that. Anything that doesn't fit makes it a bad line. If a
-//! name or value fits but no store takes it, the request has its error.
+//! The checks come in a fixed order: whether the line is valid UTF-8, whether it has a reply at
+//! all, its command word, and the words after that. A line that isn't well-formed is a bad line. If
+//! it is well-formed but no store accepts its name or value, the request contains the error.
 ghost use Rattle.std.specs.List.{list_all};
 ghost use Rattle.std.specs.Option.{option_map};
 ghost use Rattle.std.specs.Prelude.{◌≡◌, IfOk, string_bytes};
@@ -26,13 +26,13 @@ use std::str;
 pub enum Request {
     /// The line has no reply.
     Silent,
-    /// The line is a bad line.
+    /// The line is malformed.
     Malformed,
     /// An operation, or the error of its name or value.
     Write(Result<Op, Refusal>),
     /// A query's text.
     Query(String),
-    /// The requested page, or the error of its name or value; and the query's text.
+    /// The requested page, or the error of its name or value, with the query's text.
     Page(Result<Paging, Refusal>, String),
     /// The text of a query to explain.
     Explain(String),
@@ -51,7 +51,7 @@ pub enum Request {
 
 ghost use Rattle.be_script_language.specs.View.{request_of};
 
-/// This request, if no words follow the command.
+/// This request, if the command is the only word.
 fn bare(request: Request, rest: &[char]) -> Option<Request>
     ensures { option_map request_of result ≡ spec.bare (request_of request) rest.now }
 {
@@ -76,7 +76,7 @@ fn rmindex_op(name: &str) -> Result<Op, Refusal>
     Ok(Op::RmIndex(Name::new(name)?))
 }
 
-/// The operation that sets an attribute. An error of the name comes before one of the value.
+/// The operation that sets an attribute. An error in the name comes before an error in the value.
 fn set_op(node: u64, name: &str, value: Result<Value, Refusal>) -> Result<Op, Refusal>
     ensures { result ≡ spec.set_op node (name_from name.now) value }
 {
@@ -84,7 +84,8 @@ fn set_op(node: u64, name: &str, value: Result<Value, Refusal>) -> Result<Op, Re
     Ok(Op::Set(node, name, value?))
 }
 
-/// The request of `set N NAME KIND VALUE`, from its four words. `None` if the line is bad.
+/// Builds the request `set N NAME KIND VALUE` from its four words. Returns `None` if the line is
+/// bad.
 fn set_from(
     alloc: Global,
     node: &str,
@@ -107,7 +108,8 @@ fn set_from(
     }
 }
 
-/// The request of a line `set`, from the text after the command. `None` if the line is bad.
+/// Reads the request of a line `set` from the text after the command. Returns `None` if the line is
+/// bad.
 fn set_request(alloc: Global, rest: &[char]) -> Result<Option<Request>, AllocError>
     ensures { IfOk result (λ request. option_map request_of request ≡ spec.set_in rest.now) }
 {
@@ -157,7 +159,7 @@ fn attrs_request(alloc: Global, rest: &[char]) -> Result<Option<Request>, AllocE
     }
 }
 
-/// The only two words: a node's number and a name.
+/// A node's number and a name, from text that has exactly these two words.
 fn node_and_name(alloc: Global, rest: &[char]) -> Result<Option<(u64, String)>, AllocError>
     ensures { IfOk result (λ words. option_map (λ p. (p.0, string_bytes p.1)) words
         ≡ spec.number_and_word_in rest.now) }
@@ -251,7 +253,7 @@ fn command_request(
     }
 }
 
-/// What a line with a command requests, from its first word on.
+/// What a line with a command requests. The line is given from its first word onward.
 fn command_of(alloc: Global, line: &[char]) -> Result<Request, AllocError>
     ensures { IfOk result (λ request. request_of request ≡ spec.command_of line.now) }
 {
@@ -266,7 +268,7 @@ fn command_of(alloc: Global, line: &[char]) -> Result<Request, AllocError>
     }
 }
 
-/// Whether the line has only spaces and tabs.
+/// Whether the line consists of only spaces and tabs.
 fn is_blank_line(line: &[u8]) -> bool
     ensures { result ≡ list_all is_blank line.now }
 {
@@ -282,7 +284,7 @@ fn is_comment(line: &[u8]) -> bool
     }
 }
 
-/// The bytes as text, if they are valid UTF-8.
+/// The bytes as text, or `None` if they aren't valid UTF-8.
 fn utf8(bytes: &[u8]) -> Option<&str>
     ensures { option_map (λ s. s.now) result ≡ spec.utf8 bytes.now }
 {
@@ -299,7 +301,7 @@ fn characters(alloc: Global, text: &str) -> Result<Vec<char>, AllocError>
     text.chars().collect(alloc)
 }
 
-/// The line without a CR at its end; at most one is removed.
+/// The line without the CR at its end, if there is one. At most one CR is removed.
 fn without_cr(line: &[u8]) -> &[u8]
     ensures { result.now ≡ strip_carriage_return line.now }
 {
@@ -309,7 +311,7 @@ fn without_cr(line: &[u8]) -> &[u8]
     }
 }
 
-/// What a line requests, given without its LF.
+/// What a line requests. The line is given without its LF.
 pub fn read_line(alloc: Global, line: &[u8]) -> Result<Request, AllocError>
     ensures { IfOk result (λ request. request_of request ≡ spec.asked line.now) }
 {

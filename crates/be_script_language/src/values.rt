@@ -1,7 +1,7 @@
 //! Kinds and values, as the words of a line encode them.
 //!
-//! A word that encodes no value of its kind makes a bad line. A word may also encode a value that
-//! no store takes, such as a text of more than 255 bytes. That is an error of the value, which is
+//! If a word encodes no value of its kind, the line is bad. A word may also encode a value that no
+//! store accepts, such as a string of more than 255 bytes. That is an error in the value, which is
 //! reported only if nothing makes the line bad.
 ghost use Rattle.std.specs.Option.{option_map};
 ghost use Rattle.std.specs.Prelude.{◌≡◌, ◌<◌, IfOk, IfSome};
@@ -26,7 +26,7 @@ pub fn kind_of(word: &str) -> Option<Kind>
     }
 }
 
-/// A number without its sign.
+/// The digits of a number, without its sign.
 fn unsigned_part(word: &[u8]) -> &[u8]
     ensures { result.now ≡ spec.unsigned_part word.now }
 {
@@ -85,7 +85,7 @@ fn byte_of(c: u8, d: u8) -> Option<u8>
     Some(16 * high + low)
 }
 
-/// The byte that the first two digits encode, and the digits after them.
+/// The byte that the first two digits encode, with the digits after them.
 fn first_byte(word: &[u8]) -> Option<(u8, &[u8])>
     ensures { option_map (λ p. (p.0, p.1.now)) result ≡ spec.first_byte_in word.now }
 {
@@ -111,8 +111,8 @@ fn bytes_of(alloc: Global, word: &[u8]) -> Result<Option<Vec<u8>>, AllocError>
     }
 }
 
-/// The value of this kind that a word encodes, or the error if no store takes that value. `None` if
-/// the word encodes no value.
+/// The value of this kind that a word encodes, or the error if no store accepts that value. Returns
+/// `None` if the word encodes no value of this kind.
 pub fn value_of(
     alloc: Global,
     kind: Kind,

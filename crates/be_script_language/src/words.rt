@@ -1,10 +1,11 @@
 //! The words of a line.
 //!
-//! Here a line is a list of characters. Blanks (spaces and tabs) separate its words. A word that
-//! begins with a quote ends at the next quote that has no backslash. After it comes a blank or the
-//! end of the line. Inside it, a backslash may come only before `"`, `\`, `n` (LF) and `r` (CR).
-//! Any other word is taken as it is. A word is returned as the text it stands for, so code that
-//! reads numbers, names and values doesn't see how the word was written.
+//! Here a line is a list of characters. Its words are separated by blanks (spaces and tabs). A word
+//! that begins with a quote ends at the next quote that isn't preceded by a backslash. The closing
+//! quote must be followed by a blank or the end of the line. Inside the quotes, a backslash may
+//! come only before `"`, `\`, `n` (LF) and `r` (CR). Any other word stands for itself. A word is
+//! returned as the text that it stands for, so the code that reads numbers, names and values
+//! doesn't see how the word was written.
 ghost use Rattle.std.specs.Option.{option_map};
 ghost use Rattle.std.specs.Prelude.{◌≡◌, IfOk, position, take, drop};
 ghost use Rattle.std.specs.String.{string_bytes};
@@ -47,7 +48,7 @@ fn first_blank(text: &[char]) -> Option<usize>
     text.iter().position(|c| is_blank(*c))
 }
 
-/// The text up to its first blank, and the text after it.
+/// The text up to its first blank, and the rest of the text.
 pub fn split_word(text: &[char]) -> (&[char], &[char])
     ensures word { result.0.now ≡ take (spec.end_of_word text.now) text.now }
     ensures rest { result.1.now ≡ drop (spec.end_of_word text.now) text.now }
@@ -58,7 +59,7 @@ pub fn split_word(text: &[char]) -> (&[char], &[char])
     }
 }
 
-/// The characters as a text.
+/// The characters as a string.
 pub fn text_of(alloc: Global, text: &[char]) -> Result<String, AllocError>
     ensures { IfOk result (λ bytes. string_bytes bytes ≡ spec.bytes_of text.now) }
 {
@@ -91,8 +92,8 @@ fn ends_word(text: &[char]) -> bool
     }
 }
 
-/// The text that a quoted word stands for, and what follows its closing quote. It is given the text
-/// after the opening quote.
+/// The text that a quoted word stands for, and the text after its closing quote. The argument is
+/// the text after the opening quote.
 fn quoted_word(alloc: Global, text: &[char]) -> Result<Option<(String, &[char])>, AllocError>
     ensures { IfOk result (λ parts. option_map (λ p. (string_bytes p.0, p.1.now)) parts
         ≡ spec.quoted_in text.now) }
@@ -121,7 +122,8 @@ fn quoted_word(alloc: Global, text: &[char]) -> Result<Option<(String, &[char])>
     Ok(None)
 }
 
-/// The first word, and the text after it. `None` if no word is left, or it is malformed.
+/// The first word, and the text after it. Returns `None` if no word is left, or if the word is
+/// malformed.
 pub fn first_word(alloc: Global, text: &[char]) -> Result<Option<(String, &[char])>, AllocError>
     ensures { IfOk result (λ parts. option_map (λ p. (string_bytes p.0, p.1.now)) parts
         ≡ spec.first_word text.now) }
@@ -140,7 +142,7 @@ pub fn first_word(alloc: Global, text: &[char]) -> Result<Option<(String, &[char
     }
 }
 
-/// The word of a text that has exactly one.
+/// The word of a text that has exactly one word.
 pub fn one_word(alloc: Global, text: &[char]) -> Result<Option<String>, AllocError>
     ensures { IfOk result (λ word. option_map string_bytes word ≡ spec.one_word text.now) }
 {
@@ -150,7 +152,7 @@ pub fn one_word(alloc: Global, text: &[char]) -> Result<Option<String>, AllocErr
     }
 }
 
-/// The words of a text that has exactly two.
+/// The words of a text that has exactly two words.
 pub fn two_words(alloc: Global, text: &[char]) -> Result<Option<(String, String)>, AllocError>
     ensures { IfOk result (λ words. option_map (λ p. (string_bytes p.0, string_bytes p.1)) words
         ≡ spec.two_words text.now) }

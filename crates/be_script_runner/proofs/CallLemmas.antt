@@ -27,7 +27,7 @@ use Rattle.be_script_runner.proofs.EndLemmas.{nothing_asked}
 use Rattle.be_script_runner.proofs.ReplyLemmas.{serves_at_once}
 use Rattle.be_script_runner.proofs.RunLemmas.{none_written, written_both}
 
--- one more call, and none
+-- one more call; and no call at all
 pub leads_more : (a b : Knowledge) (s : Step volume) (c : Knowledge) → LeadTo a b → Call b s c → LeadTo a c
 leads_more a b s c h k = (h.0 ++ s ∷ [], calls_more a h.0 b s c h.1 k)
 
@@ -37,7 +37,7 @@ leads_both a b c h k = (h.0 ++ k.0, calls_both a h.0 b k.0 c h.1 k.1)
 pub leads_nowhere : (a : Knowledge) → LeadTo a a
 leads_nowhere a = ([], refl)
 
--- a read is a call, whatever its answer
+-- a read is a call, whatever it answers
 pub leads_read : (a b c : Knowledge) → LeadTo a b → HasRead b c → LeadTo a c
 leads_read a b c h k = leads_more a b (Learn (entries c.seen)) c h (read_learns b c k)
 
@@ -49,7 +49,8 @@ writes_call a c tries outcomes_of ops (Err e) ok err = (Learn (entries c.seen) �
 
 -- ## Lines
 
--- a pass's line: its server begins with what the pass knew, and ends with what it knows afterwards
+-- the line of a pass: the server begins with what the pass knew, and ends with what the pass knows
+-- afterwards
 pub line_served : (a first last c : Knowledge) (client after : Client) (line : List ℕ) (old new : Option (List ℕ)) → first ≡ a → c ≡ last → LeadTo a c →
     Wrote old new (Answered (session (known first) client) line (session (known last) after)) →
     Wrote old new (IsAnsweredBy a (session (known a) client) line c (session (known c) after))
@@ -66,7 +67,7 @@ line_served a first last c client after line old new begun ended calls w =
       };
     }
 
--- some lines, and one more
+-- several lines, followed by one more
 answered_more : (a : Knowledge) (s : Session) (lines : List (List ℕ)) (c : Knowledge) (mid : Session) (line : List ℕ) (d : Knowledge) (after : Session) (out reply : List ℕ) →
     AreAnsweredBy a s lines c mid out → IsAnsweredBy c mid line d after reply → AreAnsweredBy a s (lines ++ line ∷ []) d after (out ++ reply)
 answered_more a s [] c mid line d after out reply h k = (
@@ -131,7 +132,7 @@ last_served a script left c d s after old mid new e w r = record {
   };
 }
 
--- nothing follows the last LF
+-- no text follows the last LF
 pub none_left : (a : Knowledge) (script left : List ℕ) (c : Knowledge) (s : Session) (old new : Option (List ℕ)) → length left ≡ 0 →
     Wrote old new (HasAnswered a script c s left) → Wrote old new (IsServedBy a script c)
 none_left a script [] c s old new empty w =

@@ -53,13 +53,13 @@ queued_first : (op : Op) (ops : List Op) (out : List ℕ) → flat_map queued_te
 queued_first op ops out =
     ap (λ (l : List ℕ). l ++ out) (flat_map-cons queued_text op ops) ∙ append_assoc (text_of queued) (flat_map queued_text ops) out
 
--- an operation is queued if the batch has room
+-- an operation is queued if the batch has room for it
 queues : (store : Store) (ops : List Op) (op : Op) → length ops < 64 → Serves (batched store ops None) (write (Ok op)) queued (batched store (ops ++ op ∷ []) None)
 queues store ops op few =
     let room : nat_lt (length ops) 64 ≡ true = grind (arith, nat_tests, few) in
     serves_at_once (batched store ops None) (batched store (ops ++ op ∷ []) None) (write (Ok op)) queued (inl (rw room refl))
 
--- the lines of operations, queued one after another
+-- the lines of several operations, which are queued one after another
 all_queued : (store : Store) (ops todo : List Op) (more out : List ℕ) (last : Session) → All CanBeOp todo → length ops + length todo ≤ 64 →
     Outputs (batched store (ops ++ todo) None) (lines_of more) last out →
     Outputs (batched store ops None) (lines_of (flat_map op_line todo ++ more)) last (flat_map queued_text todo ++ out)
@@ -75,7 +75,8 @@ all_queued store ops (op ∷ todo) more out last can few next =
     (one_more (batched store ops None) after last (op_text op) (flat_map op_line todo ++ more) (flat_map queued_text todo ++ out) (write (Ok op)) queued (op_inside op op_can) (op_asked op op_can)
     (queues store ops op (omega (arith, few))) beyond))
 
--- One write, which makes the new store from the old one; the lines after it are answered from the new one.
+-- A write that turns the old store into the new one; the lines after it are answered from the new
+-- store.
 module _ (old new : Store) (last : Session) (dones : List Done) (more out : List ℕ) (next : Outputs (opening new) (lines_of more) last out) where
   abbrev number : ℕ
   number = length new.journal
@@ -122,7 +123,7 @@ module _ (old new : Store) (last : Session) (dones : List Done) (more out : List
       subst (λ (text : List ℕ). Outputs (opening old) (lines_of text) last (batch_text ops ++ out)) (sym text_is)
       (subst (λ (text : List ℕ). Outputs (opening old) (lines_of (codes "begin" ++ 10 ∷ (lines ++ (codes "commit" ++ 10 ∷ more)))) last text) (sym out_is) begun)
 
-  -- a write of one operation or more
+  -- a write of one or more operations
   one_write : (ops : List Op) → 1 ≤ length ops → length ops ≤ 64 → All CanBeOp ops → written old ops ≡ Ok (new, dones) →
       Outputs (opening old) (lines_of (write_lines ops ++ more)) last (cond (nat_lt 1 (length ops)) (batch_text ops) (text_of (done_reply dones)) ++ out)
   one_write ops some few can w = by (nat_lt 1 (length ops)) refl
@@ -132,7 +133,7 @@ module _ (old new : Store) (last : Session) (dones : List Done) (more out : List
       by true e = batch ops some few can w
       by false e = single ops some (grind (arith, nat_tests, e)) can w
 
--- the volume accepts a legal entry, which the journal gets if it has room
+-- the volume accepts an entry of a legal journal, and the journal takes it if there is room
 entry_written : (limit : ℕ) (front : List Entry) (entry : Entry) → Agrees (replay front) entry → length front < limit →
     written (made limit front) entry.ops ≡ Ok (made limit (front ++ entry ∷ []), entry.dones)
 entry_written limit front entry agrees room =
@@ -149,7 +150,7 @@ entry_written limit front entry agrees room =
 abbrev pub HasWrite : Entry → Type 0
 HasWrite entry = IsEntry entry × All CanBeOp entry.ops
 
--- the lines of further entries, run on the store that the first ones made
+-- the lines of further entries, run on the store that the first entries left
 entries_made : (limit : ℕ) (front rest : List Entry) → All HasWrite rest → IsLegal (front ++ rest) → length (front ++ rest) ≤ limit →
     Outputs (opening (made limit front)) (lines_of (dump rest)) (opening (made limit (front ++ rest))) (dump_output (length front + 1) rest)
 entries_made limit front [] are legal short =
@@ -182,7 +183,7 @@ entries_made limit front (entry ∷ rest) are legal short =
     (subst (λ (n : ℕ). Outputs (opening old) (lines_of (write_lines entry.ops ++ dump rest)) last (write_output n entry ++ dump_output (length front + 1 + 1) rest)) (sym numbered)
     (one_write old new last entry.dones (dump rest) (dump_output (length front + 1 + 1) rest) beyond entry.ops w.0.0 w.0.1 w.1 accepted))
 
--- the lines of writes rebuild their journal
+-- the lines of a journal's writes rebuild the journal
 pub writes_made : (limit : ℕ) (entries : List Entry) → All HasWrite entries → IsLegal entries → length entries ≤ limit →
     IsOutputTo (start limit) (dump entries) (made limit entries) (dump_output 1 entries)
 writes_made limit entries are legal short = (opening (made limit entries), entries_made limit [] entries are legal short, refl)

@@ -10,12 +10,12 @@ use Rattle.be_script_runner.specs.Store.{Store}
 use Rattle.be_script_runner.proofs.ReplyLemmas.{serves_at_once}
 use Rattle.be_script_runner.proofs.RunLemmas.{finish, none_written}
 
--- an empty line asks for nothing
+-- an empty line requests nothing
 pub nothing_asked : asked [] ≡ silent
 unfolding is_utf8 chars
 nothing_asked = refl
 
--- nothing follows the last LF
+-- no text follows the last LF
 pub finish_empty : (store : Store) (script left : List ℕ) (s : Session) (old new : Option (List ℕ)) → length left ≡ 0 → Wrote old new (HasReplied store script s left) →
     Wrote old new (IsOutputTo store script s.store)
 finish_empty store script [] s old new empty w =

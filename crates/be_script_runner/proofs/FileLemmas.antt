@@ -1,8 +1,9 @@
--- One more script that isn't too long.
+-- Adding a script that isn't too long.
 use Rattle.std.proofs.Common.{◌≡◌, Bool, true, false, ◌||◌, List, [], ◌∷◌, ◌++◌, refl}
 use Rattle.std.specs.List.{list_any}
 
--- what holds for no element, nor for one more, holds for none of them
+-- if a predicate holds for no element of a list, nor for one more element, it holds for no element
+-- of the longer list
 pub none_pushed : {X : Type 0} (P : X → Bool) (xs : List X) (x : X) → list_any P xs ≡ false → P x ≡ false → list_any P (xs ++ x ∷ []) ≡ false
 none_pushed P [] x h g = by (P x) g
   where

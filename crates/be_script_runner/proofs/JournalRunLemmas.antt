@@ -1,4 +1,4 @@
--- Runs that write their journal too.
+-- Runs that also write their journal.
 use Rattle.std.proofs.Common.{◌≡◌, ℕ, Bool, true, List, [], ◌++◌, IfOk, IfErr, IfSome, OnErr, Some, None, inl, inr, refl, sym, ap, ◌∙◌, subst, append_assoc, append-nil}
 use Rattle.std.specs.declared.option.Option.{Option}
 use Rattle.std.specs.declared.result.Result.{Result}
@@ -21,7 +21,7 @@ use Rattle.be_script_runner.specs.declared.faults.RunFault.{RunFault}
 use Rattle.be_script_runner.specs.declared.faults.RunFault.TheVariants.{Limits, Read, TooLong, Write, Memory}
 use Rattle.be_script_runner.proofs.RunLemmas.{all_read, left_by, none_answered, none_answered_if, written_both}
 
--- the replies, and after them the journal that they leave
+-- the replies, followed by the journal that they leave
 pub reported_run : (limits : StoreLimits) (script : List ℕ) (first after c : Knowledge) (log : List Entry) (old mid new : Option (List ℕ)) → known first ≡ start limits.commits → c ≡ after →
     log ≡ entries c.seen → IsLegal log → CanEncodeEach limits.pages log → Wrote old mid (IsOutputTo (known first) script (known after)) → Appends mid new (result_text log) →
     Wrote old new (IsReportedRun limits script)
@@ -40,7 +40,7 @@ reported_run limits script first after c log old mid new begun ended all legal v
       };
     }
 
--- what holds for the script that was read, holds for the reader's bytes
+-- a statement about the script that was read holds for the reader's bytes
 pub reported_of_reader : {E : Type 0} (r : Result Bool E) (limits : StoreLimits) (input left old new : Option (List ℕ)) (bytes : List ℕ) → ReadsAll input left bytes →
     IfOk r (λ legal. (legal ≡ true) × Wrote old new (IsReportedRun limits bytes)) → IfOk r (λ legal. (legal ≡ true) × IfSome input (λ script. Wrote old new (IsReportedRun limits script)))
 reported_of_reader (Ok legal) limits input left old new bytes h w = (w.0, all_read input left bytes (λ script. Wrote old new (IsReportedRun limits script)) h w.1)
@@ -77,7 +77,7 @@ pub first_lines_reported : (limits : StoreLimits) (script : List ℕ) (store : S
     Wrote old new (AreFirstReplies (start limits.commits) script)
 first_lines_reported limits script store old new begun w = subst (λ (s : Store). Wrote old new (AreFirstReplies s script)) begun w
 
--- all lines were answered, and nothing more was written
+-- all lines were answered, and nothing was written after the replies
 pub all_lines_reported : (limits : StoreLimits) (script : List ℕ) (store last : Store) (old mid new : Option (List ℕ)) → store ≡ start limits.commits → Wrote old mid (IsOutputTo store script last) →
     new ≡ mid → Wrote old new (AreFirstReplies (start limits.commits) script)
 all_lines_reported limits script store last old mid new begun w same = first_lines_reported limits script store old new begun (record {
@@ -86,7 +86,7 @@ all_lines_reported limits script store last old mid new begun w same = first_lin
   is = record { lines = lines_of script; rest = []; is = sym (append-nil (lines_of script)); last = w.is.0; output = w.is.1 };
 })
 
--- all the replies were written, and after them a prefix of the journal that they leave
+-- all the replies were written, followed by a prefix of the journal that they leave
 pub reported_in_part : (limits : StoreLimits) (script : List ℕ) (first after c : Knowledge) (log : List Entry) (old mid new : Option (List ℕ)) → known first ≡ start limits.commits → c ≡ after →
     log ≡ entries c.seen → IsLegal log → CanEncodeEach limits.pages log → Wrote old mid (IsOutputTo (known first) script (known after)) → Wrote mid new (IsFrontOf (result_text log)) →
     Wrote old new (IsReportedInPart limits script)
@@ -108,7 +108,7 @@ reported_in_part limits script first after c log old mid new begun ended all leg
       );
     }
 
--- a late error leaves a prefix of the whole, and if memory ran out, whole replies
+-- a late error leaves a prefix of the whole text or, if memory ran out, whole replies
 pub stops_late : {A : Type 0} (r : Result A RunFault) (limits : StoreLimits) (input left old new : Option (List ℕ)) (bytes : List ℕ) → IfErr r IsLate → ReadsAll input left bytes →
     OnErr r (Wrote old new (IsReportedInPart limits bytes)) → IfErr r (λ e. e ≡ Memory → Wrote old new (AreFirstReplies (start limits.commits) bytes)) →
     IfErr r (λ e. JournalRunLeaves limits e input old new)
@@ -120,7 +120,7 @@ stops_late (Err Write) limits input left old new bytes l h w whole = all_read in
 stops_late (Err Memory) limits input left old new bytes l h w whole =
     all_read input left bytes (λ script. Wrote old new (AreFirstReplies (start limits.commits) script)) h (whole refl)
 
--- an error while reading leaves nothing written
+-- after an error while reading, nothing was written
 pub stops_early : (e : RunFault) (limits : StoreLimits) (input left held : Option (List ℕ)) → ReadFault e input left → JournalRunLeaves limits e input held held
 stops_early Limits limits input left held h = absurd h
 stops_early Read limits input left held h = left_by Read (start limits.commits) input left held h

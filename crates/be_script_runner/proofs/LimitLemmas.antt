@@ -1,4 +1,4 @@
--- Which errors come from limits that are out of range.
+-- The errors caused by limits that are out of range.
 use Rattle.std.proofs.Common.{◌≡◌, ℕ, List, inl, inr, refl, ap, ◌∙◌, subst, arith}
 use Rattle.std.specs.Prelude.{◌↔◌, Result, Ok, Err, IfErr, OnErr}
 use Rattle.std.specs.declared.option.Option.{Option}
@@ -25,7 +25,7 @@ not_by {A} r P e never all is = never (subst (λ (x : Result A RunFault). IfErr 
 pub no_fault : {A : Type 0} (limits : StoreLimits) (r : Result A RunFault) → IsWithin limits → (r ≡ Err Limits → ⊥) → (r ≡ Err Limits) ↔ AreBad limits
 no_fault limits r within never = (λ is. absurd (never is), λ bad. absurd (bad within))
 
--- limits within their ranges stay so with one pass
+-- limits within their ranges are still within them if the number of passes is one
 pub for_one : (limits : StoreLimits) → IsWithin limits → IsWithin (record limits { passes = 1 })
 for_one limits w = record {
   some_pages = w.some_pages;
@@ -36,12 +36,13 @@ for_one limits w = record {
   short = w.short;
 }
 
--- opening a store with one pass can only fail because memory runs out
+-- opening a store with one pass fails only if memory runs out
 pub only_memory : (limits : StoreLimits) (e : Refusal) → IsWithin limits → IsOpenRefused (record limits { passes = 1 }) e → e ≡ OutOfMemory
 only_memory limits e within (inl bad) = absurd (bad.1 (for_one limits within))
 only_memory limits e within (inr want) = want.0
 
--- an error after the scripts were read leaves a prefix of the whole, and if memory ran out, whole passes
+-- an error after the scripts were read leaves a prefix of the whole text or, if memory ran out,
+-- whole passes
 pub late_stops : {A : Type 0} (r : Result A RunFault) (limits : StoreLimits) (scripts : List (List ℕ)) (old new : Option (List ℕ)) → IfErr r IsLate →
     OnErr r (Wrote old new (IsRaceInPart limits scripts)) → IfErr r (λ e. e ≡ Memory → Wrote old new (AreFirstPasses limits scripts)) →
     IfErr r (λ e. RaceLeaves limits scripts e old new)
@@ -52,13 +53,13 @@ late_stops (Err TooLong) limits scripts old new late w whole = absurd late
 late_stops (Err Write) limits scripts old new late w whole = w
 late_stops (Err Memory) limits scripts old new late w whole = whole refl
 
--- each volume that a pass has seen fits into as many pages as the store has
+-- each volume that a pass has seen fits into the store's pages
 seen_encoded : (pages : ℕ) (store : Opened) (pass : SeatFacts) (a : Knowledge) → IsPassOf store pass → store.limits.pages ≡ pages → pass.knows ≡ a → IsPass pass.knows → CanEncodeEach pages (entries a.seen)
 seen_encoded pages store pass a of_store is same h =
     subst (λ (k : Knowledge). CanEncodeEach pages (entries k.seen)) same
     (subst (λ n. CanEncodeEach n (entries pass.knows.seen)) (ap (λ (l : StoreLimits). l.pages) of_store.0.2 ∙ is) h.volumes)
 
--- the same for a pass that a server of the store gives back
+-- `seen_encoded` for a pass that a server of the store returns
 pub served_encoded : (pages : ℕ) (store kept : Opened) (pass : SeatFacts) (a : Knowledge) → kept ≡ store → IsPassOf kept pass → store.limits.pages ≡ pages → pass.knows ≡ a → IsPass pass.knows →
     CanEncodeEach pages (entries a.seen)
 served_encoded pages store kept pass a same of_kept is knows h = seen_encoded pages store pass a (subst (λ (s : Opened). IsPassOf s pass) same of_kept) is knows h

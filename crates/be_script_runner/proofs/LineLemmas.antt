@@ -1,4 +1,4 @@
--- Lines that end with an LF, and what the batch commands ask for.
+-- Lines that end with an LF, and what the batch commands request.
 use Rattle.std.proofs.Common.{◌≡◌, ℕ, Bool, true, false, not, List, [], ◌∷◌, ◌++◌, nat_eq, codes, refl, ap, ◌∙◌}
 use Rattle.std.proofs.lemmas.Bool.{and_parts}
 use Rattle.std.proofs.lemmas.List.Splits.{slice_split-cons_no}
@@ -15,7 +15,7 @@ no_end c h = by (nat_eq c 10) h
     by true g = cc
     by false g = refl
 
--- a line without an LF, and what follows the LF after it
+-- a line without an LF, and the text after the LF that follows it
 pub line_before : (line more : List ℕ) → list_all in_line line ≡ true → lines_of (line ++ 10 ∷ more) ≡ line ∷ lines_of more
 line_before [] more h = refl
 line_before (c ∷ line) more h =

@@ -44,7 +44,8 @@ queued (Some ops) = ops
 abbrev mine : Session → List Op
 mine s = own_ops s.store ++ queued s.batch
 
--- the pass and the number of passes are the same, and its own operations are now part of what they were and these
+-- the pass and the number of passes are unchanged, and the pass's operations are now part of its
+-- earlier ones and these
 record Adds (s after : Session) (ops : List Op) : Type 0 where
   pub pass : after.store.pass ≡ s.store.pass
   pub passes : after.store.passes ≡ s.store.passes
@@ -70,7 +71,7 @@ abbrev store_in : Store → Result (Store × List Done) Refusal → Store
 store_in d (Ok x) = x.0
 store_in d (Err e) = d
 
--- a write's operations are the pass's
+-- the operations of a pass's write are added to the pass's operations
 own_entered : (s : Store) (ops : List Op) (volume : State) (dones : List Done) → own_ops (entered s ops volume dones) ≡ own_ops s ++ ops
 own_entered s ops volume dones =
     let e : Entry = record { by = s.pass; ops = ops; dones = dones } in
@@ -111,7 +112,7 @@ written_adds s op closed (Err f) e = nothing_added s (op ∷ [])
 abbrev queued_if : Session → List Op → Op → Bool → Reply × Session
 queued_if s ops op b = if b then (queued_word, with_batch s (Some (ops ++ op ∷ []))) else (full_batch, s)
 
--- a write line, which is queued if a batch is open
+-- a write line, whose operation is queued if a batch is open
 taken_adds : (s : Session) (op : Op) (b : Option (List Op)) → s.batch ≡ b → Adds s (taken s b op).1 (op ∷ [])
 taken_adds s op None e = written_adds s op e (written s.store (op ∷ [])) refl
 taken_adds s op (Some ops) e = by (nat_lt (length ops) 64)
@@ -201,7 +202,7 @@ may_reply_to_adds : (s : Session) (request : Request) (text : List ℕ) (answer 
 may_reply_to_adds s request text answer reply after ops h (inl e) = same_left (answer e.0) reply after s ops e.2 (h e.0)
 may_reply_to_adds s request text answer reply after ops h (inr w) = subst (λ (z : Session). Adds s z ops) (sym w.0) (unwritten_adds s request ops)
 
--- a line adds at most what it writes to the pass's own operations
+-- a line adds to the pass's operations at most those that it writes
 replies_add : (s : Session) (request : Request) (reply : Reply) (after : Session) → Replies s request reply after → Adds s after (write_op request)
 replies_add s silent reply after h = same_left _ reply after s [] h (nothing_added s [])
 replies_add s malformed reply after h = may_reply_adds s malformed _ reply after [] (nothing_added s []) h
@@ -222,7 +223,7 @@ replies_add s begin reply after h = may_reply_adds s begin _ reply after [] (beg
 replies_add s commit reply after h = may_reply_adds s commit _ reply after [] (committing_adds s s.batch refl) h
 replies_add s abort reply after h = may_reply_adds s abort _ reply after [] (aborting_adds s s.batch) h
 
--- what others write isn't the pass's
+-- the writes of other passes aren't among this pass's
 joined_own : (a b : Store) → Joins a b → (b.pass ≡ a.pass) × (own_ops b ≡ own_ops a)
 joined_own a b h =
     let theirs : by_pass a.pass h.others ≡ [] = none_own a.pass h.others (λ k d lt. (h.theirs k d lt).1) in (
@@ -240,7 +241,8 @@ serves_add s request reply after h =
       part = subst (λ l. IsPartOf (mine after) ((l ++ queued s.batch) ++ write_op request)) joined.1 adds.part;
     }
 
--- in a store with one pass a line is answered from the store as it is, and leaves a store with one pass
+-- in a store with one pass, a line is answered from the store as it is, and leaves a store with one
+-- pass
 pub answered_alone : (s after : Session) (request : Request) (reply : Reply) → s.store.passes ≡ 1 → s.store.pass ≡ 0 → Serves s request reply after →
     Replies s request reply after × (after.store.passes ≡ 1) × (after.store.pass ≡ 0)
 answered_alone s after request reply one first h =
@@ -253,7 +255,7 @@ answered_alone s after request reply one first h =
 abbrev line_ops : List ℕ → List Op
 line_ops line = write_op (asked line)
 
--- the same for several lines, one after another
+-- `replies_add` for several lines, one after another
 outputs_add : (s : Session) (lines : List (List ℕ)) (last : Session) (out : List ℕ) → Outputs s lines last out → Adds s last (flat_map line_ops lines)
 outputs_add s [] last out h = subst (λ (z : Session). Adds s z []) (sym h.0) (nothing_added s [])
 outputs_add s (line ∷ lines) last out h = by h.0 h.3.1 (outputs_add h.0 lines last h.2 h.4)
@@ -268,7 +270,7 @@ outputs_add s (line ∷ lines) last out h = by h.0 h.3.1 (outputs_add h.0 lines 
               (part_both (mine after) (flat_map line_ops lines) (mine s ++ line_ops line) (flat_map line_ops lines) one.part (part_itself (flat_map line_ops lines))));
         }
 
--- what the pass wrote while it ran a script is part of the script's writes
+-- the pass's writes while it ran a script are part of the script's writes
 pub own_writes : (store new : Store) (script out : List ℕ) → IsOutputTo store script new out → (new.pass ≡ store.pass) × IsPartOf (own_ops new) (own_ops store ++ write_ops script)
 own_writes store new script out h =
     let adds = outputs_add (opening store) (lines_of script) h.0 out h.1 in
@@ -279,14 +281,14 @@ own_writes store new script out h =
           (subst (λ l. IsPartOf (mine h.0) (l ++ write_ops script)) (append-nil (own_ops store)) adds.part)),
     )
 
--- what a pass wrote that had seen nothing before
+-- the writes of a pass that had seen nothing before
 pub pass_writes : (a c : Knowledge) (script out : List ℕ) → a.seen ≡ [] → IsPass c → IsOutputTo (known a) script (known c) out → IsPartOf (operations c.mine) (write_ops script)
 pass_writes a c script out fresh beyond h =
     let part : IsPartOf (own_ops (known c)) (own_ops (known a) ++ write_ops script) = (own_writes (known a) (known c) script out h).1 in
     subst (λ l. IsPartOf (operations l) (write_ops script)) beyond.mine
     (subst (λ (seen : List Commit). IsPartOf (own_ops (known c)) (operations (by_pass a.number (entries seen)) ++ write_ops script)) fresh part)
 
--- the replies to a script that such a pass served, and what the pass wrote
+-- the replies to a script that such a pass served, and the pass's writes
 pub pass_served : (a c : Knowledge) (script old text : List ℕ) → a.seen ≡ [] → IsPass c → old ≡ [] → Wrote (Some old) (Some text) (IsServedBy a script c) →
     IsServedBy a script c text × IsPartOf (operations c.mine) (write_ops script)
 pass_served a c script old text fresh beyond empty w =

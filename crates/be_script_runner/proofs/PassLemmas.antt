@@ -1,4 +1,4 @@
--- What a pass knows before and after a call, and the store that it shows accordingly.
+-- What a pass knows before and after a call, and the store that it then shows.
 use Rattle.std.proofs.Common.{◌≡◌, ◌≢◌, ◌⊎◌, ◌<◌, ◌≤◌, ◌+◌, ℕ, Bool, true, false, cond, eqb, nat_lt, List, [], ◌∷◌, ◌++◌, All, length, take, Option, Some, None, IsOk, inl, inr, refl, sym, ap, ◌∙◌, subst, append_assoc, arith, length-append}
 use Rattle.std.specs.Prelude.{Result, Ok, Err, IfOk, IfErr, IsSome}
 use Rattle.std.specs.Option.{option_map, option_map_or}
@@ -33,14 +33,14 @@ use Rattle.be_store.proofs.Applied.{entries_append, nothing_more}
 use Rattle.be_script_runner.specs.Served.{known, pin_at}
 use Rattle.be_script_runner.specs.Store.{PinnedVolume, Store, Joins, Meanwhile, IsBusy, IsWant, MayWrite, pinned, entered, written, written_by}
 
--- the pin of a pass, by the entries that it has seen and its phase
+-- a pass's pin, given the entries that it has seen and its phase
 abbrev pin_of : List Entry → Phase → Option PinnedVolume
 pin_of es phase = option_map {T = ℕ} {U = PinnedVolume} (λ n. record { number = n; volume = replay (take n es) }) (pinned_number phase)
 
 abbrev some_pin : PinnedVolume → Option PinnedVolume
 some_pin p = Some p
 
--- a pin stays when the pass sees more
+-- a pin is unchanged when the pass sees more
 pin_stays : (es more : List Entry) (phase : Phase) → InTime (length es) phase → pin_of (es ++ more) phase ≡ pin_of es phase
 pin_stays es more Idle h = refl
 pin_stays es more (Looked x) h = refl
@@ -50,7 +50,7 @@ pin_stays es more (Pinned x n) h = ap (λ (l : List Entry). some_pin (record { n
 seen_count : (seen : List Commit) → length (entries seen) ≡ length seen
 seen_count seen = length-map seen (λ (c : Commit). c.entry)
 
--- what a pass that has seen this shows, with the pin of the pass a
+-- what pass a shows, with its pin, once it has seen this journal
 abbrev seen_by : Knowledge → List Entry → Store
 seen_by a log = record (known a) { journal = log; volume = replay log }
 
@@ -59,7 +59,7 @@ unfolding AreOfPasses
 below_after passes [] more b = b
 below_after passes (e ∷ log) more b = below_after passes log more b.1
 
--- if all entries are by passes of the store, and none by pass k, they are by others
+-- if all entries were made by passes of the store, and none by pass k, they were made by others
 all_theirs : (passes k : ℕ) (es : List Entry) → AreOfPasses passes es → by_pass k es ≡ [] → All (λ (e : Entry). (e.by < passes) × (e.by ≢ k)) es
 unfolding AreOfPasses
 all_theirs passes k [] b none = All-nil (λ (e : Entry). (e.by < passes) × (e.by ≢ k))
@@ -73,7 +73,7 @@ all_theirs passes k (e ∷ es) b none = by (eqb e.by k) refl none (all_theirs pa
         differs : eqb e.by k ≡ false → e.by ≢ k
         differs h = λ same. absurd (let t : eqb e.by k ≡ true = grind (arith, nat_tests, same) in cc)
 
--- if the pass has seen more, and none of it is its own, others have joined
+-- if the pass has seen more, and none of it is its own, others have written
 joins_more : (a : Knowledge) (more : List Entry) → by_pass a.number more ≡ [] → AreOfPasses a.limits.passes (entries a.seen ++ more) → Joins (known a) (seen_by a (entries a.seen ++ more))
 joins_more a more none below = record {
   others = more;
@@ -95,7 +95,8 @@ is_pinned_to a b e h = by (pinned_number a.phase) refl (subst (λ (k : Knowledge
         never e = cc
     by (Some n) g k = (n, g)
 
--- a list that the volume accepts, if the journal has room, and if it has none
+-- operations that the volume accepts are written if the journal has room, and refused if it has
+-- none
 accepted_with_room : (s : Store) (ops : List Op) (r : Result (State × List Done) Refusal) → IsOk r → length s.journal < s.limit → IsOk (written_by s ops r)
 accepted_with_room s ops (Ok answer) ok h = let t : nat_lt (length s.journal) s.limit ≡ true = grind (arith, nat_tests) in rw t refl
 accepted_with_room s ops (Err e) ok h = cc
@@ -107,7 +108,8 @@ refused_at_limit s ops (Err e) ok h = cc
 written_with_room : (s : Store) (ops : List Op) (volume : State) (dones : List Done) → length s.journal < s.limit → written_by s ops (Ok (volume, dones)) ≡ Ok (entered s ops volume dones, dones)
 written_with_room s ops volume dones h = let t : nat_lt (length s.journal) s.limit ≡ true = grind (arith, nat_tests) in rw t refl
 
--- the lowest version that a pass finds is at most the one that reads see; it is that one if the pass is the only one
+-- the lowest version that a pass finds is at most the version that reads see, and equals it if
+-- there is only one pass
 lowest_shown : (passes : ℕ) (seen : List Commit) (phase : Phase) (least : ℕ) → IsBetweenCalls passes phase → InTime (length seen) phase
     → (least ≤ lowest_found (length seen) (announce_word phase)) × (passes ≡ 1 → least ≡ lowest_found (length seen) (announce_word phase))
     → let shown = option_map_or (λ (p : PinnedVolume). p.number) (pin_of (entries seen) phase) (length (entries seen)) in (least ≤ shown) × (passes ≡ 1 → least ≡ shown)
@@ -121,7 +123,7 @@ module _ (a c : Knowledge) (before : IsPass a) (beyond : IsPass c) (limits : c.l
   in_time : InTime (length (entries a.seen)) a.phase
   in_time = subst (λ m. InTime m a.phase) (sym (seen_count a.seen)) before.pin
 
-  -- none of what it newly sees is its own
+  -- none of the entries that it newly sees is its own
   none_new : (more : List Commit) → c.seen ≡ a.seen ++ more → c.mine ≡ a.mine → c.number ≡ a.number → by_pass a.number (entries more) ≡ []
   none_new more seen mine number = nothing_more a.mine (by_pass a.number (entries more))
       (ap (λ l. l ++ by_pass a.number (entries more)) (sym before.mine)
@@ -129,14 +131,14 @@ module _ (a c : Knowledge) (before : IsPass a) (beyond : IsPass c) (limits : c.l
       ∙ (ap (by_pass a.number) (sym (ap entries seen ∙ entries_append a.seen more))
       ∙ (ap (λ k. by_pass k (entries c.seen)) (sym number) ∙ (beyond.mine ∙ mine)))))
 
-  -- others have joined what it now sees, except for its pin
+  -- only others have written what it newly sees, if its pin is unchanged
   joins_seen : (more : List Commit) → c.seen ≡ a.seen ++ more → c.mine ≡ a.mine → c.number ≡ a.number → Joins (known a) (seen_by a (entries c.seen))
   joins_seen more seen mine number =
       let log : entries c.seen ≡ entries a.seen ++ entries more = ap entries seen ∙ entries_append a.seen more in
       subst (λ l. Joins (known a) (seen_by a l)) (sym log) (joins_more a (entries more) (none_new more seen mine number)
       (subst (λ l. AreOfPasses a.limits.passes l) log (subst (λ k. AreOfPasses k (entries c.seen)) (ap (λ l. l.passes) limits) beyond.by_passes)))
 
-  -- what the pass shows depends only on its journal, if its phase is the same
+  -- what the pass shows depends only on its journal, if its phase is unchanged
   shown : (more : List Entry) → entries c.seen ≡ entries a.seen ++ more → c.number ≡ a.number → c.phase ≡ a.phase → known c ≡ seen_by a (entries c.seen)
   shown more log number phase =
       let pin : pin_of (entries c.seen) c.phase ≡ pin_of (entries a.seen) a.phase =
@@ -230,7 +232,7 @@ module _ (a c : Knowledge) (before : IsPass a) (beyond : IsPass c) (limits : c.l
   writes_meanwhile tries outcomes_of ops (Ok x) settled ok err = accepts_meanwhile outcomes_of ops x.0 x.1 ok
   writes_meanwhile tries outcomes_of ops (Err e) settled ok err = record { now = known c; joins = learns_joins err.0; is = (refl, refused_as tries ops e settled err.0.pass err.1) }
 
--- after a write the pass has the same number, and an error has a reason
+-- after a write, the pass has the same number, and an error has a reason
 pub same_number : {X : Type 0} (a c : Knowledge) (tries : ℕ) (outcomes_of : X → List Done) (ops : List Op) (r : Result (ℕ × X) Refusal) → IfOk r (λ x. Accepts a c ops x.0 (outcomes_of x.1)) →
     IfErr r (λ e. Learns a c × IsLastReason tries a c ops e) → c.number ≡ a.number
 same_number a c tries outcomes_of ops (Ok x) ok err = ok.pass

@@ -30,7 +30,7 @@ abbrev page_or : Page → Result Page Refusal → Page
 page_or p (Ok q) = q
 page_or p (Err e) = p
 
--- the attribute of a node whose pair is in an index
+-- the attribute of a node that has a pair in an index
 seen_attribute : (s : State) → IsSound s → (by : List ℕ) (n : ℕ) (value : Value) → sees s n by ≡ Some value → attribute s n by ≡ Some value
 seen_attribute s sound by n value seen = at (fin.get s.indices by) refl seen
   where
@@ -45,7 +45,7 @@ later_of : (x y : ℕ) (ys : List ℕ) → slice_get (x ∷ y ∷ ys) (length (x
 later_of x y ys = let e : length (x ∷ y ∷ ys) - 1 ≡ suc (length (y ∷ ys) - 1) = omega arith in ap (slice_get (x ∷ y ∷ ys)) e
 
 module _ (s : State) (by : List ℕ) where
-  -- the entry's key is that of its node's attribute
+  -- the entry's key is the key of its node's attribute
   abbrev IsSeen : List ℕ × ℕ → Type 0
   IsSeen e = (value : Value) × (attribute s e.1 by ≡ Some value) × (e.0 ≡ key value e.1)
 
@@ -55,7 +55,7 @@ module _ (s : State) (by : List ℕ) where
   key_seen : (e : List ℕ × ℕ) → IsSeen e → key_of_last (Some e.1) ≡ Some e.0
   key_seen e h = ap (λ (o : Option Value). option_map key_at (option_map (λ value. (value, e.1)) o)) h.1 ∙ ap (λ (k : List ℕ). Some k) (sym h.2)
 
-  -- the last of some entries
+  -- the last of several entries
   last_key : (e : List ℕ × ℕ) (es : Entries) → ((d : List ℕ × ℕ) → Contains (e ∷ es) d → IsSeen d) → option_map key_at (last_pair s by (nodes_of (e ∷ es))) ≡ cursor_at (Some e.0) (keys_of es)
   last_key e [] all = ap key_of_last (first_of e.1 [] (length (e.1 ∷ []) - 1) (omega arith)) ∙ key_seen e (all e (0, omega arith, refl))
   last_key e (d ∷ es) all =

@@ -1,4 +1,4 @@
--- Threads and passes, each at its place.
+-- Threads and passes, each at its position.
 use Rattle.std.proofs.Common.{◌≡◌, ℕ, zero, suc, ◌<◌, ◌+◌, List, [], ◌∷◌, ◌++◌, length, map, get_or, drop, take, IfOk, OnOk, add-zero, add-one, zero-add, append_assoc, append-nil, ◌≤◌, ap, sym, ◌∙◌, subst, arith, refl, slice_index_or, inl, inr}
 use Rattle.std.proofs.lemmas.Result.{IfOk-at_ok}
 use Rattle.std.proofs.lemmas.List.{append_cancel_right}
@@ -30,7 +30,8 @@ use Rattle.be_script_runner.proofs.CallLemmas.{served_output}
 use Rattle.be_script_runner.proofs.RunLemmas.{none_written, written_both}
 use Rattle.be_script_runner.specs.Race.{HaveServed, AreRepliesOf, IsOutcome, IsRace, IsRaceInPart, IsReplied, AreFirstPasses, AreFirstTexts, pass_line, replies_text}
 
--- what holds for each element, and for one more at its place, holds for all
+-- if a predicate holds for each element, and for one more at its position, it holds for each
+-- element of the longer list
 pub each_pushed : {X : Type 0} (P : ℕ → X → Type 0) (xs : List X) (x : X) → ((k : ℕ) (d : X) → k < length xs → P k (get_or xs k d)) → P (length xs) x →
     (k : ℕ) (d : X) → k < length (xs ++ x ∷ []) → P k (get_or (xs ++ x ∷ []) k d)
 each_pushed P [] x each last zero d h = last
@@ -53,12 +54,12 @@ each_promised {H} {S} store_of number_of script_of gate_of store scripts gate th
     let whole : (n : ℕ) (h : H) → n < length more → P n (get_or more n h) = subst (λ hs. (n : ℕ) (h : H) → n < length hs → P n (get_or hs n h)) (sym is) all in
     whole k t below s
 
--- what two facts about a result imply
+-- two facts about a result imply a third
 pub on_both : {X E : Type 0} {P Q R : X → Type 0} (r : Result X E) → IfOk r P → IfOk r Q → ((x : X) → P x → Q x → R x) → IfOk r R
 on_both (Ok x) p q f = f x p q
 on_both (Err e) p q f = tt
 
--- what holds for every answer holds for this one
+-- a statement that holds for every answer holds for this one
 pub on_at_ok : {X E : Type 0} {r : Result X E} {x : X} (P : Type 0) → r ≡ Ok x → OnOk r P → P
 on_at_ok P is h = subst (λ r. OnOk r P) is h
 
@@ -74,7 +75,7 @@ from_new text limits k a c script (Ok x) is number mine own replies = record {
 }
 from_new text limits k a c script (Err e) is number mine own replies = tt
 
--- a journal that has what a pass has seen and written is that of its script's replies
+-- a journal that contains what a pass has seen and written is the journal of its script's replies
 replied_by : (limits : Limits) (journal : List Entry) (k : ℕ) (script text : List ℕ) (a : Knowledge) → a.number ≡ k → IsOutcome limits k script a text → StartsWith journal (entries a.seen) →
     by_pass a.number journal ≡ a.mine → IsReplied limits journal k script text
 replied_by limits journal k script text a number o seen own = record {
@@ -84,7 +85,7 @@ replied_by limits journal k script text a number o seen own = record {
   own = subst (λ n. by_pass n journal ≡ a.mine) number own ∙ sym o.mine;
 }
 
--- what holds for one more script
+-- what is reported for one more script
 reported_each : (Reported : ℕ → List ℕ → Type 0) (k : ℕ) (script : List ℕ) (scripts : List (List ℕ)) → Reported k script →
     ((i : ℕ) → i < length scripts → Reported ((k + 1) + i) (slice_index_or scripts i [])) →
     (i : ℕ) → i < length (script ∷ scripts) → Reported (k + i) (slice_index_or (script ∷ scripts) i [])
@@ -98,7 +99,7 @@ module _ {V E : Type 0} (store : Opened) (items : V → List ℕ) (Reported : �
   EndsAs k script o =
       IsPassOf store o.0 × (o.0.knows.number ≡ k) × IfOk o.1 (λ text. IsOutcome store.limits k (items script) o.0.knows (items text)) × OnOk o.1 (Reported k (items script))
 
-  -- the outcomes from number k on, none of which is an error
+  -- the outcomes from number k onward, if none of them is an error
   pub served_from : (k : ℕ) (scripts : List V) (outcomes : List (SeatFacts × Result V E)) (texts : List V) → length outcomes ≡ length scripts →
       ((i : ℕ) (o : SeatFacts × Result V E) (s : V) → i < length scripts → EndsAs (k + i) (get_or scripts i s) (get_or outcomes i o)) →
       map Ok texts ≡ map (λ (o : SeatFacts × Result V E). o.1) outcomes →
@@ -137,7 +138,7 @@ same_end items Reported store store' k k' script script' gate gate' o of_store o
 pub none_of_text : (bytes : List ℕ) (known : Option (List ℕ)) → Wrote known known (IsFrontOf bytes)
 none_of_text bytes known = record { out = []; appended = none_written known; is = (bytes, refl) }
 
--- the first part of a text was written, and a prefix of the next
+-- the first part of a text was written, and a prefix of the next part
 pub next_in_part : (a b c : Option (List ℕ)) (first next rest whole : List ℕ) → whole ≡ first ++ (next ++ rest) → Appends a b first → Wrote b c (IsFrontOf next) → Wrote a c (IsFrontOf whole)
 next_in_part a b c first next rest whole is written w = record {
   out = first ++ w.out;
@@ -145,7 +146,8 @@ next_in_part a b c first next rest whole is written w = record {
   is = (w.is.0 ++ rest, is ∙ (ap (λ l. first ++ (l ++ rest)) w.is.1 ∙ (ap (λ l. first ++ l) (append_assoc w.out w.is.0 rest) ∙ sym (append_assoc first w.out (w.is.0 ++ rest)))));
 }
 
--- the replies' text from a place on is that of the replies there, and then that of those after it
+-- the text of the replies from a position onward is that of the reply there, followed by that of
+-- the rest
 next_at : {V : Type 0} (items : V → List ℕ) (n k : ℕ) (texts : List V) (t : V) → k < length texts → t ≡ get_or texts k t →
     replies_text n (drop k (map items texts)) ≡ (pass_line n ++ items t) ++ replies_text (n + 1) (drop (suc k) (map items texts))
 next_at items n k [] t below is = absurd (omega (arith, below))
@@ -158,7 +160,7 @@ done_at items n (suc k) [] past = refl
 done_at items n zero (x ∷ xs) past = absurd (omega (arith, past))
 done_at items n (suc k) (x ∷ xs) past = done_at items n k xs (omega (arith, past))
 
--- the replies' text is that of the first ones, and then that of those after them
+-- the text of the replies is that of the first ones, followed by that of the rest
 replies_split : (n k : ℕ) (texts : List (List ℕ)) → replies_text n texts ≡ replies_text n (take k texts) ++ replies_text (n + k) (drop k texts)
 replies_split n zero [] = refl
 replies_split n zero (t ∷ ts) = ap (λ m. replies_text m (t ∷ ts)) (sym (add-zero n))
@@ -194,11 +196,11 @@ module _ {V : Type 0} (items : V → List ℕ) (texts : List V) (k : ℕ) (old m
         is = subst (λ m. replies_text 0 (map items texts) ≡ (w.out ++ (line ++ text)) ++ replies_text (k + 1) (drop m (map items texts))) (sym (add-one k)) (next ∙ split);
       }
 
-  -- what was written is a prefix
+  -- the written text is a prefix
   pub replies_before : Wrote old mid (IsFrontOf (replies_text 0 (map items texts)))
   replies_before = record { out = w.out; appended = w.appended; is = (replies_text k (drop k (map items texts)), w.is) }
 
-  -- what was written is whole replies
+  -- the written text consists of whole replies
   pub replies_whole : Wrote old mid (AreFirstTexts (map items texts))
   replies_whole =
       let all = map items texts in
@@ -211,7 +213,7 @@ module _ {V : Type 0} (items : V → List ℕ) (texts : List V) (k : ℕ) (old m
         is = (k, append_cancel_right w.out (replies_text 0 (take k all)) beyond (sym w.is ∙ split));
       }
 
-  -- the next pass's line, its replies, and what follows them
+  -- the next pass's line, its replies, and the text after them
   next_parts : (t : V) (line text : List ℕ) → k < length texts → t ≡ get_or texts k t → line ≡ pass_line k → text ≡ items t →
       replies_text 0 (map items texts) ≡ w.out ++ (line ++ (text ++ replies_text (k + 1) (drop (suc k) (map items texts))))
   next_parts t line text below at of_line of_text =
@@ -221,14 +223,14 @@ module _ {V : Type 0} (items : V → List ℕ) (texts : List V) (k : ℕ) (old m
       ∙ (ap (λ z. w.out ++ z) (append_assoc (pass_line k) (items t) rest)
       ∙ (ap (λ l. w.out ++ (l ++ (items t ++ rest))) (sym of_line) ∙ ap (λ u. w.out ++ (line ++ (u ++ rest))) (sym of_text))))
 
-  -- a prefix of the next pass's line was written after that
+  -- a prefix of the next pass's line was also written
   pub line_in_part : (new : Option (List ℕ)) (t : V) (line : List ℕ) → k < length texts → t ≡ get_or texts k t → line ≡ pass_line k → Wrote mid new (IsFrontOf line) →
       Wrote old new (IsFrontOf (replies_text 0 (map items texts)))
   line_in_part new t line below at of_line front =
       next_in_part old mid new w.out line (items t ++ replies_text (k + 1) (drop (suc k) (map items texts))) (replies_text 0 (map items texts))
       (next_parts t line (items t) below at of_line refl) w.appended front
 
-  -- that line was written, and a prefix of its replies
+  -- the next pass's line was written, and a prefix of its replies
   pub text_in_part : (near new : Option (List ℕ)) (t : V) (line text : List ℕ) → k < length texts → t ≡ get_or texts k t → line ≡ pass_line k → text ≡ items t →
       Appends mid near line → Wrote near new (IsFrontOf text) → Wrote old new (IsFrontOf (replies_text 0 (map items texts)))
   text_in_part near new t line text below at of_line of_text first front =
@@ -240,14 +242,14 @@ module _ {V : Type 0} (items : V → List ℕ) (texts : List V) (k : ℕ) (old m
   pub replies_all : length texts ≤ k → Appends old mid (replies_text 0 (map items texts))
   replies_all past = subst (Appends old mid) (sym (w.is ∙ (ap (λ z. w.out ++ z) (done_at items k k texts past) ∙ append-nil w.out))) w.appended
 
--- the passes are the store's
+-- the passes belong to the store
 pub all_at : (store : Opened) (k : ℕ) (scripts : List (List ℕ)) (passes : List SeatFacts) → HaveServed store k scripts passes → AllAt store.id passes
 all_at store k [] [] h = tt
 all_at store k [] (p ∷ ps) h = absurd h
 all_at store k (s ∷ ss) [] h = tt
 all_at store k (s ∷ ss) (p ∷ ps) h = ((h.0.pass.0.0, h.0.pass.0.1), all_at store (k + 1) ss ps h.1)
 
--- each number has its pass
+-- there is a pass for each number
 pub has_each : (store : Opened) (k : ℕ) (scripts : List (List ℕ)) (passes : List SeatFacts) → HaveServed store k scripts passes → (n : ℕ) → n < length scripts → Has (map knows_of passes) (k + n)
 has_each store k [] passes h n below = absurd (omega (arith, below))
 has_each store k (s ∷ ss) [] h n below = absurd h
@@ -255,7 +257,8 @@ has_each store k (s ∷ ss) (p ∷ ps) h zero below = inl (h.0.number ∙ omega 
 has_each store k (s ∷ ss) (p ∷ ps) h (suc n) below =
     let e : (k + 1) + n ≡ k + suc n = omega arith in inr (subst (Has (map knows_of ps)) e (has_each store (k + 1) ss ps h.1 n (omega (arith, below))))
 
--- if a journal has the passes' writes, its entries by each number are of that number's script
+-- if a journal contains the passes' writes, its entries with each pass's number come from the
+-- script with that number
 pub own_of : (store : Opened) (k : ℕ) (scripts : List (List ℕ)) (passes : List SeatFacts) (log : List Entry) → HaveServed store k scripts passes → KeepsSeen log (map knows_of passes) →
     (n : ℕ) → n < length scripts → IsPartOf (operations (by_pass (k + n) log)) (write_ops (slice_index_or scripts n []))
 own_of store k [] passes log h keeps n below = absurd (omega (arith, below))
@@ -267,7 +270,7 @@ own_of store k (s ∷ ss) (p ∷ ps) log h keeps (suc n) below =
     let e : (k + 1) + n ≡ k + suc n = omega arith in
     subst (λ m. IsPartOf (operations (by_pass m log)) (write_ops (slice_index_or ss n []))) e (own_of store (k + 1) ss ps log h.1 keeps.2 n (omega (arith, below)))
 
--- the journal's length, its lines and the result of its check, one after another
+-- the journal's length, its lines, and the result of its check, one after another
 pub result_is : (log : List Entry) (head text last : List ℕ) → head ≡ codes "journal " ++ (decimal (length log) ++ codes "\n") → text ≡ lines_from 1 log →
     last ≡ codes "replay ok\n" → head ++ (text ++ last) ≡ result_text log
 result_is log head text last of_head of_text of_last =

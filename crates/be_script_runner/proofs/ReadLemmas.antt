@@ -1,4 +1,4 @@
--- What a run has read when it stops.
+-- The bytes that a run has read when it stops.
 use Rattle.std.proofs.Common.{ℕ, ◌+◌, ◌≤◌, ◌^◌, List, [], ◌++◌, length, IfErr, IfSome, OnOk, Some, None, refl, sym, ap, subst, ◌∙◌, arith}
 use Rattle.std.specs.declared.option.Option.{Option}
 use Rattle.std.specs.declared.result.Result.{Result}
@@ -21,7 +21,7 @@ pub none_read : (known : Option (List ℕ)) → ReadsFew known known
 none_read None = ([], tt, omega arith)
 none_read (Some xs) = ([], refl, omega arith)
 
--- no read
+-- reading nothing
 pub not_read : (P : ℕ → Type 0) (before : ℕ) → P before → P (before + 0)
 not_read P before h = subst P (omega arith) h
 
@@ -32,11 +32,11 @@ no_reads P = λ before h. (0, omega arith, not_read P before h)
 read_more : (P : ℕ → Type 0) (before times : ℕ) → P ((before + times) + 1) → P (before + (times + 1))
 read_more P before times h = subst P (omega arith) h
 
--- one more read, after those whose bytes a script may have
+-- one more read, after reads that returned no more bytes than a script may have
 pub few_reads : (old mid new : ℕ → Type 0) (times bytes : ℕ) → times ≤ bytes → bytes ≤ 2 ^ 20 → ((before : ℕ) → old before → mid (before + times)) → ((n : ℕ) → mid n → new (n + 1)) → HasFewReads old new
 few_reads old mid new times bytes each few so_far once = λ before h. (times + 1, omega (arith, each, few), read_more new before times (once (before + times) (so_far before h)))
 
--- an error while reading says what was read
+-- an error while reading determines what was read
 pub read_by : (e : RunFault) (old new : Option (List ℕ)) → ReadFault e old new → HasReadScript e old new
 read_by Limits old new h = absurd h
 read_by Read old new h = h
@@ -44,7 +44,7 @@ read_by TooLong old new h = h
 read_by Write old new h = absurd h
 read_by Memory old new h = h
 
--- if the whole script was read, a later error says so too
+-- if the whole script was read, a later error also says so
 pub read_late : {T : Type 0} (r : Result T RunFault) (old new : Option (List ℕ)) (bytes : List ℕ) → IfErr r IsLate → ReadsAll old new bytes → length bytes ≤ 2 ^ 20 → IfErr r (λ e. HasReadScript e old new)
 read_late (Ok x) old new bytes l h few = tt
 read_late (Err Limits) old new bytes l h few = absurd l

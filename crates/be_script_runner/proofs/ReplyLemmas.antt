@@ -21,7 +21,7 @@ serves_at_once s after request reply r = record { now = s.store; joins = joins_i
 pub serves_joined : (s after : Session) (new : Store) (request : Request) (reply : Reply) → Joins s.store new → Replies (with_store s new) request reply after → Serves s request reply after
 serves_joined s after new request reply j r = record { now = new; joins = j; is = r }
 
--- what holds for two values holds for equal ones
+-- a relation that holds for two values holds for values equal to them
 pub of_both : {B : Type 0} (P : B → B → Type 0) (b b' c c' : B) → b ≡ c → b' ≡ c' → P c c' → P b b'
 of_both P b b' c c' e e' h = subst (λ x. P x b') (sym e) (subst (λ y. P c y) (sym e') h)
 
@@ -33,7 +33,7 @@ pinned_already s h = by s.store.pin h
     by None g = cc
     by (Some p) g = refl
 
--- a pin while none is pinned
+-- a pin while no version is pinned
 pub pinned_now : (old new : Store) (batch : Option (List Op)) (l : Option LiveQuery) (n : ℕ) → old.pin ≡ None → Meanwhile old (λ s. (new ≡ pinned s) × (n ≡ length s.journal)) →
     Serves (record { store = old; batch = batch; live = l }) pin (pinned_at n) (record { store = new; batch = batch; live = l })
 pinned_now old new batch l n none m = record {
@@ -52,7 +52,7 @@ pub commit_empty : (store : Store) (ops : List Op) (l : Option LiveQuery) → le
 commit_empty store [] l h = inl refl
 commit_empty store (op ∷ ops) l h = absurd (omega (arith, h))
 
--- an error although the volume accepts the write: memory ran out, or the write is held up
+-- an error although the volume accepts the write: memory ran out, or the write was held up
 held_up : (s : Store) (ops : List Op) (e : Refusal) → (IsWant s e × IsOk (written s ops)) ⊎ IsBusy s e →
     ((refused e ≡ refused OutOfMemory) × IsOk (written s ops)) ⊎ IsHeldUp s ops (refused e)
 held_up s ops e (inl h) = by h.0

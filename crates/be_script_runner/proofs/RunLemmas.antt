@@ -28,14 +28,14 @@ pub none_written : (known : Option (List ℕ)) → Appends known known []
 none_written None = tt
 none_written (Some xs) = sym (append_nothing xs)
 
--- two writes in sequence
+-- two writes, one after the other
 pub written_both : (a b c : Option (List ℕ)) (xs ys : List ℕ) → Appends a b xs → Appends b c ys → Appends a c (xs ++ ys)
 written_both None b c xs ys h g = tt
 written_both (Some a) None c xs ys h g = absurd h
 written_both (Some a) (Some b) None xs ys h g = absurd g
 written_both (Some a) (Some b) (Some c) xs ys h g = g ∙ ap (λ z. z ++ ys) h ∙ append_assoc a xs ys
 
--- two reads in sequence
+-- two reads, one after the other
 pub read_both : (a b c : Option (List ℕ)) (xs ys : List ℕ) → Consumes a b xs → Consumes b c ys → Consumes a c (xs ++ ys)
 read_both None b c xs ys h g = tt
 read_both (Some a) None c xs ys h g = absurd h
@@ -92,7 +92,7 @@ may_reply s begin = inl refl
 may_reply s commit = inl refl
 may_reply s abort = inl refl
 
--- the session after a possible answer to a line, and its text
+-- the session and the text after a possible answer to a line
 abbrev after_some : Session → List ℕ → Session
 after_some s line = (some_reply s (asked line)).1
 
@@ -103,7 +103,7 @@ some_text s line = text_of (some_reply s (asked line)).0
 some_answer : (s : Session) (line : List ℕ) → Answered s line (after_some s line) (some_text s line)
 some_answer s line = ((some_reply s (asked line)).0, serves_at_once s (after_some s line) (asked line) (some_reply s (asked line)).0 (may_reply s (asked line)), refl)
 
--- any lines have a possible output, and leave a session
+-- every list of lines has a possible output, and leaves a session
 some_output : (s : Session) (lines : List (List ℕ)) → (last : Session) × (out : List ℕ) × Outputs s lines last out
 some_output s [] = (s, [], (refl, refl))
 some_output s (line ∷ lines) =
@@ -112,14 +112,14 @@ some_output s (line ∷ lines) =
     let text = some_text s line in
     (next.0, text ++ next.1, (after, text, next.1, some_answer s line, next.2, refl))
 
--- some lines, and then those after them
+-- several lines, followed by further lines
 outputs_both : (s mid last : Session) (lines beyond : List (List ℕ)) (out more : List ℕ) → Outputs s lines mid out → Outputs mid beyond last more → Outputs s (lines ++ beyond) last (out ++ more)
 outputs_both s mid last [] beyond out more h g =
     subst (λ (text : List ℕ). Outputs s beyond last (text ++ more)) (sym h.1) (subst (λ (z : Session). Outputs z beyond last more) h.0 g)
 outputs_both s mid last (line ∷ lines) beyond out more h g =
     (h.0, h.1, h.2 ++ more, h.3, outputs_both h.0 mid last lines beyond h.2 more h.4 g, ap (λ text. text ++ more) h.5 ∙ append_assoc h.1 h.2 more)
 
--- the replies so far and an output of the lines left are an output of the script
+-- the replies so far, followed by an output of the remaining lines, are an output of the script
 completed : (store : Store) (script left : List ℕ) (s last : Session) (out more : List ℕ) → HasReplied store script s left out → Outputs s (lines_of left) last more →
     Outputs (opening store) (lines_of script) last (out ++ more)
 completed store script left s last out more r h =
@@ -181,7 +181,7 @@ none_answered store script known =
     let some = some_output (opening store) (lines_of script) in
     record { out = []; appended = none_written known; is = (some.1, (some.0.store, (some.0, some.2, refl))) }
 
--- a line that didn't run
+-- a line that wasn't run
 pub none_of_line : (s : Session) (line : List ℕ) (known : Option (List ℕ)) → Wrote known known (IsFrontOfAnswer s line)
 none_of_line s line known = record { out = []; appended = none_written known; is = (after_some s line, some_text s line, some_answer s line) }
 
@@ -203,7 +203,7 @@ front_of_reply s s' line text request reply old new e r t w = record {
   is = (s', w.is.0, (reply, subst (λ (q : Request). Serves s q reply s') e r, sym w.is.1 ∙ t));
 }
 
--- nothing of a script was answered yet
+-- nothing of a script has been answered yet
 pub nothing_yet : (store : Store) (script : List ℕ) (s : Session) (known : Option (List ℕ)) → s ≡ opening store → Wrote known known (HasReplied store script s script)
 nothing_yet store script s known e = record {
   out = [];
@@ -244,7 +244,7 @@ none_answered_if store (Some script) known = record {
   is = record { lines = []; rest = lines_of script; is = refl; last = opening store; output = (refl, refl) };
 }
 
--- what an error while reading leaves
+-- what an error during reading leaves
 pub left_by : (e : RunFault) (store : Store) (old new known : Option (List ℕ)) → ReadFault e old new → RunLeaves e store old known known
 left_by Limits store old new known h = absurd h
 left_by Read store old new known h = keeps known
@@ -267,7 +267,7 @@ left_late (Err TooLong) store input left old new bytes l h w whole = absurd l
 left_late (Err Write) store input left old new bytes l h w whole = all_read input left bytes (λ script. Wrote old new (IsFrontOfOutput store script)) h w
 left_late (Err Memory) store input left old new bytes l h w whole = all_read input left bytes (λ script. Wrote old new (AreFirstReplies store script)) h (whole refl)
 
--- an error that is Write isn't Memory
+-- Write is a different error from Memory
 pub is_not_memory : {T : Type 0} (r : Result T RunFault) (P : Type 0) → IfErr r (λ e. e ≡ Write) → IfErr r (λ e. e ≡ Memory → P)
 is_not_memory (Ok x) P h = tt
 is_not_memory (Err e) P h = λ is. absurd (let both : Write ≡ Memory = sym h ∙ is in cc)
@@ -281,11 +281,11 @@ pub each_err : {T E : Type 0} {P Q : E → Type 0} (r : Result T E) → ((e : E)
 each_err (Ok x) f p = tt
 each_err (Err e) f p = f e p
 
--- what holds after running out of memory, by what held before
+-- what holds after memory ran out, given what held before
 pub on_memory : {A B : Type 0} (e : RunFault) → (A → B) → (e ≡ Memory → A) → e ≡ Memory → B
 on_memory e f left is = f (left is)
 
--- an error that is passed on
+-- an error that is passed on to the caller
 pub passed_up : {T E : Type 0} (r : Result T E) (e : E) (P : E → Type 0) → IsErrAnd r (λ y. y ≡ e) → P e → IfErr r P
 passed_up (Ok x) e P is p = tt
 passed_up (Err y) e P is p = subst P (sym is) p
@@ -294,7 +294,7 @@ pub whole_output : (store store' : Store) (input left old new : Option (List ℕ
     IfSome input (λ script. Wrote old new (IsOutputTo store script store'))
 whole_output store store' input left old new bytes h w = all_read input left bytes (λ script. Wrote old new (IsOutputTo store script store')) h w
 
--- an output that leaves a store whose volumes fit into the pages is that of a run
+-- an output that leaves a store whose volumes fit into its pages is the output of a run
 pub run_output : (limits : StoreLimits) (input old new : Option (List ℕ)) (first last : Store) → first ≡ start limits.commits → CanEncodeEach limits.pages last.journal →
     IfSome input (λ script. Wrote old new (IsOutputTo first script last)) → IfSome input (λ script. Wrote old new (IsRun limits script))
 run_output limits None old new first last is volumes w = tt

@@ -1,4 +1,4 @@
--- The answers to queries ascend.
+-- The answers to queries are in ascending order.
 use Rattle.std.proofs.Common.{◌≡◌, ◌<◌, ◌+◌, ℕ, suc, zero, Bool, true, false, List, [], ◌∷◌, slice_index, filter, refl, ap, subst, arith}
 use Rattle.std.specs.Prelude.{Result, Ok, Err, if◌then◌else◌}
 use Rattle.std.specs.FinMap as map
@@ -23,7 +23,7 @@ list_of : List ℕ → Result (List ℕ) Refusal → List ℕ
 list_of d (Ok xs) = xs
 list_of d (Err e) = d
 
--- a query's answer ascends
+-- a query's answer is in ascending order
 pub scan_rises : (s : State) (f : Formula) (nodes : List ℕ) → scan s f ≡ Ok nodes → IsStrictlyIncreasing nodes
 unfolding list_of
 scan_rises s f nodes h = by (covered s f) h

@@ -1,4 +1,4 @@
--- What the script of a volume's state makes, and with how many writes.
+-- What the script of a volume's state produces, and the number of writes that it takes.
 use Rattle.std.proofs.Common.{◌≡◌, ◌<◌, ◌≤◌, ◌+◌, ◌*◌, ◌-◌, ◌^◌, ℕ, zero, suc, Bool, false, true, List, [], ◌∷◌, ◌++◌, All, fold, length, take, drop, take-append-drop, append_assoc, length-append, IsOk, refl, sym, ap, subst, ◌∙◌, arith}
 use Rattle.std.proofs.lemmas.Grind.{fold-append}
 use Rattle.std.proofs.lemmas.List.{append-nil, length-drop, length-map, length-take}
@@ -64,7 +64,7 @@ never_ok e ok = absurd (no ok)
     no : false ≡ true → ⊥
     no h = cc
 
--- the same state is reached, whatever the outcomes before were
+-- the state that is reached doesn't depend on the earlier outcomes
 reached_alike : (s t : State) (r q : Outcome) → Alike r q → IsOk r → IsOk q × (reached s r ≡ reached t q)
 reached_alike s t (Ok a) (Ok b) same ok = (refl, same)
 reached_alike s t (Ok a) (Err f) same ok = absurd same
@@ -100,7 +100,7 @@ in_two t xs ys ok = by (steps t xs) refl
           last = ap (reached t) there ∙ both.1 ∙ sym (ap (λ (u : State). state_after u ys) here);
         }
 
--- Entries that are written after others, each with a list of operations, and the volume after them.
+-- Entries that are appended to others, each with one list of operations, and the volume after them.
 record Built (front : List Entry) (lists : List (List Op)) (last : State) : Type 0 where
   entries : List Entry
   legal : IsLegal (front ++ entries)
@@ -189,7 +189,7 @@ makes_all s most (entry ∷ entries) are m =
 nothing_made : Makes empty 0
 nothing_made = record { ops = []; dones = []; is = refl; few = omega arith }
 
--- there are no more operations than the entries have room for
+-- there are no more operations than the entries can hold
 few_ops : (entries : List Entry) → All HasOperations entries → length (state_ops (replay entries)) ≤ 64 * length entries
 few_ops entries are =
     let m = makes_all empty 0 entries are nothing_made in
@@ -207,7 +207,8 @@ has_operations entry w = (w.is.1, All-weaker CanBeOp IsOperation (λ op can. can
 none_legal : IsLegal []
 none_legal i entry short is = absurd (omega (arith, short))
 
--- operations that the empty volume accepts make what they leave, if they are written in lists of 64
+-- operations that the empty volume accepts rebuild the volume that they leave, if they are written
+-- in lists of 64
 list_made : (limit most : ℕ) (ops : List Op) (volume : State) → IsOk (steps empty ops) → state_after empty ops ≡ volume → All CanBeOp ops →
     length ops ≤ 64 * most → most ≤ limit → MakesVolume limit (cut_lines ops) volume most
 list_made limit most ops volume accepted same can few short =

@@ -1,4 +1,4 @@
--- The script of a pass's pinned version, made by reads of that pass.
+-- The script of a pass's pinned version, made from reads of that pass.
 use Rattle.std.proofs.Common.{◌≡◌, ℕ, Bool, true, false, Option, Some, None, refl, sym, ap, ◌∙◌, take}
 use Rattle.std.specs.Prelude.{IsSome, if◌then◌else◌}
 use Rattle.std.specs.Option.{option_map, option_map_or}
@@ -15,11 +15,11 @@ use Rattle.be_volume.specs.Volume.{State, empty}
 pub same_pinned : (a c : Knowledge) → HasRead a c → volume_pinned c ≡ volume_pinned a
 same_pinned a c h = ap volume_pinned h
 
--- nor the pin
+-- a read doesn't change the pin
 pub stays_pinned : (a c : Knowledge) → HasRead a c → (n : ℕ) × IsPinnedTo a n → (n : ℕ) × IsPinnedTo c n
 stays_pinned a c h p = (p.0, ap (λ (k : Knowledge). pinned_number k.phase) h ∙ p.1)
 
--- two reads are one
+-- two reads in sequence are a read
 pub read_twice : (a b c : Knowledge) → HasRead a b → HasRead b c → HasRead a c
 read_twice a b c h g = g ∙ ap (λ (k : Knowledge). record k { steps = c.steps }) h
 
@@ -34,7 +34,7 @@ viewed_at a None h = absurd (never h)
     never e = cc
 viewed_at a (Some n) h = refl
 
--- what a pinned pass reads is what its store shows
+-- a pinned pass reads what its store shows
 pub viewed_pinned : (a : Knowledge) → IsSome (known a).pin → volume_pinned a ≡ viewed (known a)
 viewed_pinned a h = viewed_at a (pinned_number a.phase) h
 
@@ -42,7 +42,7 @@ viewed_pinned a h = viewed_at a (pinned_number a.phase) h
 pub same_known : (a c : Knowledge) → HasRead a c → known c ≡ known a
 same_known a c h = ap known h
 
--- what is read between a pin for one read and the read's end is what the store then shows
+-- what is read between a pin for one read and the end of that read is what the store then shows
 pub pinned_view : (inside begun read ended : Knowledge) (made : Bool) → inside ≡ begun → IsSome (known begun).pin → HasRead inside read →
     viewed (known begun) ≡ viewed (if made then unpinned (known begun) else known begun) → known ended ≡ (if made then unpinned (known read) else known read) →
     volume_pinned inside ≡ viewed (known ended)

@@ -20,24 +20,24 @@ use Rattle.be_script_runner.proofs.EndLemmas.{nothing_asked}
 use Rattle.be_script_runner.proofs.ReplyLemmas.{serves_at_once}
 use Rattle.be_script_runner.proofs.RunLemmas.{all_read, none_written, stop, written_both}
 
--- what a line was replied is a possible answer
+-- the reply to a line is a possible answer
 pub judged_answered : (s after : Session) (line : List ℕ) (found : Option (List ℕ)) (out : List ℕ) → Judged s line after found out → Answered s line after out
 judged_answered s after line found out j = (j.0, j.1, j.2)
 
--- replies of which none is a refusal are possible replies
+-- replies are possible replies if none of them is a refusal
 pub accepts_outputs : (s last : Session) (lines : List (List ℕ)) (out : List ℕ) → Accepts s lines last out → Outputs s lines last out
 accepts_outputs s last [] out h = h
 accepts_outputs s last (line ∷ lines) out h =
     (h.0, h.1, h.2, judged_answered s h.0 line None h.1 h.3, accepts_outputs h.0 last lines h.2 h.4, h.5)
 
--- some lines, and then those after them
+-- several lines, followed by further lines
 pub accepts_both : (s mid last : Session) (lines beyond : List (List ℕ)) (out more : List ℕ) → Accepts s lines mid out → Accepts mid beyond last more → Accepts s (lines ++ beyond) last (out ++ more)
 accepts_both s mid last [] beyond out more h g =
     subst (λ (text : List ℕ). Accepts s beyond last (text ++ more)) (sym h.1) (subst (λ (z : Session). Accepts z beyond last more) h.0 g)
 accepts_both s mid last (line ∷ lines) beyond out more h g =
     (h.0, h.1, h.2 ++ more, h.3, accepts_both h.0 mid last lines beyond h.2 more h.4 g, ap (λ text. text ++ more) h.5 ∙ append_assoc h.1 h.2 more)
 
--- the same for outputs
+-- `accepts_both` for outputs
 outputs_both : (s mid last : Session) (lines beyond : List (List ℕ)) (out more : List ℕ) → Outputs s lines mid out → Outputs mid beyond last more → Outputs s (lines ++ beyond) last (out ++ more)
 outputs_both s mid last [] beyond out more h g =
     subst (λ (text : List ℕ). Outputs s beyond last (text ++ more)) (sym h.1) (subst (λ (z : Session). Outputs z beyond last more) h.0 g)
@@ -53,7 +53,7 @@ refusal_is_reply : (b : Bool) (text out : List ℕ) → Some text ≡ (if b then
 refusal_is_reply true text out e = cc
 refusal_is_reply false text out e = cc
 
--- nothing was accepted yet
+-- nothing has been accepted yet
 pub nothing_yet : (store : Store) (script : List ℕ) (s : Session) (known : Option (List ℕ)) → s ≡ opening store → Wrote known known (HasAccepted store script s script 1)
 nothing_yet store script s known e = record {
   out = [];
@@ -61,7 +61,7 @@ nothing_yet store script s known e = record {
   is = record { lines = []; is = refl; number_is = refl; output = (e, refl) };
 }
 
--- the accepted lines were replied
+-- the replies to the accepted lines were written
 pub accepted_replied : (store : Store) (script left : List ℕ) (s : Session) (number : ℕ) (old new : Option (List ℕ)) → Wrote old new (HasAccepted store script s left number) →
     Wrote old new (HasReplied store script s left)
 accepted_replied store script left s number old new w = record {
@@ -70,7 +70,7 @@ accepted_replied store script left s number old new w = record {
   is = record { lines = w.is.lines; is = w.is.is; output = accepts_outputs (opening store) s w.is.lines w.out w.is.output };
 }
 
--- a whole answer is a prefix of one
+-- a whole answer is a prefix of an answer
 pub whole_answer : (s after : Session) (line : List ℕ) (found : Option (List ℕ)) (old new : Option (List ℕ)) → Wrote old new (Judged s line after found) → Wrote old new (IsFrontOfAnswer s line)
 whole_answer s after line found old new w = record {
   out = w.out;
@@ -136,7 +136,7 @@ accept_last store script left s s' number old mid new e w r =
 empty_judged : (s : Session) → Judged s [] s None []
 empty_judged s = (none, subst (λ (q : Request). Serves s q none s) (sym nothing_asked) (serves_at_once s s silent none refl), refl, refl)
 
--- nothing follows the last LF
+-- no text follows the last LF
 pub accept_empty : (store : Store) (script left : List ℕ) (s : Session) (number : ℕ) (old new : Option (List ℕ)) → length left ≡ 0 → Wrote old new (HasAccepted store script s left number) →
     Wrote old new (IsStrictOutput store script None s.store)
 accept_empty store script [] s number old new empty w =
@@ -152,7 +152,7 @@ judge_last store script left s s' number None found old mid new e w r is =
 judge_last store script left s s' number (Some text) found old mid new e w r is =
     subst (λ (f : Option (ℕ × List ℕ)). Wrote old new (IsStrictOutput store script f s'.store)) (sym is) (stop_at store script left left [] s s' number text old mid new e w r)
 
--- the replies up to a refused line are an output of the lines up to it
+-- the replies up to and including a refused line are an output of those lines
 stopped_output : (store new : Store) (script text out : List ℕ) (number : ℕ) (h : StopsAt store script number text new out) → Outputs (opening store) (h.lines ++ (h.line ∷ [])) h.after out
 stopped_output store new script text out number h =
     let answered : Answered h.before h.line h.after text = judged_answered h.before h.after h.line (Some text) text h.judged in
@@ -178,7 +178,7 @@ strict_part store new script text out number h =
       h.leaves,
     )
 
--- a strict run's replies are those to the first lines
+-- the replies of a strict run are those to the first lines
 strict_first : (store new : Store) (script : List ℕ) (found : Option (ℕ × List ℕ)) (out : List ℕ) → IsStrictOutput store script found new out → AreFirstReplies store script out
 strict_first store new script None out h = record {
   lines = lines_of script;
@@ -199,7 +199,7 @@ pub strict_replies : (store new : Store) (script : List ℕ) (found : Option (�
     Wrote old held (AreFirstReplies store script)
 strict_replies store new script found old held w = record { out = w.out; appended = w.appended; is = strict_first store new script found w.out w.is }
 
--- an output is a prefix of one
+-- an output is a prefix of an output
 pub output_front : (store new : Store) (script : List ℕ) (old held : Option (List ℕ)) → Wrote old held (IsOutputTo store script new) → Wrote old held (IsFrontOfOutput store script)
 output_front store new script old held w =
     record { out = w.out; appended = w.appended; is = ([], (new, subst (IsOutputTo store script new) (sym (append-nil w.out)) w.is)) }
@@ -207,7 +207,7 @@ output_front store new script old held w =
 pub strict_front : (store new : Store) (script : List ℕ) (old held : Option (List ℕ)) → Wrote old held (IsStrictOutput store script None new) → Wrote old held (IsFrontOfOutput store script)
 strict_front store new script old held w = output_front store new script old held (record { out = w.out; appended = w.appended; is = strict_whole store new script w.out w.is })
 
--- the store is closed after a strict run
+-- a strict run whose store is then closed
 pub strict_run : (limits : StoreLimits) (script : List ℕ) (found : Option (ℕ × List ℕ)) (first after c : Knowledge) (log : List Entry) (old new : Option (List ℕ)) → known first ≡ start limits.commits →
     c ≡ after → log ≡ entries c.seen → CanEncodeEach limits.pages log → Wrote old new (IsStrictOutput (known first) script found (known after)) → Wrote old new (IsStrictRun limits script found log)
 strict_run limits script found first after c log old new begun ended all volumes w = record {
@@ -221,7 +221,7 @@ strict_run limits script found first after c log old new begun ended all volumes
   };
 }
 
--- what holds for the script that was read, holds for the reader's bytes
+-- a statement about the script that was read holds for the reader's bytes
 pub strict_of_reader : {T E : Type 0} (r : Result T E) (found : T → Option (ℕ × List ℕ)) (log : T → List Entry) (limits : StoreLimits) (input left old new : Option (List ℕ)) (bytes : List ℕ) →
     ReadsAll input left bytes → IfOk r (λ t. Wrote old new (IsStrictRun limits bytes (found t) (log t))) →
     IfOk r (λ t. IfSome input (λ script. Wrote old new (IsStrictRun limits script (found t) (log t))))

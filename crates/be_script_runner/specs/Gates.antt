@@ -1,8 +1,8 @@
--- Which calls a race makes to its gate.
+-- The calls that a race makes to its gate.
 use Rattle.std.specs.Prelude.{◌≡◌, ◌⊎◌, ◌≤◌, ℕ, ◌+◌, ◌<◌, List, [], ◌∷◌, length, slice_index_or}
 use Rattle.be_script_language.specs.Request.{lines_of}
 
--- how many lines there are after the last LF: one if something follows it, otherwise none
+-- the number of lines after the last LF: one if any text follows it, otherwise none
 abbrev pub last_count : List ℕ → ℕ
 last_count [] = 0
 last_count (c ∷ line) = 1
@@ -12,19 +12,19 @@ count_lines [] = 0
 count_lines (line ∷ []) = last_count line
 count_lines (line ∷ next ∷ lines) = count_lines (next ∷ lines) + 1
 
--- how many lines of a script are run
+-- the number of a script's lines that are run
 abbrev pub line_count : List ℕ → ℕ
 line_count script = count_lines (lines_of script)
 
--- the line is the first, or the one before it has ended
+-- this line is the first, or the line before it has ended
 abbrev pub IsNext : (ℕ → Type 0) → ℕ → Type 0
 IsNext ended line = (line ≡ 1) ⊎ ((before : ℕ) × (line ≡ before + 1) × ended before)
 
--- each line up to this number has begun and has ended
+-- each line up to this number has begun and ended
 abbrev pub AreReported : (ℕ → Type 0) → (ℕ → Type 0) → ℕ → Type 0
 AreReported begun ended count = (line : ℕ) → 1 ≤ line → line ≤ count → begun line × ended line
 
--- the same for each script's lines, by its pass's calls
+-- `AreReported` for each script's lines, through its pass's calls
 abbrev pub AreAllReported : (ℕ → ℕ → Type 0) → (ℕ → ℕ → Type 0) → List (List ℕ) → Type 0
 AreAllReported begun ended scripts = (k : ℕ) → k < length scripts
     → AreReported (begun k) (ended k) (line_count (slice_index_or scripts k []))

@@ -1,4 +1,4 @@
--- What a run writes if it writes its journal too, and the replies to a journal's script.
+-- The output of a run that also writes its journal, and the replies to a journal's script.
 use Rattle.std.specs.Prelude.{◌≡◌, ◌⊎◌, ℕ, ◌+◌, ◌<◌, ◌≤◌, ◌^◌, List, [], ◌∷◌, ◌++◌, flat_map}
 use Rattle.std.specs.Prelude.{length, map, nat_lt, if◌then◌else◌, IfSome, None}
 use Rattle.std.specs.Io.KnownBytes.{Keeps}
@@ -19,8 +19,9 @@ use Rattle.be_script_runner.specs.declared.faults.RunFault.{RunFault}
 use Rattle.be_script_runner.specs.declared.faults.RunFault.TheVariants.{Limits, Read, TooLong}
 use Rattle.be_script_runner.specs.declared.faults.RunFault.TheVariants.{Write, Memory}
 
--- The replies are an output of the script, followed by the journal of the store that this output
--- leaves. After each of its writes the volume fits into as many pages as the limits say.
+-- The text is an output of the script, followed by the journal of the store that this output
+-- leaves. After each of the script's writes, the volume fits into the number of pages that the
+-- limits allow.
 pub record IsReportedRun (limits : StoreLimits) (script out : List ℕ) : Type 0 where
   pub last : Store
   pub replies : List ℕ
@@ -35,9 +36,9 @@ abbrev pub IsReportedInPart : StoreLimits → List ℕ → List ℕ → Type 0
 IsReportedInPart limits script front = IsFrontOfOutput (start limits.commits) script front
     ⊎ ((rest : List ℕ) × IsReportedRun limits script (front ++ rest))
 
--- What an error leaves. If the limits or the script are invalid, nothing was written. After a
--- failed write, a prefix of the whole text. If memory ran out, whole replies to the first lines,
--- and nothing of the journal.
+-- What an error leaves. If a limit or the script is invalid, nothing was written. If a write
+-- failed, a prefix of the whole text was written. If memory ran out, whole replies to the first
+-- lines were written, and nothing of the journal.
 abbrev pub JournalRunLeaves : StoreLimits → RunFault → Option (List ℕ) → Option (List ℕ)
     → Option (List ℕ) → Type 0
 JournalRunLeaves limits Limits input old new = Keeps old new
@@ -60,8 +61,8 @@ made limit entries = record {
   pin = None;
 }
 
--- the replies to the lines of the write with this number: the reply to its operation, or those of a
--- batch of several
+-- the replies to the lines of the write with this number: the reply to its only operation, or the
+-- replies for a batch of several
 abbrev pub write_output : ℕ → Entry → List ℕ
 write_output number entry =
     if nat_lt 1 (length entry.ops) then text_of ok
@@ -69,7 +70,7 @@ write_output number entry =
     ++ text_of (committed number entry.dones))
     else text_of (done_reply entry.dones)
 
--- the replies to the lines of writes that are numbered from n on
+-- the replies to the lines of these writes, whose numbers begin with n
 abbrev pub dump_output : ℕ → List Entry → List ℕ
 dump_output n [] = []
 dump_output n (entry ∷ entries) = write_output n entry ++ dump_output (n + 1) entries

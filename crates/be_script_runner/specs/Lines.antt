@@ -14,19 +14,19 @@ use Rattle.be_script_runner.specs.Served.{known}
 abbrev pub LeadTo : Knowledge → Knowledge → Type 0
 LeadTo a c = (steps : List (Step volume)) × Calls a steps c
 
--- this pass of the store got here from the first one by calls
+-- the pass belongs to the store, and calls led from what it knew at first to what it knows
 abbrev pub IsLedFrom : SeatFacts → Opened → SeatFacts → Type 0
 IsLedFrom first store pass = IsPassOf store pass × LeadTo first.knows pass.knows
 
--- The reply to a line by a pass that knows `a` before and `c` after: calls lead from one to the
--- other, and the line is answered from the store that the pass then shows.
+-- A pass that knows `a` before and `c` after gives this reply to a line: calls led from `a` to `c`,
+-- and the line is answered from the store that the pass then shows.
 pub record IsAnsweredBy (a : Knowledge) (s : Session) (line : List ℕ) (c : Knowledge)
     (after : Session) (reply : List ℕ) : Type 0 where
   pub calls : LeadTo a c
   pub answered : Answered s line after reply
   pub shows : after.store ≡ known c
 
--- the same for several lines in order: at last the pass knows `z`
+-- `IsAnsweredBy` for several lines in order; the pass knows `z` at the end
 abbrev pub AreAnsweredBy : Knowledge → Session → List (List ℕ) → Knowledge → Session → List ℕ
     → Type 0
 AreAnsweredBy a s [] z last out = (z ≡ a) × (last ≡ s) × (out ≡ [])
@@ -36,15 +36,15 @@ AreAnsweredBy a s (line ∷ lines) z last out =
     × (out ≡ reply ++ rest)
 
 -- The script gets these replies, line by line, from a pass that knew `a` at first and knows `z` at
--- last.
+-- the end.
 pub record IsServedBy (a : Knowledge) (script : List ℕ) (z : Knowledge) (out : List ℕ) : Type 0
   where
     pub last : Session
     pub lines : AreAnsweredBy a (opening (known a)) (lines_of script) z last out
     pub shows : last.store ≡ known z
 
--- The text has the replies to a script's lines up to those that are left. The pass knew `a` at
--- first and knows `c` now, and `s` is the session after those lines.
+-- The text contains the replies to all of a script's lines except those that are left. The pass
+-- knew `a` at first and knows `c` now, and `s` is the session after the answered lines.
 pub record HasAnswered (a : Knowledge) (script : List ℕ) (c : Knowledge) (s : Session)
     (left out : List ℕ) : Type 0 where
   pub lines : List (List ℕ)

@@ -1,4 +1,4 @@
--- In what order the passes of a race have made their calls.
+-- The order in which the passes of a race made their calls.
 use Rattle.std.specs.Prelude.{◌≡◌, ◌⊎◌, ◌≤◌, ◌+◌, ◌-◌, ℕ, All, List, [], ◌∷◌, Some, slice_get}
 use Rattle.std.specs.Prelude.{take}
 use Rattle.be_journal.specs.Journal.{replay}
@@ -18,8 +18,8 @@ use Rattle.be_script_runner.specs.Lines.{IsServedBy, LeadTo}
 use Rattle.be_script_runner.specs.Served.{known}
 use Rattle.be_script_runner.specs.Store.{viewed}
 
--- The scripts got these texts from passes that know these things at last, numbered from k on. At
--- first each pass had seen and written nothing.
+-- The scripts got these replies from the passes with numbers from k upward, and this is what each
+-- pass knows at the end. At first, each pass had seen and written nothing.
 abbrev pub AreServedBy : StoreLimits → ℕ → List (List ℕ) → List Knowledge → List (List ℕ) → Type 0
 AreServedBy limits k [] [] [] = Unit {0}
 AreServedBy limits k (script ∷ scripts) (z ∷ passes) (text ∷ texts) =
@@ -27,8 +27,8 @@ AreServedBy limits k (script ∷ scripts) (z ∷ passes) (text ∷ texts) =
     × AreServedBy limits (k + 1) scripts passes texts
 AreServedBy limits k scripts passes texts = ⊥
 
--- The journal has what the passes have seen and written, each write at the number in its reply. All
--- their moves are in one list.
+-- The journal contains what the passes have seen and written, with each write at the number in its
+-- reply. All the passes' moves are in one list.
 pub record AreInOneOrder (limits : StoreLimits) (journal : List Entry) (passes : List Knowledge) :
     Type 0 where
   pub kept : KeepsSeen journal passes
@@ -36,15 +36,15 @@ pub record AreInOneOrder (limits : StoreLimits) (journal : List Entry) (passes :
   pub moves : AreInOneTrace limits passes
 
 -- `c` is what one of these passes knew after some of its calls: further calls led from there to
--- what it knows at last
+-- what it knows at the end
 abbrev pub IsMoment : List Knowledge → Knowledge → Type 0
 IsMoment [] c = ⊥
 IsMoment (z ∷ passes) c = LeadTo c z ⊎ IsMoment passes c
 
--- What holds for the calls of passes that follow one order. Of any two moments, one comes before
--- the other. At each moment a pass has seen a prefix of the journal, and shows a script the volume
+-- What holds if the calls of passes follow one order. Of any two moments, one comes before the
+-- other. At each moment, a pass has seen a prefix of the journal and shows a script the volume
 -- after a prefix. An accepted write is the journal's entry with its number. A pin reads the volume
--- after as many entries as its number says, and sees each write that comes before it.
+-- after the number of entries that it reports, and sees each write that comes before it.
 pub record FollowOneOrder (journal : List Entry) (passes : List Knowledge) : Type 0 where
   pub total : (c d : Knowledge) → IsMoment passes c → IsMoment passes d
       → EndedBefore c d ⊎ EndedBefore d c

@@ -1,4 +1,4 @@
--- Which replies a script may get.
+-- The replies that a script may get.
 use Rattle.std.specs.Prelude.{◌≡◌, ◌⊎◌, ℕ, ◌<◌, List, [], ◌∷◌, ◌++◌, Some, None, IsOk, IsSome}
 use Rattle.std.specs.Prelude.{length, nat_lt, if◌then◌else◌}
 use Rattle.std.specs.declared.option.Option.{Option}
@@ -32,8 +32,8 @@ use Rattle.be_script_runner.specs.Store.{PinnedVolume, Store, Meanwhile, IsLowes
 use Rattle.be_script_runner.specs.Store.{viewed}
 use Rattle.be_script_runner.specs.Store.{pinned, unpinned, written}
 
--- a running script: its store, the operations of its batch if one is open, and its live query if it
--- has one
+-- a running script: its store, the operations of its batch if one is open, and its live query if
+-- there is one
 pub record Session : Type 0 where
   pub store : Store
   pub batch : Option (List Op)
@@ -53,7 +53,7 @@ with_batch s batch = record { store = s.store; batch = batch; live = s.live }
 abbrev pub with_live : Session → LiveQuery → Session
 with_live s l = record { store = s.store; batch = s.batch; live = Some l }
 
--- the reply to a write of one operation
+-- the reply to a write that has one operation
 abbrev pub done_reply : List Done → Reply
 done_reply [] = ok
 done_reply (Node n ∷ dones) = node n
@@ -63,7 +63,7 @@ abbrev pub write_reply : Session → Result (Store × List Done) Refusal → Rep
 write_reply s (Ok answer) = (done_reply answer.1, with_store s answer.0)
 write_reply s (Err e) = (refused e, s)
 
--- An operation is written, or queued if a batch is open; a batch has room for 64.
+-- An operation is written, or queued if a batch is open. A batch has room for 64 operations.
 abbrev pub taken : Session → Option (List Op) → Op → Reply × Session
 taken s None op = write_reply s (written s.store (op ∷ []))
 taken s (Some ops) op =
@@ -77,7 +77,7 @@ commit_reply s (Ok answer) = (
 )
 commit_reply s (Err e) = (refused e, with_batch s None)
 
--- The batch is written as one transaction. This ends it, refused or not.
+-- The batch is written as one transaction. This ends the batch even if the write is refused.
 abbrev pub committing : Session → Option (List Op) → Reply × Session
 committing s None = (not_begun, s)
 committing s (Some []) = (empty_batch, s)
@@ -100,12 +100,13 @@ abbrev pub unpinning : Session → Option PinnedVolume → Reply × Session
 unpinning s None = (not_pinned, s)
 unpinning s (Some p) = (ok, with_store s (unpinned s.store))
 
--- A live query is accepted whether or not indices cover it; so far it has found nothing.
+-- A live query is accepted whether or not indices cover it. Its last answer is empty at first.
 abbrev pub watching : Session → Result Formula Refusal → Reply × Session
 watching s (Ok f) = (ok, with_live s (record { query = f; last = []; table = None }))
 watching s (Err e) = (refused e, s)
 
--- the nodes that have joined and left since the last answer, which is replaced by this one
+-- the nodes that have joined the answer and those that have left it since the last answer, which
+-- this answer replaces
 abbrev pub updating : Session → LiveQuery → Result (List ℕ) Refusal → Reply × Session
 updating s l (Ok now) = (
   updates (without now l.last) (without l.last now),
@@ -122,17 +123,18 @@ abbrev pub replied : {X : Type 0} → (X → Reply) → Result X Refusal → Rep
 replied reply (Ok x) = reply x
 replied reply (Err e) = refused e
 
--- the reply to a query's text, or to a text that isn't a query
+-- the reply to a query, or to text that isn't a valid query
 abbrev pub queried : State → Result Formula Refusal → Reply
 queried volume (Ok f) = replied nodes (scan volume f)
 queried volume (Err e) = refused e
 
--- the reply to a query's text that asks for a page, or to a text that isn't a query
+-- the reply to a query that asks for a page, or to text that isn't a valid query
 abbrev pub turned : State → Paging → Result Formula Refusal → Reply
 turned volume paging (Ok f) = replied paged (page_read volume paging f)
 turned volume paging (Err e) = refused e
 
--- the reply if a text's plan is asked for: what is looked up in the volume's indices, and its cost
+-- the reply to a request for a query's plan: what is looked up in the volume's indices, and the
+-- cost
 abbrev pub explained : State → Result Formula Refusal → Reply
 explained volume (Ok f) = replied (λ c. cover (explanation f c)) (chosen (has_index volume) f)
 explained volume (Err e) = refused e
@@ -141,13 +143,13 @@ abbrev pub got : State → ℕ → Result (List ℕ) Refusal → Reply
 got volume n (Ok name) = value (attribute volume n name)
 got volume n (Err e) = refused e
 
--- what a text is as a query: the query, or its error
+-- the text read as a query: the query, or the text's error
 abbrev pub IsQuery : List ℕ → Result Formula Refusal → Type 0
 IsQuery text (Ok f) = (fault text ≡ None) × ParsesTo (tokens text) f
 IsQuery text (Err e) = fault text ≡ Some e
 
--- the session after a line that ran out of memory or whose write was held up: only a commit ends
--- its batch
+-- the session after a line that ran out of memory or whose write was held up: it is unchanged,
+-- except that a commit ends its batch
 abbrev pub unwritten : Session → Request → Session
 unwritten s silent = s
 unwritten s malformed = s
@@ -167,19 +169,19 @@ unwritten s commit = with_batch s None
 unwritten s abort = s
 
 -- No page was left for these operations, which the volume accepts, and the reply has the oldest
--- version that is read. Or another pass was writing.
+-- version in use; or another pass was writing.
 abbrev pub IsHeldUp : Store → List Op → Reply → Type 0
 IsHeldUp store ops reply = ((least : ℕ) × (reply ≡ refused (Full least)) × IsLowestOf store least
     × IsOk (written store ops)) ⊎ ((pass : ℕ) × (reply ≡ refused (Busy pass)) × IsOther store pass)
 
--- the same for the operations that a line writes to the store; no other line is held up
+-- `IsHeldUp` for the operations that a line writes to the store; no other line is held up
 abbrev pub IsHeldUpAt : Session → Option (List Op) → Request → Reply → Type 0
 IsHeldUpAt s None (write (Ok op)) reply = IsHeldUp s.store (op ∷ []) reply
 IsHeldUpAt s (Some (op ∷ ops)) commit reply = IsHeldUp s.store (op ∷ ops) reply
 IsHeldUpAt s batch request reply = ⊥
 
--- An operation takes memory if it is written and the store accepts it, or if an open batch has room
--- for it.
+-- An operation takes memory if it is written and the store accepts it, or if it is queued in a
+-- batch that has room for it.
 abbrev pub OpTakesMemory : Session → Option (List Op) → Op → Type 0
 OpTakesMemory s None op = IsOk (written s.store (op ∷ []))
 OpTakesMemory s (Some ops) op = length ops < 64
@@ -190,7 +192,8 @@ CommitTakesMemory s None = ⊥
 CommitTakesMemory s (Some []) = ⊥
 CommitTakesMemory s (Some (op ∷ ops)) = IsOk (written s.store (op ∷ ops))
 
--- the lines that take memory: these, and those that parse a query or list what they find
+-- a line takes memory if its operation or commit does, or if it parses a query or lists what it
+-- finds
 abbrev pub TakesMemory : Session → Request → Type 0
 TakesMemory s silent = ⊥
 TakesMemory s malformed = ⊥
@@ -216,24 +219,24 @@ abbrev pub IsWanting : Session → Request → Reply → Session → Type 0
 IsWanting s request reply after = (after ≡ unwritten s request)
     × (((reply ≡ refused OutOfMemory) × TakesMemory s request) ⊎ IsHeldUpAt s s.batch request reply)
 
--- exactly this reply, and the session after it
+-- the answer has exactly this reply and leaves this session
 abbrev pub Gives : Reply × Session → Reply → Session → Type 0
 Gives answer reply after = answer ≡ (reply, after)
 
--- the intended reply and the session after it; or the error of a line that ran out of memory or
--- whose write was held up
+-- the intended reply and session, or the error of a line that ran out of memory or whose write was
+-- held up
 abbrev pub MayReply : Session → Request → Reply × Session → Reply → Session → Type 0
 MayReply s request answer reply after = Gives answer reply after ⊎ IsWanting s request reply after
 
--- the reply to a text's query or to its error; or the error of a line that ran out of memory
+-- the reply to a text's query or error, or the error of a line that ran out of memory
 abbrev pub MayReplyTo : Session → Request → List ℕ → (Result Formula Refusal → Reply × Session)
     → Reply → Session → Type 0
 MayReplyTo s request text answer reply after =
     ((parsed : Result Formula Refusal) × IsQuery text parsed × Gives (answer parsed) reply after)
     ⊎ IsWanting s request reply after
 
--- What a request may be replied, and the session after it. Reads see the pinned version, or the
--- volume after all writes if none is pinned.
+-- The replies that a request may get, and the session after each. Reads see the pinned version, or
+-- the version after all writes if none is pinned.
 abbrev pub Replies : Session → Request → Reply → Session → Type 0
 Replies s silent reply after = Gives (none, s) reply after
 Replies s malformed reply after = MayReply s malformed (bad_line, s) reply after
@@ -261,34 +264,34 @@ Replies s begin reply after = MayReply s begin (beginning s s.batch) reply after
 Replies s commit reply after = MayReply s commit (committing s s.batch) reply after
 Replies s abort reply after = MayReply s abort (aborting s s.batch) reply after
 
--- What a request may be replied, and the session after it, if the store has other passes: the reply
--- is about the store as they left it. A store with one pass has no others, so there it is the store
--- as it was.
+-- The replies that a request may get if the store has other passes, and the session after each: the
+-- reply is about the store as those passes left it. A store with one pass has no others, so there
+-- the reply is about the store as it was.
 abbrev pub Serves : Session → Request → Reply → Session → Type 0
 Serves s request reply after = Meanwhile s.store
     (λ now. Replies (with_store s now) request reply after)
 
--- a line's possible reply as text, and the session after it
+-- a possible reply to a line, as text, and the session after it
 abbrev pub Answered : Session → List ℕ → Session → List ℕ → Type 0
 Answered s line after out = (reply : Reply) × Serves s (asked line) reply after
     × (out ≡ text_of reply)
 
--- the possible replies to several lines as text, one after another, and the session after them
+-- possible replies to several lines, as text, one after another, and the session after them
 abbrev pub Outputs : Session → List (List ℕ) → Session → List ℕ → Type 0
 Outputs s [] last out = (last ≡ s) × (out ≡ [])
 Outputs s (line ∷ lines) last out =
     (after : Session) × (reply : List ℕ) × (rest : List ℕ) × Answered s line after reply
     × Outputs after lines last rest × (out ≡ reply ++ rest)
 
--- the text is an output of the script: it ran from the first store on, and left the second
+-- the text is an output of the script, run from the first store and leaving the second
 abbrev pub IsOutputTo : Store → List ℕ → Store → List ℕ → Type 0
 IsOutputTo store script new out = (last : Session)
     × Outputs (opening store) (lines_of script) last out × (last.store ≡ new)
 
--- the text is an output of the script from this store on
+-- the text is an output of the script, run from this store
 abbrev pub IsOutputFrom : Store → List ℕ → List ℕ → Type 0
 IsOutputFrom store script out = (new : Store) × IsOutputTo store script new out
 
--- the text is a prefix of one
+-- the text is a prefix of an output of the script, run from this store
 abbrev pub IsFrontOfOutput : Store → List ℕ → List ℕ → Type 0
 IsFrontOfOutput store script front = (rest : List ℕ) × IsOutputFrom store script (front ++ rest)

@@ -1,4 +1,4 @@
--- A script's writes, and those in a list of entries.
+-- A script's writes, and the writes in a list of entries.
 use Rattle.std.specs.Prelude.{◌≡◌, ◌⊎◌, ℕ, List, [], ◌∷◌}
 use Rattle.std.specs.List.{flat_map}
 use Rattle.std.specs.declared.result.Result.TheVariants.{Ok}
@@ -6,8 +6,7 @@ use Rattle.be_journal.specs.declared.entries.Entry.{Entry}
 use Rattle.be_volume.specs.declared.ops.Op.{Op}
 use Rattle.be_script_language.specs.Request.{Request, write, asked, lines_of}
 
--- The first list has some of the second's elements, in their order: each of these is taken or left
--- out.
+-- The first list consists of some of the second list's elements, in their order.
 abbrev pub IsPartOf : {A : Type 0} → List A → List A → Type 0
 IsPartOf xs [] = xs ≡ []
 IsPartOf {A} xs (y ∷ ys) = IsPartOf xs ys ⊎ ((rest : List A) × (xs ≡ y ∷ rest) × IsPartOf rest ys)

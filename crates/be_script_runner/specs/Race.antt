@@ -1,4 +1,4 @@
--- What a race returns and writes: what its passes have served, and the text.
+-- What a race returns and writes: its passes after serving the scripts, and the text.
 use Rattle.std.specs.Prelude.{◌≡◌, ◌⊎◌, ℕ, ◌+◌, ◌<◌, List, [], ◌∷◌, ◌++◌, None, false, length, map}
 use Rattle.std.specs.Prelude.{slice_index_or, take, codes}
 use Rattle.std.specs.Fmt.{decimal}
@@ -33,7 +33,7 @@ abbrev pub IsNew : Opened → ℕ → SeatFacts → Type 0
 IsNew store k pass = (pass.blank ≡ false) × (pass.table ≡ store.id)
     × (pass.knows ≡ newcomer store.limits (k + 1) k)
 
--- an empty store as its pass k sees it
+-- an empty store, as pass k sees it
 abbrev pub start_of : StoreLimits → ℕ → Store
 start_of limits k = record {
   journal = [];
@@ -44,14 +44,14 @@ start_of limits k = record {
   pin = None;
 }
 
--- The pass has number k, and its own writes are some of those that the script asks for, in their
+-- The pass has number k, and its own writes are some of those that the script requests, in their
 -- order.
 pub record HasServed (store : Opened) (k : ℕ) (script : List ℕ) (p : SeatFacts) : Type 0 where
   pub pass : IsPassOf store p
   pub number : p.knows.number ≡ k
   pub own : IsPartOf (operations p.knows.mine) (write_ops script)
 
--- one pass for each script, numbered from k on
+-- one pass for each script, with passes numbered from k
 abbrev pub HaveServed : Opened → ℕ → List (List ℕ) → List SeatFacts → Type 0
 HaveServed store k [] [] = Unit {0}
 HaveServed store k [] (pass ∷ passes) = ⊥
@@ -59,10 +59,10 @@ HaveServed store k (script ∷ scripts) [] = ⊥
 HaveServed store k (script ∷ scripts) (pass ∷ passes) = HasServed store k script pass
     × HaveServed store (k + 1) scripts passes
 
--- What pass k knows after its script got this text. Its own writes are its entries in what it has
--- seen, and some of those that the script asks for, in their order. The text is an output of the
--- script that leaves what the pass has seen. Line by line, calls of the pass led from the store
--- that it showed before to the one that answered the line.
+-- What pass k knows after its script got this text. The pass's own writes are its entries among
+-- those that it has seen, and some of those that the script requests, in their order. The text is
+-- an output of the script that leaves what the pass has seen. For each line, calls of the pass led
+-- from the store that it showed before to the store that answered the line.
 pub record IsOutcome (limits : StoreLimits) (k : ℕ) (script : List ℕ) (a : Knowledge)
     (text : List ℕ) : Type 0 where
   pub mine : by_pass k (entries a.seen) ≡ a.mine
@@ -70,9 +70,10 @@ pub record IsOutcome (limits : StoreLimits) (k : ℕ) (script : List ℕ) (a : K
   pub output : IsOutputTo (start_of limits k) script (known a) text
   pub served : IsServedBy (newcomer limits (k + 1) k) script a text
 
--- What script k got from the store of this journal: an output of the script, from an empty store
--- on, while the other passes may write. The journal begins with what the script's pass saw at last,
--- and that beginning has all of this pass's entries.
+-- Script k got this text from the store that has this journal. The text is an output of the script
+-- on a store that is empty at first and in which the other passes may write. The journal begins
+-- with what the script's pass saw at the end, and that beginning contains all of this pass's
+-- entries.
 pub record IsReplied (limits : StoreLimits) (journal : List Entry) (k : ℕ) (script text : List ℕ) :
     Type 0 where
   pub last : Store
@@ -80,7 +81,7 @@ pub record IsReplied (limits : StoreLimits) (journal : List Entry) (k : ℕ) (sc
   pub seen : StartsWith journal last.journal
   pub own : by_pass k journal ≡ by_pass k last.journal
 
--- the replies to each script, numbered from k on
+-- these are the replies to each script, with scripts numbered from k
 abbrev pub HaveReplied : StoreLimits → List Entry → ℕ → List (List ℕ) → List (List ℕ) → Type 0
 HaveReplied limits journal k [] [] = Unit {0}
 HaveReplied limits journal k [] (text ∷ texts) = ⊥
@@ -88,19 +89,19 @@ HaveReplied limits journal k (script ∷ scripts) [] = ⊥
 HaveReplied limits journal k (script ∷ scripts) (text ∷ texts) = IsReplied limits journal k script
     text × HaveReplied limits journal (k + 1) scripts texts
 
--- The replies come from the store of these passes, for every journal that has what they have seen
--- and written.
+-- The replies come from the store with these passes, for every journal that contains what they have
+-- seen and written.
 abbrev pub AreRepliesOf : StoreLimits → ℕ → List (List ℕ) → List SeatFacts → List (List ℕ) → Type 0
 AreRepliesOf limits k scripts passes texts = (journal : List Entry)
     → KeepsSeen journal (map knows_of passes) → HaveReplied limits journal k scripts texts
 
--- a pass of the store has served each script, and these are the replies
+-- each script was served by a pass of the store, and these are the replies
 abbrev pub AreServed : Opened → List (List ℕ) → List SeatFacts → List (List ℕ) → Type 0
 AreServed store scripts passes texts = HaveServed store 0 scripts passes
     × AreRepliesOf store.limits 0 scripts passes texts
     × AreServedBy store.limits 0 scripts (map knows_of passes) texts
 
--- a pass's line, and its replies
+-- a pass's line and its replies
 abbrev pub pass_line : ℕ → List ℕ
 pass_line k = codes "pass " ++ (decimal k ++ codes "\n")
 
@@ -108,15 +109,15 @@ abbrev pub replies_text : ℕ → List (List ℕ) → List ℕ
 replies_text k [] = []
 replies_text k (text ∷ texts) = (pass_line k ++ text) ++ replies_text (k + 1) texts
 
--- the text has the lines and whole replies of the first passes
+-- the text consists of the lines and whole replies of the first passes
 abbrev pub AreFirstTexts : List (List ℕ) → List ℕ → Type 0
 AreFirstTexts replies out = (k : ℕ) × (out ≡ replies_text 0 (take k replies))
 
 -- What a race writes: the replies to its scripts, and a legal journal of the store that gave them.
--- Each entry is by one of the scripts. A script's operations are some of those that its lines ask
--- for, in their order. After each entry the volume fits into as many pages as the limits say. For
--- each script there is what its pass knew after each line, and the calls that led there. The calls
--- of all passes are in one order.
+-- Each entry was written by one of the scripts. A script's operations are some of those that its
+-- lines request, in their order. After each entry, the volume fits into the number of pages that
+-- the limits allow. For each script, the record contains what its pass knew after each line, and
+-- the calls that led there. The calls of all passes are in one order.
 pub record IsRace (limits : StoreLimits) (scripts : List (List ℕ)) (out : List ℕ) : Type 0 where
   pub replies : List (List ℕ)
   pub journal : List Entry
@@ -135,15 +136,15 @@ pub record IsRace (limits : StoreLimits) (scripts : List (List ℕ)) (out : List
 abbrev pub IsRaceInPart : StoreLimits → List (List ℕ) → List ℕ → Type 0
 IsRaceInPart limits scripts front = (rest : List ℕ) × IsRace limits scripts (front ++ rest)
 
--- the text is empty, or has the lines and whole replies of the first passes in a race of these
--- scripts
+-- the text is empty, or consists of the lines and whole replies of the first passes in a race of
+-- these scripts
 abbrev pub AreFirstPasses : StoreLimits → List (List ℕ) → List ℕ → Type 0
 AreFirstPasses limits scripts out = (out ≡ [])
     ⊎ ((whole : List ℕ) × (race : IsRace limits scripts whole) × AreFirstTexts race.replies out)
 
--- What an error leaves. If the limits or a script's length are invalid, nothing was written. After
--- a failed write, a prefix of what a race writes. If memory ran out, nothing, or whole replies of
--- the first passes.
+-- What an error leaves. If a limit or a script's length is invalid, nothing was written. If a write
+-- failed, a prefix of what a race writes was written. If memory ran out, nothing was written, or
+-- only whole replies of the first passes.
 abbrev pub RaceLeaves : StoreLimits → List (List ℕ) → RunFault → Option (List ℕ) → Option (List ℕ)
     → Type 0
 RaceLeaves limits scripts Limits old new = Keeps old new

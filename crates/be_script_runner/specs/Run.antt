@@ -12,14 +12,14 @@ use Rattle.be_script_runner.specs.declared.faults.RunFault.{RunFault}
 use Rattle.be_script_runner.specs.declared.faults.RunFault.TheVariants.{Limits, Read, TooLong}
 use Rattle.be_script_runner.specs.declared.faults.RunFault.TheVariants.{Write, Memory}
 
--- what the writer has was extended by a text for which P holds
+-- the writer's contents were extended by a text for which P holds
 pub record Wrote (old new : Option (List ℕ)) (P : List ℕ → Type 0) : Type 0 where
   pub out : List ℕ
   pub appended : Appends old new out
   pub is : P out
 
--- What a run writes: an output of the script, from an empty store with one pass on. After each of
--- its writes the volume fits into as many pages as the limits say.
+-- What a run writes: an output of the script on an empty store with one pass. After each of its
+-- writes, the volume fits into the number of pages that the limits allow.
 pub record IsRun (limits : StoreLimits) (script out : List ℕ) : Type 0 where
   pub last : Store
   pub output : IsOutputTo (start limits.commits) script last out
@@ -41,19 +41,20 @@ is_line_end c = c == 10
 abbrev pub ReadsAll : Option (List ℕ) → Option (List ℕ) → List ℕ → Type 0
 ReadsAll old new bytes = Consumes old new bytes × IsAtEnd new
 
--- the reader was read at most once more than a script may have bytes
+-- the number of reads is at most one more than the maximum number of bytes in a script
 abbrev pub HasFewReads : (ℕ → Type 0) → (ℕ → Type 0) → Type 0
 HasFewReads old new = (before : ℕ) → old before → (times : ℕ) × (times ≤ 2 ^ 20 + 1)
     × new (before + times)
 
--- the reads took at most as many bytes as a script may have; or they took more
+-- the reads returned no more bytes than a script may have; in `ReadsMany`, they returned more
 abbrev pub ReadsFew : Option (List ℕ) → Option (List ℕ) → Type 0
 ReadsFew old new = (bytes : List ℕ) × Consumes old new bytes × (length bytes ≤ 2 ^ 20)
 
 abbrev pub ReadsMany : Option (List ℕ) → Option (List ℕ) → Type 0
 ReadsMany old new = (bytes : List ℕ) × Consumes old new bytes × (2 ^ 20 < length bytes)
 
--- What was read if reading the script failed: too many bytes exactly if it is too long.
+-- What was read if reading the script failed. Too many bytes were read if and only if the script is
+-- too long.
 abbrev pub ReadFault : RunFault → Option (List ℕ) → Option (List ℕ) → Type 0
 ReadFault Limits old new = ⊥
 ReadFault Read old new = ReadsFew old new
@@ -61,12 +62,13 @@ ReadFault TooLong old new = ReadsMany old new
 ReadFault Write old new = ⊥
 ReadFault Memory old new = ReadsFew old new
 
--- What was read if a run ended with an error: too many bytes exactly if the script is too long.
+-- What was read if a run ended with an error. Too many bytes were read if and only if the script is
+-- too long.
 abbrev pub HasReadScript : RunFault → Option (List ℕ) → Option (List ℕ) → Type 0
 HasReadScript TooLong old new = ReadsMany old new
 HasReadScript e old new = ReadsFew old new
 
--- the text has whole replies to a script's first lines
+-- the text consists of whole replies to a script's first lines
 pub record AreFirstReplies (store : Store) (script out : List ℕ) : Type 0 where
   pub lines : List (List ℕ)
   pub rest : List (List ℕ)
@@ -75,8 +77,8 @@ pub record AreFirstReplies (store : Store) (script out : List ℕ) : Type 0 wher
   pub output : Outputs (opening store) lines last out
 
 -- What an error leaves. If the script couldn't be read completely or was too long, nothing was
--- written. After a failed write, a prefix of an output. If memory ran out, the replies to the first
--- lines.
+-- written. If a write failed, a prefix of an output was written. If memory ran out, the replies to
+-- the first lines were written.
 abbrev pub RunLeaves : RunFault → Store → Option (List ℕ) → Option (List ℕ) → Option (List ℕ)
     → Type 0
 RunLeaves Limits store input old new = Keeps old new
@@ -88,7 +90,7 @@ RunLeaves Write store input old new = IfSome input
 RunLeaves Memory store input old new = IfSome input
     (λ script. Wrote old new (AreFirstReplies store script))
 
--- an error while the script is read
+-- an error that occurs while the script is read
 abbrev pub IsEarly : RunFault → Type 0
 IsEarly Limits = ⊥
 IsEarly Read = Unit {0}
@@ -96,7 +98,7 @@ IsEarly TooLong = Unit {0}
 IsEarly Write = ⊥
 IsEarly Memory = Unit {0}
 
--- an error after the script was read
+-- an error that occurs after the script was read
 abbrev pub IsLate : RunFault → Type 0
 IsLate Limits = ⊥
 IsLate Read = ⊥
@@ -112,8 +114,8 @@ IsNotLimits TooLong = Unit {0}
 IsNotLimits Write = Unit {0}
 IsNotLimits Memory = Unit {0}
 
--- The text has the replies to a script's lines up to those that are left, and `s` is the session
--- after them.
+-- The text contains the replies to all of a script's lines except those that are left, and `s` is
+-- the session after the answered lines.
 pub record HasReplied (store : Store) (script : List ℕ) (s : Session) (left out : List ℕ) : Type 0
   where
     pub lines : List (List ℕ)

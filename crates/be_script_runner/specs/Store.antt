@@ -16,14 +16,14 @@ use Rattle.be_volume.specs.declared.ops.Op.{Op}
 use Rattle.be_journal.specs.declared.entries.Entry.{Entry}
 use Rattle.be_journal.specs.Journal.{coded_entry}
 
--- a pinned version: how many writes it includes, and its volume
+-- a pinned version: the number of writes that it includes, and its volume
 pub record PinnedVolume : Type 0 where
   pub number : ℕ
   pub volume : State
 
--- A store as its serving pass sees it. It has the accepted writes, the volume after them, and the
--- limit on their number. It also has the number of passes, this pass's own number, and the version
--- that it has pinned, if any.
+-- A store as its serving pass sees it. It contains the accepted writes, the volume after them, the
+-- limit on their number, the number of passes, this pass's own number, and the version that this
+-- pass has pinned, if any.
 pub record Store : Type 0 where
   pub journal : List Entry
   pub volume : State
@@ -66,7 +66,7 @@ abbrev pub IsOther : Store → ℕ → Type 0
 IsOther s k = (k < s.passes) × (k ≢ s.pass)
 
 -- What the other passes may have done to the store: they append entries, and the volume is the one
--- after these entries.
+-- after those entries.
 pub record Joins (old new : Store) : Type 0 where
   pub others : List Entry
   pub theirs : All (λ e. IsOther old e.by) others
@@ -82,7 +82,7 @@ pub record Meanwhile (old : Store) (P : Store → Type 0) : Type 0 where
   pub joins : Joins old now
   pub is : P now
 
--- the volume that reads see: the pinned one, or the one after all writes if none is pinned
+-- the volume that reads see: the pinned volume, or the volume after all writes if none is pinned
 abbrev pub viewed : Store → State
 viewed s = option_map_or (λ (p : PinnedVolume). p.volume) s.pin s.volume
 
@@ -94,7 +94,8 @@ pinned s = record s { pin = Some (record { number = length s.journal; volume = s
 abbrev pub unpinned : Store → Store
 unpinned s = record s { pin = None }
 
--- the store after this pass's write, which the volume accepts, with its outcomes; a pin stays
+-- the store after this pass's write, which the volume accepts with these outcomes; a pin is left in
+-- place
 abbrev pub entered : Store → List Op → State → List Done → Store
 entered s ops volume dones = record s {
   journal = s.journal ++ record { by = s.pass; ops = ops; dones = dones }
@@ -102,7 +103,7 @@ entered s ops volume dones = record s {
   volume = volume;
 }
 
--- A write: the volume's error comes before that of a journal at its limit.
+-- A write. The volume's error takes precedence over that of a journal at its limit.
 abbrev pub written_by : Store → List Op → Result (State × List Done) Refusal
     → Result (Store × List Done) Refusal
 written_by s ops (Ok answer) = if nat_lt (length s.journal) s.limit
@@ -112,17 +113,17 @@ written_by s ops (Err e) = Err e
 abbrev pub written : Store → List Op → Result (Store × List Done) Refusal
 written s ops = written_by s ops (steps s.volume ops)
 
--- the version that reads see, as the number of writes that it includes: the pinned one, or the one
--- after all writes if none is pinned
+-- the version that reads see, as the number of writes that it includes: the pinned version, or the
+-- version after all writes
 abbrev pub viewed_number : Store → ℕ
 viewed_number s = option_map_or (λ (p : PinnedVolume). p.number) s.pin (length s.journal)
 
--- The oldest version that a full store reports is no later than the version that reads see. If no
--- other pass reads, it is that version.
+-- The oldest version that a full store reports is no later than the version that reads see. If
+-- there is no other pass, it is that version.
 abbrev pub IsLowestOf : Store → ℕ → Type 0
 IsLowestOf s least = (least ≤ viewed_number s) × (s.passes ≡ 1 → least ≡ viewed_number s)
 
--- an error because memory ran out, or because pages ran out, with the oldest version that is read
+-- an error because memory ran out, or because pages ran out, with the oldest version in use
 abbrev pub IsWant : Store → Refusal → Type 0
 IsWant s e = (e ≡ OutOfMemory) ⊎ ((least : ℕ) × (e ≡ Full least) × IsLowestOf s least)
 
@@ -131,7 +132,7 @@ abbrev pub IsBusy : Store → Refusal → Type 0
 IsBusy s e = (pass : ℕ) × (e ≡ Busy pass) × IsOther s pass
 
 -- An accepted write has the outcomes that the volume gives, and its commit number. OutOfMemory and
--- Full come only for a write that the volume accepts. A refused write changes nothing.
+-- Full occur only for a write that the volume accepts. A refused write changes nothing.
 abbrev pub MayWrite : {X : Type 0} → (X → List Done) → Store → List Op → Result (ℕ × X) Refusal
     → Store → Type 0
 MayWrite outcomes_of old ops (Ok answer) new = (written old ops ≡ Ok (new, outcomes_of answer.1))

@@ -17,7 +17,7 @@ use Rattle.be_script_runner.specs.Output.{Session, Serves, opening}
 use Rattle.be_script_runner.specs.Store.{Store, start}
 use Rattle.be_script_runner.specs.declared.strict_runs.RefusedLine.{RefusedLine}
 
--- the replies that say that a line wasn't carried out
+-- the reply says that its line wasn't carried out
 abbrev pub is_refusal : Reply → Bool
 is_refusal none = false
 is_refusal bad_line = true
@@ -42,31 +42,31 @@ is_refusal not_begun = true
 is_refusal (committed n dones) = false
 is_refusal (refused r) = true
 
--- a refused line as its number and its reply's text
+-- a refused line, as its number and its reply's text
 abbrev pub line_refused : RefusedLine → ℕ × List ℕ
 line_refused line = (line.number, string_bytes line.reply)
 
--- a reply with its line's number
+-- a refused line's number and reply, if there is a reply
 abbrev pub numbered : ℕ → Option (List ℕ) → Option (ℕ × List ℕ)
 numbered number None = None
 numbered number (Some text) = Some (number, text)
 
--- A line's possible reply as text, the session after it, and the text again if it says that the
--- line was refused.
+-- A line's possible reply as text, the session after the line, and the text again if it says that
+-- the line was refused.
 abbrev pub Judged : Session → List ℕ → Session → Option (List ℕ) → List ℕ → Type 0
 Judged s line after found out = (reply : Reply) × Serves s (asked line) reply after
     × (out ≡ text_of reply) × (found ≡ (if is_refusal reply then Some out else None))
 
--- the possible replies to several lines as text, none of which is refused, and the session after
--- them
+-- possible replies to several lines, as text, none of which says that its line was refused, and the
+-- session after them
 abbrev pub Accepts : Session → List (List ℕ) → Session → List ℕ → Type 0
 Accepts s [] last out = (last ≡ s) × (out ≡ [])
 Accepts s (line ∷ lines) last out =
     (after : Session) × (reply : List ℕ) × (rest : List ℕ) × Judged s line after None reply
     × Accepts after lines last rest × (out ≡ reply ++ rest)
 
--- the script's first lines were accepted, and the next one, which has this number, was refused with
--- this text
+-- the script's first lines were accepted, and the next line, which has this number, was refused
+-- with this text
 pub record StopsAt (store : Store) (script : List ℕ) (number : ℕ) (text : List ℕ) (new : Store)
     (out : List ℕ) : Type 0 where
   pub lines : List (List ℕ)
@@ -82,15 +82,15 @@ pub record StopsAt (store : Store) (script : List ℕ) (number : ℕ) (text : Li
   pub out_is : out ≡ front ++ text
   pub leaves : after.store ≡ new
 
--- The replies to a script up to its first refused line, or to the whole script if none is refused.
--- `found` is the refused line's number and its reply.
+-- The replies to a script up to its first refused line, or to the whole script if no line is
+-- refused. `found` has the refused line's number and reply.
 abbrev pub IsStrictOutput : Store → List ℕ → Option (ℕ × List ℕ) → Store → List ℕ → Type 0
 IsStrictOutput store script None new out = (last : Session)
     × Accepts (opening store) (lines_of script) last out × (last.store ≡ new)
 IsStrictOutput store script (Some found) new out = StopsAt store script found.0 found.1 new out
 
--- What such a run writes, from an empty store with one pass on, and the journal that it leaves.
--- After each of its writes the volume fits into as many pages as the limits say.
+-- What such a run writes on an empty store with one pass, and the journal that it leaves. After
+-- each of its writes, the volume fits into the number of pages that the limits allow.
 pub record IsStrictRun (limits : StoreLimits) (script : List ℕ) (found : Option (ℕ × List ℕ))
     (journal : List Entry) (out : List ℕ) : Type 0 where
   pub last : Store
@@ -98,8 +98,9 @@ pub record IsStrictRun (limits : StoreLimits) (script : List ℕ) (found : Optio
   pub journal_is : journal ≡ last.journal
   pub volumes : CanEncodeEach limits.pages journal
 
--- The text has the replies to a script's lines up to those that are left, none of them refused. `s`
--- is the session after them, and `number` is that of the next line.
+-- The text contains the replies to all of a script's lines except those that are left, and none of
+-- the answered lines was refused. `s` is the session after the answered lines, and `number` is the
+-- number of the next line.
 pub record HasAccepted (store : Store) (script : List ℕ) (s : Session) (left : List ℕ) (number : ℕ)
     (out : List ℕ) : Type 0 where
   pub lines : List (List ℕ)

@@ -1,4 +1,4 @@
--- A store and what a script keeps beside it, as a session.
+-- A store and what a script keeps besides it, as a session.
 use Rattle.std.specs.Prelude.{List, [], Some, None, unwrap_or}
 use Rattle.std.specs.Option.{option_map}
 use Rattle.std.specs.declared.option.Option.{Option}
@@ -17,12 +17,12 @@ queue client = option_map (λ ops. ops.items) client.batch
 abbrev pub queued_ops : Client → List Op
 queued_ops client = unwrap_or (queue client) []
 
--- a store and what a script keeps beside it, as a session
+-- a store and what a script keeps besides it, as a session
 abbrev pub session : Store → Client → Session
 session store client = record { store = store; batch = queue client; live = client.live }
 
--- the reply to this request depends only on the store, whatever the script keeps beside it, and the
--- request changes neither
+-- whatever the script keeps besides its store, this request gets this reply, which depends only on
+-- the store, and changes nothing
 abbrev pub RepliesToAny : Store → Request → Reply → Type 0
 RepliesToAny store request reply = (client : Client)
     → Replies (session store client) request reply (session store client)

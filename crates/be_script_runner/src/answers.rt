@@ -1,10 +1,10 @@
 //! Answers each line.
 //!
-//! A session is the server that the script runs on, and what the script keeps beside it: a live
-//! query, and a batch if one is open, that is, the operations queued for one write. A refused or
-//! bad line leaves both as they were, except that a commit ends its batch even if it is refused. If
-//! other passes write, a line runs on the store as they left it. A read leaves that store as it is,
-//! and its reply is about that store.
+//! A session consists of the server that the script runs on and what the script keeps besides it: a
+//! live query, if there is one, and the operations queued for one write, if a batch is open. A
+//! refused or bad line changes neither, except that a commit ends its batch even if it is refused.
+//! If other passes write, a line runs on the store as they left it. A read doesn't change that
+//! store, and its reply is about that store.
 ghost use Rattle.std.specs.Prelude.{◌≡◌, ◌≤◌, Ok, List, Option, length, vec_len};
 ghost use Rattle.be_script_runner.specs.Output as spec;
 ghost use Rattle.be_script_language.specs.Request as requests;
@@ -24,7 +24,7 @@ use be_value::{Name, Refusal};
 use be_volume::{Done, Op};
 use std::alloc::Global;
 
-/// The largest number of operations in a batch.
+/// The maximum number of operations in a batch.
 const MAX_BATCH: usize = 64;
 
 fn begin(alloc: Global, client: &mut Client) -> Reply
@@ -51,7 +51,7 @@ fn abort(client: &mut Client) -> Reply
     }
 }
 
-/// The reply to a write of one operation.
+/// The reply to a write that has one operation.
 fn done_reply(dones: &[Done]) -> Reply
     ensures { reply_of result ≡ spec.done_reply dones.now }
 {
@@ -120,7 +120,8 @@ fn write_line<S: Server>(server: &mut S, client: &mut Client, op: Result<Op, Ref
     }
 }
 
-/// Writes the batch's operations as one transaction. This ends the batch, refused or not.
+/// Writes the batch's operations as one transaction. This ends the batch even if the write is
+/// refused.
 fn commit<S: Server>(server: &mut S, client: &mut Client) -> Reply
     requires few { length (queued_ops client.old) ≤ 64 }
     ensures replies { spec.Serves (session (S.shows server.old) client.old) requests.commit
@@ -156,7 +157,7 @@ fn query<S: Server>(alloc: Global, server: &mut S, text: &str) -> Reply
     }
 }
 
-/// A page of the answer to a query's text.
+/// A page of the answer to a query.
 fn page_of<S: Server>(alloc: Global, server: &mut S, paging: &Paging, text: &str) -> Reply
     ensures replies { RepliesToAny (S.shows server.new) (requests.page (Ok paging.now) text.now)
         (reply_of result) }
@@ -172,7 +173,8 @@ fn page_of<S: Server>(alloc: Global, server: &mut S, paging: &Paging, text: &str
     }
 }
 
-/// The same. If the page's name or value is invalid, that error comes first.
+/// A page of the answer to a query. If the page's name or value is invalid, that error takes
+/// precedence.
 fn page<S: Server>(
     alloc: Global,
     server: &mut S,
@@ -190,7 +192,8 @@ fn page<S: Server>(
     }
 }
 
-/// Which indices would answer a query. Errors in the query's text come before the plan's.
+/// The indices that would answer a query. An error in the query's text comes before an error in the
+/// plan.
 fn explain_query<S: Server>(alloc: Global, server: &mut S, text: &str) -> Reply
     ensures replies { RepliesToAny (S.shows server.new) (requests.explain text.now)
         (reply_of result) }
@@ -244,7 +247,7 @@ fn indices<S: Server>(server: &mut S) -> Reply
     }
 }
 
-/// Pins the version after all writes so far, unless a version is pinned already.
+/// Pins the version after all writes so far, unless a version is already pinned.
 fn pin<S: Server>(server: &mut S) -> Reply
     ensures replies { (client : Client) →
         spec.Serves (session (S.shows server.old) client) requests.pin (reply_of result)
@@ -270,7 +273,7 @@ fn unpin<S: Server>(server: &mut S) -> Reply
     Reply::Done
 }
 
-/// Replaces the live query. It doesn't matter whether indices cover the query.
+/// Replaces the live query. The query is accepted whether or not indices cover it.
 fn watch(alloc: Global, client: &mut Client, text: &str) -> Reply
     ensures replies { (store : Store) → spec.Replies (session store client.old)
         (requests.live text.now) (reply_of result) (session store client.new) }
@@ -285,7 +288,8 @@ fn watch(alloc: Global, client: &mut Client, text: &str) -> Reply
     }
 }
 
-/// The nodes that have joined the live query's answer since it last ran, and those that have left.
+/// The nodes that have joined the live query's answer since it last ran, and the nodes that have
+/// left it.
 fn update<S: Server>(server: &mut S, live: &mut Live) -> Reply
     ensures replies { (batch : Option (List Op)) →
         spec.Replies (watched (S.shows server.new) batch live.old) requests.refresh
@@ -317,7 +321,7 @@ fn refresh<S: Server>(server: &mut S, client: &mut Client) -> Reply
     }
 }
 
-/// Runs what a line asks for, and returns its reply.
+/// Carries out what a line requests, and returns its reply.
 pub fn answer<S: Server>(
     alloc: Global,
     server: &mut S,

@@ -1,4 +1,4 @@
-//! What a script keeps beside its server.
+//! The state that a script keeps besides its server.
 ghost use Rattle.std.specs.Prelude.{◌≡◌, ◌≤◌, length};
 ghost use Rattle.be_script_runner.specs.Output as spec;
 ghost use Rattle.be_script_runner.specs.Store.{Store};
@@ -7,17 +7,17 @@ ghost use Rattle.be_script_runner.specs.View.{session, queued_ops};
 use be_store::Live;
 use be_volume::Op;
 
-/// What a script keeps beside its server.
+/// The state that a script keeps besides its server.
 #[derive(Drop)]
 pub struct Client {
-    /// The operations queued since `begin`, if a batch is open.
+    /// The operations queued since `begin`, or `None` if no batch is open.
     pub batch: Option<Vec<Op>>,
-    /// The query of the last accepted `live`.
+    /// The query of the last `live` that was accepted.
     pub live: Option<Live>,
 }
 
 impl Client {
-    /// No open batch, and no live query.
+    /// A client with no open batch and no live query.
     pub fn new() -> Client
         ensures opening { (store : Store) → session store result ≡ spec.opening store }
         ensures few { length (queued_ops result) ≤ 64 }

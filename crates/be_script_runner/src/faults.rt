@@ -4,7 +4,7 @@ use thiserror::Error;
 /// Why a run stopped before the end of its script.
 #[derive(Debug, Drop, Error)]
 pub enum RunFault {
-    /// A limit is out of its range. Nothing was read or written.
+    /// A limit is out of range. Nothing was read or written.
     #[error("a limit is out of its range")]
     Limits,
     /// A read failed. Nothing was written.
@@ -13,10 +13,10 @@ pub enum RunFault {
     /// The script has more than 1,048,576 bytes. Nothing was written.
     #[error("the script is too long")]
     TooLong,
-    /// A write failed or took no bytes. A prefix of an output was written.
+    /// A write failed or accepted no bytes. A prefix of an output was written.
     #[error("a reply can't be written")]
     Write,
-    /// The store, a line or a reply ran out of memory. A prefix of an output was written.
+    /// Memory ran out for the store, a line or a reply. A prefix of an output was written.
     #[error("out of memory")]
     Memory,
 }

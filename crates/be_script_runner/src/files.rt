@@ -10,8 +10,8 @@ use std::alloc::Global;
 use std::fs;
 use std::rt::Files;
 
-/// Reads a whole file as a script; `-` is standard input. A file that can't be opened counts as one
-/// that can't be read.
+/// Reads a whole file as a script; `-` is standard input. A file that can't be opened counts as a
+/// file that can't be read.
 fn read_file<R: Files + Input>(rt: &R, alloc: Global, file: &str) -> Result<Vec<u8>, RunFault>
     ensures fits { IfOk result (λ script. vec_len script ≤ 2 ^ 20) }
     ensures early { IfErr result IsEarly }
@@ -25,8 +25,8 @@ fn read_file<R: Files + Input>(rt: &R, alloc: Global, file: &str) -> Result<Vec<
     }
 }
 
-/// The error to return if the file at this place is too long: that of the first later file that
-/// can't be read, otherwise TooLong for this file.
+/// The error to return if the file at this position is too long: the error of the first later file
+/// that can't be read, or TooLong for this file if all of them can.
 fn stop_at<R: Files + Input>(
     rt: &R,
     alloc: Global,
@@ -45,10 +45,10 @@ fn stop_at<R: Files + Input>(
     (place, RunFault::TooLong)
 }
 
-/// Reads the scripts in these files, in order; `-` is standard input, and a second `-` reads as
-/// empty. It stops at the first file that can't be read, and returns that file's place, from 0, and
-/// Read or Memory. If all can be read but some are too long, it returns the place of the first of
-/// these, and TooLong.
+/// Reads the scripts in these files, in order. `-` is standard input, and a second `-` reads as
+/// empty. It stops at the first file that can't be read, and returns that file's position, counting
+/// from 0, with Read or Memory. If all files can be read but some are too long, it returns the
+/// position of the first of these with TooLong.
 pub fn read_files<R: Files + Input>(
     rt: &R,
     alloc: Global,

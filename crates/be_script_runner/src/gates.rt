@@ -1,22 +1,23 @@
-//! Calls that a race makes between the lines of its scripts.
+//! The hooks that a race calls around each line of its scripts.
 //!
-//! A gate reports to a test which line each script is at. It can hold a script back, so the test
-//! can see that the scripts run at the same time. A race without a test uses the open gate.
+//! A gate reports to a test which line each script has reached. It can also hold a script back, so
+//! that the test can see the scripts run at the same time. Outside tests, a race uses the open
+//! gate.
 ghost use Rattle.std.specs.Prelude.{ℕ};
 ghost use Rattle.be_script_runner.specs.Gates.{IsNext};
 
 /// A race calls its gate before and after each line, on the thread that runs the line. The gate may
-/// keep that thread waiting. Lines are numbered from 1 and include blank ones and comments. What
-/// follows the last LF is a line only if it isn't empty.
+/// keep that thread waiting. Lines are numbered from 1; blank lines and comments count. The text
+/// after the last LF is a line only if it isn't empty.
 ///
 /// The two ghosts say which line of which pass has begun and which has ended. A gate needn't define
-/// them: code over an arbitrary gate learns them only from its own calls. So a clause about them
-/// says which calls the code made.
+/// them. Code that works with an arbitrary gate learns them only from its own calls, so a clause
+/// about them says which calls the code made.
 pub trait Gate {
-    /// This gate was called before the pass ran the line.
+    /// This gate was called before the pass ran this line.
     ghost begun: { Self → ℕ → ℕ → Type 0 } = { λ _ _ _. Unit {0} };
 
-    /// This gate was called after the pass ran the line.
+    /// This gate was called after the pass ran this line.
     ghost ended: { Self → ℕ → ℕ → Type 0 } = { λ _ _ _. Unit {0} };
 
     /// The pass is about to run this line.

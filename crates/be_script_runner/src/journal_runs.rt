@@ -1,4 +1,4 @@
-//! Runs that write their journal too.
+//! Runs that also write their journal.
 ghost use Rattle.std.specs.Prelude.{◌≡◌, ◌≤◌, ◌^◌, ◌↔◌, ◌∷◌, [], true, length, IfOk, IfErr, OnOk};
 ghost use Rattle.std.specs.Prelude.{OnErr, IfSome, Err};
 ghost use Rattle.be_journal.specs.Journal.{IsLegal};
@@ -22,7 +22,7 @@ use be_store::laws::alone;
 use std::alloc::Global;
 use std::io::Write;
 
-/// A list of only this pass.
+/// A list with this pass as its only element.
 fn only(alloc: Global, pass: Pass) -> Result<Vec<Pass>, RunFault>
     ensures passes { IfOk result (λ passes. passes.items ≡ pass ∷ []) }
     ensures fault { IfErr result (λ e. e ≡ RunFault.Memory) }
@@ -34,8 +34,8 @@ fn only(alloc: Global, pass: Pass) -> Result<Vec<Pass>, RunFault>
     }
 }
 
-/// Closes a store whose only pass is back, and returns its journal: all that the pass has seen.
-/// Memory is the only error.
+/// Closes a store whose only pass has been returned, and returns its journal, which is all that the
+/// pass has seen. The only error is Memory.
 pub fn close_alone(alloc: Global, store: be_store::Store, pass: Pass) -> Result<Journal, RunFault>
     requires pass { IsPassOf store pass }
     requires one { store.limits.passes ≡ 1 }
@@ -49,7 +49,7 @@ pub fn close_alone(alloc: Global, store: be_store::Store, pass: Pass) -> Result<
     Ok(store.close(passes))
 }
 
-/// Runs a script on a new store, and writes the replies and then the journal.
+/// Runs a script on a new store, and writes the replies followed by the journal.
 fn run_on_new<W: Write>(
     alloc: Global,
     script: &[u8],
@@ -77,15 +77,16 @@ fn run_on_new<W: Write>(
     put_result(alloc, writer, &journal)
 }
 
-/// Runs a script as [`crate::run`] does. After the replies it writes what a race writes after them:
-/// `journal N`, the journal's text, and `replay ok`. Returns whether the journal is legal, which is
-/// always true.
+/// Runs a script as [`crate::run`] does. After the replies it writes what a race writes after its
+/// replies: `journal N`, the journal's text, and `replay ok`. Returns whether the journal is legal,
+/// which is always true.
 ///
-/// The script is read before the store is opened. The journal has each accepted write of the
-/// script, in order. After each of them the volume fits into as many pages as the limits say.
-/// Errors are those of `run`. After `Write`, a prefix of the replies was written, or all of them
-/// and a prefix of what follows them. After `Memory`, whole replies to the script's first lines
-/// were written, and nothing of the journal. After any other error nothing was written.
+/// The script is read before the store is opened. The journal contains each accepted write of the
+/// script, in order. After each of them, the volume fits into the number of pages that the limits
+/// allow. The errors are those of `run`. After `Write`, either a prefix of the replies was written,
+/// or all the replies and a prefix of what follows. After `Memory`, whole replies to the script's
+/// first lines were written, and nothing of the journal. After any other error, nothing was
+/// written.
 pub fn run_with_journal<R: ScriptReader, W: Write>(
     alloc: Global,
     reader: &mut R,

@@ -1,4 +1,4 @@
-//! Laws of the definitions. Each function's body is empty; its contract is the law.
+//! Laws that the definitions satisfy. Each function has an empty body; its contract is the law.
 ghost use Rattle.std.specs.Prelude.{◌≡◌, ◌≢◌, ◌≤◌, ◌∷◌, [], ◌++◌, ℕ, All, Bool, List, Ok, Some};
 ghost use Rattle.std.specs.Prelude.{None, length};
 ghost use Rattle.std.specs.Option.{option_map};
@@ -30,21 +30,21 @@ ghost use Rattle.be_script_runner.specs.Strict.{IsStrictOutput};
 ghost use Rattle.be_script_runner.specs.JournalRuns.{MakesVolume, dump_output, made};
 ghost use Rattle.be_volume_state.specs.Rebuilding.{state_ops};
 
-/// In a store with one pass, nobody else writes: the store is always as its pass left it.
+/// In a store with one pass, nobody else writes, so the store is always as its pass left it.
 pub fn nobody_joins()
     ensures { (old new : Store) → old.passes ≡ 1 → old.pass ≡ 0 → Joins old new → new ≡ old }
 {}
 
-/// A line in such a store is answered from the store as it is, and leaves such a store. So what
-/// `run` writes depends on only one pass.
+/// In a store with one pass, a line is answered from the store as it is, and leaves a store
+/// with one pass. So what `run` writes depends on a single pass.
 pub fn answered_alone()
     ensures { (s after : Session) (request : Request) (reply : Reply) → s.store.passes ≡ 1
         → s.store.pass ≡ 0 → Serves s request reply after →
         Replies s request reply after × (after.store.passes ≡ 1) × (after.store.pass ≡ 0) }
 {}
 
-/// The script of a journal rebuilds it. If memory and pages suffice, a run of the script has the
-/// same journal, except for the passes' numbers, and the same volume.
+/// A journal's script rebuilds the journal. If memory and pages suffice, running the script
+/// produces the same volume and the same journal, except for the passes' numbers.
 pub fn dump_makes_journal()
     ensures { (limit : ℕ) (entries : List AnyEntry) → CanBeJournal entries → IsLegal entries
         → length entries ≤ limit →
@@ -52,7 +52,7 @@ pub fn dump_makes_journal()
 {}
 
 /// The script of the state that a journal leaves rebuilds this state. If memory and pages suffice,
-/// a run of the script leaves the journal's volume, in no more writes than the journal has.
+/// running the script produces the journal's volume, in no more writes than the journal has.
 /// be_journal_text's `dump_state` says that the operations of a loaded volume satisfy `CanBeOp`.
 pub fn state_dump_makes_volume()
     ensures { (limit : ℕ) (entries : List AnyEntry) → CanBeJournal entries
@@ -60,8 +60,8 @@ pub fn state_dump_makes_volume()
         MakesVolume limit (state_dump (replay entries)) (replay entries) (length entries) }
 {}
 
-/// What a strict run writes is an output: of the whole script if no line is refused, otherwise of
-/// its first lines up to the refused one.
+/// The text that a strict run writes is an output of the whole script if no line is refused, and
+/// otherwise of its lines up to and including the refused one.
 pub fn strict_output_is_output()
     ensures whole { (store new : Store) (script out : List ℕ)
         → IsStrictOutput store script None new out → IsOutputTo store script new out }
@@ -73,16 +73,18 @@ pub fn strict_output_is_output()
 {}
 
 /// The calls of a race's passes follow one order, that of the moves in `IsRace`. So a query's
-/// answer is the scan of the volume after a prefix of the journal. An accepted write's reply is
-/// what the volume says at its place, and a pin sees all writes that come before it.
+/// answer is the scan of the volume after a prefix of the journal, the reply to an accepted write
+/// is what the volume gives at that write's position in the journal, and a pin sees all writes that
+/// come before it.
 pub fn race_follows_one_order()
     ensures { (limits : Limits) (scripts : List (List ℕ)) (out : List ℕ)
         → (race : IsRace limits scripts out) → FollowOneOrder race.journal race.passes }
 {}
 
-/// The replies to a script, line by line, are an output of it. The output begins with the store
-/// that the pass showed at first, and leaves the one that it shows at last. Calls led from what the
-/// pass knew at first to what it knows at last, through what it knew after each line.
+/// The replies to a script, line by line, are an output of the script. The output begins with the
+/// store that the pass showed at first, and leaves the store that the pass shows at the end. Calls
+/// led from what the pass knew at first to what it knows at the end, through what it knew after
+/// each line.
 pub fn served_is_output()
     ensures output { (a z : Knowledge) (script out : List ℕ) → IsServedBy a script z out
         → IsOutputTo (known a) script (known z) out }
@@ -90,9 +92,9 @@ pub fn served_is_output()
         → LeadTo a z }
 {}
 
-/// The value and number of a page's last node give the cursor that the page leaves. So pages of one
-/// version, each after the position that the one before printed, are those of be_order's
-/// `pages_are_the_whole`: together they are the whole list, with each node once.
+/// The value and number of a page's last node determine the cursor that the page leaves. So if each
+/// page of a version begins after the position that the previous page printed, the pages are those
+/// of be_order's `pages_are_the_whole`: together they make up the whole list, with each node once.
 pub fn position_is_the_cursor()
     ensures { (s : State) (f : Formula) (by : List ℕ) (kind : Kind) (descending : Bool)
         (cursor : Option (List ℕ)) (most : ℕ) (p : Page) → IsSound s → index_kind s by ≡ Some kind

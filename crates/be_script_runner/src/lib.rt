@@ -1,18 +1,17 @@
 //! Runs scripts.
 //!
 //! [`run`] reads a whole script, runs its lines in order on a new shared store with one pass, and
-//! writes the replies. One definition (`Output` in specs/) says which replies a script may get, and
-//! `run` is proved to write nothing else.
+//! writes the replies. A single definition (`Output` in specs/) says which replies a script may
+//! get, and `run` is proved to write nothing else.
 //!
 //! [`race`] runs several scripts at the same time on one store, each on its own thread and from its
-//! own pass. It writes their replies and the store's journal. The journal is proved to be legal,
-//! and to have only writes that the scripts ask for.
+//! own pass. It writes their replies and the store's journal. The journal is proved to be legal and
+//! to contain only writes that the scripts request.
 //!
-//! [`run_with_journal`] runs a script and writes its journal too. [`run_strictly`] ends a run at
-//! the
-//! first refused line. [`read_files`] reads a race's scripts. [`answer`] answers one line, for
-//! callers that get lines from elsewhere. [`save_state`] writes the script of the current or pinned
-//! version.
+//! [`run_with_journal`] runs a script and also writes its journal. [`run_strictly`] ends a run at
+//! the first refused line. [`read_files`] reads a race's scripts. [`answer`] answers one line, for
+//! callers that get lines from elsewhere. [`save_state`] writes the script that rebuilds the
+//! current or pinned version.
 #![tactic(auto)]
 
 mod answers;

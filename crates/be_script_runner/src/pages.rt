@@ -1,4 +1,4 @@
-//! Reads pages of a query's answer, in the version that a pass has pinned.
+//! Reads pages of a query's answer in the version that a pass has pinned.
 ghost use Rattle.std.specs.Prelude.{◌≡◌, ℕ};
 ghost use Rattle.be_order.specs.Ordered.{cursor_bytes};
 ghost use Rattle.be_script_language.specs.Page.{page_found};
@@ -13,7 +13,7 @@ use be_store::{Order, Pass, PreparedQuery, Store};
 use be_value::{Name, Refusal, Value};
 use std::alloc::Global;
 
-/// The value and the number of the last of these nodes.
+/// The value and number of the last of these nodes.
 fn last_pair(store: &Store, pass: &mut Pass, by: &Name, nodes: &[u64]) -> Option<(Value, u64)>
     requires pass { IsPassOf store.now pass.old }
     requires pinned { (n : ℕ) × IsPinnedTo pass.old.knows n }
@@ -53,7 +53,7 @@ fn page_after(
     Ok(Page { nodes, more, last })
 }
 
-/// The page that a line asks for.
+/// The page that a line requests.
 pub(crate) fn read_page(
     alloc: Global,
     store: &Store,

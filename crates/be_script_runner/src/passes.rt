@@ -1,8 +1,8 @@
 //! Serves a script from a pass of a shared store, line by line.
 //!
-//! Between two lines there is only the pass. So what it knows after each line is a fact of its own:
-//! calls of the store led there from what it knew before, and the reply is about the store that it
-//! then shows.
+//! Between two lines, the pass is the only state. So each line has its own fact about what the pass
+//! knows after it: calls to the store led there from what the pass knew before, and the reply is
+//! about the store that the pass then shows.
 ghost use Rattle.std.specs.Prelude.{◌≡◌, ◌≤◌, OnOk, Some, length};
 ghost use Rattle.be_script_runner.specs.Gates.{AreReported, line_count};
 ghost use Rattle.be_script_runner.specs.Lines.{IsAnsweredBy, IsServedBy};
@@ -19,7 +19,7 @@ use crate::stores::PassServer;
 use be_store::{Pass, Store};
 use std::alloc::Global;
 
-/// Runs a line from the pass, and appends its reply. It returns the pass even after an error.
+/// Runs a line from the pass, and appends its reply. Returns the pass even after an error.
 fn serve_line(
     alloc: Global,
     store: &Store,
@@ -42,8 +42,8 @@ fn serve_line(
     (server.at_last(), ran)
 }
 
-/// Runs a script's lines from the pass as `run_lines` does, each between two calls of the gate, and
-/// appends the replies. It returns the pass even after an error.
+/// Runs a script's lines from the pass as `run_lines` does, with a call to the gate before and
+/// after each line, and appends the replies. Returns the pass even after an error.
 pub(crate) fn serve_lines<G: Gate>(
     alloc: Global,
     store: &Store,

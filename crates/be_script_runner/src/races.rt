@@ -1,15 +1,16 @@
 //! Races several scripts on one shared store, each on its own thread.
 //!
-//! Script k runs from pass k of the store, and its replies are kept. Nobody waits for the lock
-//! inside the store, so the scripts meet only there, and each write takes its place in one journal.
-//! When all threads have ended, the store is closed. Then the replies are written, script by
-//! script, and after them the journal and the result of its check.
+//! Script k runs from pass k of the store, and its replies are kept in memory. The scripts interact
+//! only inside the store, where none of them waits for the lock, and each write takes its place in
+//! one journal. When all threads have ended, the store is closed. Then the replies are written,
+//! script by script, followed by the journal and the result of its check.
 //!
-//! A thread promises what it returns ([`Served`]): a pass of the store with the script's number,
-//! and replies. The pass's own writes are some of those that the script asks for. The replies are
-//! ones that the script may get from what the pass has seen, if others write too. So all passes are
-//! back when the store is closed. A pass's entries in the journal are writes of its script, and the
-//! replies to each script agree with that journal.
+//! Each thread returns a pass and replies, and makes a promise about them ([`Served`]). The pass
+//! belongs to the store and has the script's number. The pass's own writes are some of those that
+//! the script requests. The replies are possible replies to the script, given what the pass has
+//! seen and that others may write too. So all passes have been returned by the time the store is
+//! closed. A pass's entries in the journal are writes of its script, and the replies to each script
+//! agree with that journal.
 ghost use Rattle.std.specs.Prelude.{◌≡◌, ◌≤◌, ◌<◌, ℕ, ◌^◌, ◌++◌, ◌↔◌, true, false, length, vec_len};
 ghost use Rattle.std.specs.Prelude.{map, IfOk, IfErr, OnOk, OnErr, Ok, Err, get_or, nat_lt};
 ghost use Rattle.std.specs.Io.KnownBytes.{Appends};
@@ -37,12 +38,12 @@ use std::sync::Wait;
 use std::thread;
 use std::thread::{Promise, PromisedHandle, Scope, Threads};
 
-/// A pass that has served a script, and the replies.
+/// A pass that has served a script, with the replies.
 type Outcome = (Pass, Result<Vec<u8>, RunFault>);
 
-/// What a thread promises about its outcome. The pass is of this store and has this number. If
-/// there are replies, they are an output of this script that leaves what the pass has seen. The
-/// pass's own writes are some of those that the script asks for, and this gate was called for each
+/// What a thread promises about its outcome. The pass is a pass of this store and has this number.
+/// If there are replies, they are an output of this script that leaves what the pass has seen. The
+/// pass's own writes are some of those that the script requests, and this gate was called for each
 /// line.
 #[derive(Drop)]
 struct Served<G> {
@@ -76,8 +77,8 @@ fn serve_new<G: Gate>(alloc: Global, store: &Store, pass: Pass, gate: &G, script
     serve_pass(alloc, store, pass, gate, script)
 }
 
-/// Starts a thread for each pass, which serves the script with its number. Returns Memory if a
-/// thread can't be started.
+/// Starts a thread for each pass to serve the script that has the pass's number. Returns Memory if
+/// a thread can't be started.
 fn start<'s, E, G: Gate + Sync>(
     scope: &Scope<'s, E>,
     alloc: Global,
@@ -130,7 +131,7 @@ fn start<'s, E, G: Gate + Sync>(
     Ok(threads)
 }
 
-/// The passes, and the replies of each. Memory if one of them has no replies.
+/// Splits the outcomes into the passes and their replies. Returns Memory if a pass has no replies.
 fn part(alloc: Global, outcomes: Vec<Outcome>) -> Result<(Vec<Pass>, Vec<Vec<u8>>), RunFault>
     ensures passes { IfOk result (λ r. r.0.items ≡ map (λ o. o.0) outcomes.items) }
     ensures replies { IfOk result (λ r. map Ok r.1.items ≡ map (λ o. o.1) outcomes.items) }
@@ -149,7 +150,7 @@ fn part(alloc: Global, outcomes: Vec<Outcome>) -> Result<(Vec<Pass>, Vec<Vec<u8>
     Ok((passes, replies))
 }
 
-/// Serves each script on a thread in this scope, and waits for the threads if all could be started.
+/// Serves each script on a thread in this scope. If all threads could be started, waits for them.
 fn serve_in<'s, E, R: Threads, G: Gate + Sync>(
     scope: &Scope<'s, E>,
     rt: &R,
@@ -173,7 +174,7 @@ fn serve_in<'s, E, R: Threads, G: Gate + Sync>(
     }
 }
 
-/// Serves each script on its own thread. All threads have ended when it returns, also after an
+/// Serves each script on its own thread. All threads have ended when this returns, even after an
 /// error.
 fn serve_at_once<R: Threads + Wait, G: Gate + Sync>(
     rt: &R,
@@ -219,8 +220,8 @@ fn line_of(alloc: Global, pass: usize) -> Result<String, AllocError>
     format!(in alloc; "pass {pass}\n")
 }
 
-/// Writes each pass's line and its replies. After a failed write, a prefix of the whole text is
-/// written; if memory runs out, whole replies of the first passes.
+/// Writes each pass's line and its replies. If a write fails, a prefix of the whole text was
+/// written. If memory runs out, only the lines and whole replies of the first passes were written.
 fn put_replies<W: Write>(alloc: Global, writer: &mut W, replies: &[Vec<u8>]) -> Result<(), RunFault>
     ensures ok { OnOk result (Appends (W.contents writer.old) (W.contents writer.new)
         (replies_text 0 (map (λ t. t.items) replies.now))) }
@@ -241,7 +242,7 @@ fn put_replies<W: Write>(alloc: Global, writer: &mut W, replies: &[Vec<u8>]) -> 
     Ok(())
 }
 
-/// Writes three texts, one after another. After an error, a prefix of the whole text is written.
+/// Writes three byte strings in order. After an error, a prefix of the whole was written.
 fn put_parts<W: Write>(
     writer: &mut W,
     first: &[u8],
@@ -261,8 +262,8 @@ fn put_parts<W: Write>(
 }
 
 /// Writes the journal's length, its text, and the result of its check. Returns that result, which
-/// is always true, since the journal is legal. If memory runs out, nothing is written; after a
-/// failed write, a prefix.
+/// is always true because the journal is legal. If memory runs out, nothing was written; if a write
+/// fails, a prefix of the text was written.
 pub fn put_result<W: Write>(
     alloc: Global,
     writer: &mut W,
@@ -292,8 +293,8 @@ pub fn put_result<W: Write>(
 }
 
 /// Writes each pass's line and its replies, and then the journal. Returns the result of the
-/// journal's check. After a failed write, a prefix of the whole text is written; if memory runs
-/// out, only whole replies.
+/// journal's check. If a write fails, a prefix of the whole text was written. If memory runs out,
+/// only the lines and whole replies of the first passes were written.
 fn put_race<W: Write>(
     alloc: Global,
     writer: &mut W,
@@ -316,8 +317,8 @@ fn put_race<W: Write>(
     put_result(alloc, writer, journal)
 }
 
-/// Serves the scripts at the same time on a new store, and closes it. Returns each script's
-/// replies, and the journal.
+/// Serves the scripts at the same time on a new store, and closes the store. Returns each script's
+/// replies and the journal.
 fn serve_on_new<R: Threads + Wait, G: Gate + Sync>(
     rt: &R,
     alloc: Global,
@@ -341,20 +342,21 @@ fn serve_on_new<R: Threads + Wait, G: Gate + Sync>(
     Ok((replies, store.close(passes)))
 }
 
-/// Races two to four scripts on an empty store, which has the pages and commits of the limits and a
-/// pass for each script. Returns whether the journal is legal, which is always true.
+/// Races two to four scripts on an empty store that has the pages and commits given in the limits
+/// and one pass per script. Returns whether the journal is legal, which is always true.
 ///
-/// It checks the limits first, and then the scripts' lengths, of up to 1,048,576 bytes each. If any
-/// is invalid, nothing is written. Script k runs from pass k, on its own thread. A write that finds
-/// another pass writing is tried again, up to 10,000,000 times in all. After the last try its reply
-/// is the error. When all threads have ended, it writes the replies, each pass's after a line `pass
-/// K`. Then it writes `journal N`, the journal's text, and `replay ok`. The journal is that of the
-/// store which gave the replies: it begins with what each pass has seen, and has its writes with
-/// the outcomes that were replied.
+/// The limits are checked first, and then the length of each script, which is at most 1,048,576
+/// bytes. If any of these is invalid, nothing is written. Script k runs from pass k, on its own
+/// thread. A write that finds another pass writing is retried, for up to 10,000,000 tries in all.
+/// If the last try fails too, the reply is its error. When all threads have ended, the replies are
+/// written, each pass's after a line `pass K`. They are followed by `journal N`, the journal's
+/// text, and `replay ok`. The journal is that of the store that gave the replies: it begins with
+/// what each pass has seen, and contains the pass's writes with the outcomes that the replies
+/// reported.
 ///
-/// It returns Memory if memory runs out or a thread can't be started. Then nothing was written, or
-/// the lines and whole replies of the first passes. If a write fails or takes no bytes, it returns
-/// Write, and a prefix of what a race of these scripts writes was written.
+/// Returns Memory if memory runs out or a thread can't be started. In that case nothing was
+/// written, or only the lines and whole replies of the first passes. Returns Write if a write fails
+/// or accepts no bytes. In that case a prefix of what a race of these scripts writes was written.
 pub fn race<R: Threads + Wait, G: Gate + Sync, W: Write>(
     rt: &R,
     alloc: Global,

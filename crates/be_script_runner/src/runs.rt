@@ -1,9 +1,9 @@
-//! Runs a whole script: its bytes in, the replies out.
+//! Runs a whole script: reads its bytes and writes the replies.
 //!
-//! The whole script is read before its first line runs. So nothing is written for a script that
-//! can't be read or is too long. Then each line runs, its reply is made as a text, and the text is
-//! written. After an error, a prefix of an output is written, which ends after a whole reply if no
-//! write has failed.
+//! The whole script is read before its first line runs, so nothing is written for a script that
+//! can't be read or is too long. Then, for each line in turn, the line runs, the text of its reply
+//! is built, and the text is written. After an error, a prefix of an output was written. Unless a
+//! write failed, it ends after a whole reply.
 ghost use Rattle.std.specs.Prelude.{◌≡◌, ◌<◌, ◌≤◌, ◌^◌, ◌↔◌, ◌∷◌, [], length, vec_len, position};
 ghost use Rattle.std.specs.Prelude.{IfOk, OnOk, IfErr, IfSome, OnErr, IfNone, Err};
 ghost use Rattle.std.specs.Io.KnownBytes.{Appends};
@@ -31,13 +31,14 @@ use be_store::{Pass, Store};
 use std::alloc::Global;
 use std::io::Write;
 
-/// The largest number of bytes in a script.
+/// The maximum number of bytes in a script.
 pub(crate) const MAX_SCRIPT: usize = 1 << 20;
 
-/// The largest number of reads for a script: each returns at least one byte, the end, or an error.
+/// The maximum number of reads for a script. Each read returns at least one byte, the end, or an
+/// error.
 const MAX_READS: u64 = (1 << 20) + 1;
 
-/// Writes all the bytes. After an error, a prefix of them is written.
+/// Writes all the bytes. After an error, a prefix of them was written.
 pub fn put<W: Write>(writer: &mut W, bytes: &[u8]) -> Result<(), RunFault>
     ensures ok { OnOk result (Appends (W.contents writer.old) (W.contents writer.new) bytes.now) }
     ensures err { OnErr result (spec.Wrote (W.contents writer.old) (W.contents writer.new)
@@ -91,7 +92,7 @@ fn end_of_line(script: &[u8]) -> Option<usize>
     script.iter().position(|c| *c == b'\n')
 }
 
-/// The first line without its LF, and what follows the LF, if there is one.
+/// The first line without its LF, and the text after the LF, if there is one.
 pub(crate) fn split_line(script: &[u8]) -> Option<(&[u8], &[u8])>
     ensures first { IfSome result (λ parts. lines_of script.now ≡ parts.0.now
         ∷ lines_of parts.1.now) }
@@ -104,8 +105,8 @@ pub(crate) fn split_line(script: &[u8]) -> Option<(&[u8], &[u8])>
     }
 }
 
-/// Runs a script's lines in order, each between two calls of the gate, which get the pass's and the
-/// line's numbers. What follows the last LF is a line only if it isn't empty.
+/// Runs a script's lines in order, and calls the gate before and after each line with the numbers
+/// of the pass and the line. The text after the last LF is a line only if it isn't empty.
 pub(crate) fn run_lines<S: Server, G: Gate, W: Write>(
     alloc: Global,
     server: &mut S,
@@ -147,9 +148,9 @@ pub(crate) fn run_lines<S: Server, G: Gate, W: Write>(
 }
 
 /// Serves a script from a pass that has seen nothing, while the store's other passes may write.
-/// Calls the gate before and after each line, with the pass's and the line's numbers; lines are
-/// numbered from 1, all of them. The replies are kept, so Memory is the only error. It returns the
-/// pass even after an error.
+/// Calls the gate before and after each line with the numbers of the pass and the line. Lines are
+/// numbered from 1, including blank lines and comments. The replies are kept in memory, so the only
+/// error is Memory. Returns the pass even after an error.
 pub fn serve_pass<G: Gate>(
     alloc: Global,
     store: &Store,
@@ -212,8 +213,8 @@ pub(crate) fn read_script<R: ScriptReader>(
 }
 
 /// Runs a script on a server. If the reader's and the writer's bytes are known, it writes an output
-/// of the script. The output begins with what the server shows, and leaves what it shows
-/// afterwards.
+/// of the script. The output begins with the store that the server shows, and leaves the store that
+/// it shows afterwards.
 pub fn serve<S: Server, R: ScriptReader, W: Write>(
     alloc: Global,
     server: &mut S,
@@ -239,17 +240,18 @@ pub fn serve<S: Server, R: ScriptReader, W: Write>(
     }
 }
 
-/// Runs a script on an empty store of its own, with the pages and commits of the limits and one
-/// pass.
+/// Runs a script on its own empty store, which has one pass and the pages and commits given in the
+/// limits.
 ///
-/// It checks the limits first, and then opens the store. It reads the whole script, in at most
-/// 1,048,577 reads, before it runs the first line. It runs each line before it writes its reply. It
-/// returns `Read` if a read fails, and `Write` if a write fails or takes no bytes. It returns
-/// `TooLong` if it has read more than 1,048,576 bytes, and then no other error.
+/// The limits are checked first, and then the store is opened. The whole script is read, in at most
+/// 1,048,577 reads, before the first line runs. Each line runs before its reply is written. Returns
+/// `Read` if a read fails, and `Write` if a write fails or accepts no bytes. Returns `TooLong`, and
+/// no other error, if more than 1,048,576 bytes were read.
 ///
-/// If the reader's and the writer's bytes are known, as a slice's and a vector's are, it writes an
-/// output of the script. After `Write`, a prefix of one was written; after `Memory`, whole replies
-/// to the script's first lines; after any other error, nothing.
+/// If the reader's and the writer's bytes are known, as they are for a slice and a vector, it
+/// writes an output of the script. After `Write`, a prefix of an output was written; after
+/// `Memory`, only whole replies to the script's first lines were; after any other error, nothing
+/// was.
 pub fn run<R: ScriptReader, W: Write>(
     alloc: Global,
     reader: &mut R,

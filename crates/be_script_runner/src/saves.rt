@@ -12,12 +12,13 @@ use crate::runs::put;
 use crate::stores::Server;
 use std::io::Write;
 
-/// Writes the script that rebuilds the version that reads see: the pinned one, or the one after all
-/// writes. It is what `bestore dump --state` prints for a journal that leaves this version. An open
-/// batch isn't part of it.
+/// Writes the script that rebuilds the version that reads see: the pinned version, or the version
+/// after all writes. It is the text that `bestore dump --state` prints for a journal that leaves
+/// this version. The script doesn't include an open batch.
 ///
-/// It returns `Memory` if there is none for the script; then nothing was written. If a write fails
-/// or takes no bytes, it returns `Write`, and a prefix of the script was written. It doesn't flush.
+/// Returns `Memory` if there isn't enough memory for the script; then nothing was written. Returns
+/// `Write` if a write fails or accepts no bytes; then a prefix of the script was written. It
+/// doesn't flush.
 pub fn save_state<S: Server, W: Write>(server: &mut S, writer: &mut W) -> Result<(), RunFault>
     ensures saved { OnOk result (Appends (W.contents writer.old) (W.contents writer.new)
         (state_dump (viewed (S.shows server.new)))) }

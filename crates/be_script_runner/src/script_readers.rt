@@ -1,4 +1,4 @@
-//! Where a script's bytes come from.
+//! The source of a script's bytes.
 ghost use Rattle.std.specs.Io.{ReadsAtMost};
 ghost use Rattle.std.specs.Io.KnownBytes.{ReadConsumes};
 ghost use Rattle.std.specs.Prelude.{ℕ, ◌+◌, List};
@@ -9,17 +9,17 @@ use std::io::Read;
 
 /// A source of a script's bytes: anything that can be read.
 ///
-/// The ghost `was_read` says how often it was read. A reader needn't define it: code over an
-/// arbitrary reader learns the number only from its own reads. So a clause about it says how many
-/// reads the code made.
+/// The ghost `was_read` says how many times the reader was read. A reader needn't define it. Code
+/// that works with an arbitrary reader learns the number only from its own reads, so a clause about
+/// it says how many reads the code made.
 pub trait ScriptReader {
     /// The bytes that further reads will return, if they are known.
     ghost remaining: { Self → Option (List ℕ) };
 
-    /// The number of times that it was read.
+    /// How many times the reader was read.
     ghost was_read: { Self → ℕ → Type 0 } = { λ _ _. Unit {0} };
 
-    /// One read, as `Read` does it.
+    /// Reads once, as `Read` does.
     fn read_once(&mut self, buf: &mut [u8]) -> io::Result<usize>
         ensures bound { ReadsAtMost result buf.new }
         ensures bytes { ReadConsumes (remaining self.old) (remaining self.new) result buf.new }

@@ -1,8 +1,8 @@
 //! The script that rebuilds a version.
 //!
-//! It is what be_journal_text's `dump_state` returns for a journal that leaves the version: the
-//! operations that make it, list by list. The whole script is made before any of it is written, so
-//! if memory runs out, nothing is written.
+//! The script is the text that be_journal_text's `dump_state` returns for a journal that leaves the
+//! version: the operations that rebuild the version, list by list. The whole script is built before
+//! any of it is written, so if memory runs out, nothing is written.
 ghost use Rattle.std.specs.Prelude.{◌≡◌, ◌<◌, ◌++◌, [], ℕ, All, IfOk, OnOk, length, true, false};
 ghost use Rattle.std.specs.String.{string_bytes};
 ghost use Rattle.be_journal_text.specs.Dump.{cut_lines, state_dump};
@@ -16,8 +16,8 @@ use be_store::{Pass, Store};
 use be_volume_state::Place;
 use std::alloc::{AllocError, Global};
 
-/// Appends the lines of the next list of operations that make a pass's pinned version. Returns
-/// false if no list was left.
+/// Appends the lines for the next list of the operations that rebuild a pass's pinned version.
+/// Returns false if no list was left.
 fn push_next(
     alloc: Global,
     store: &Store,

@@ -1,10 +1,10 @@
-//! Servers, on which scripts run.
+//! The servers that scripts run on.
 //!
-//! A script's lines need only the calls of the trait [`Server`]. A ghost member says what the calls
-//! work on: a journal, the volume after it, the limit on its entries, and the pinned version. Other
-//! passes may write between two calls, and a call works on the store as they left it. Scripts are
-//! proved over the trait, so the proofs hold for every server. [`PassServer`] is a shared store
-//! with one of its passes.
+//! A script's lines need only the calls of the trait [`Server`]. A ghost member describes the store
+//! that the calls work on: a journal, the volume after it, the limit on its entries, and the pinned
+//! version. Other passes may write between two calls, and each call works on the store as they left
+//! it. The proofs about scripts use only the trait, so they hold for every server. [`PassServer`]
+//! is a shared store served from one of its passes.
 ghost use Rattle.std.specs.Prelude.{◌≡◌, ◌≤◌, true, All, List, Ok, None, IsSome, is_some, length};
 ghost use Rattle.std.specs.Prelude.{IfOk, IfErr, OnOk, if◌then◌else◌};
 ghost use Rattle.std.specs.String.{string_bytes};
@@ -43,25 +43,26 @@ use std::alloc::{AllocError, Global};
 use std::marker::Model;
 use std::snapshot::Snapshot;
 
-/// How often a write is tried while another pass is writing.
+/// The maximum number of times that a write is tried while another pass is writing.
 const MAX_TRIES: u64 = 10_000_000;
 
-/// What a script runs on. Reads see the pinned version, or the volume after all writes if none is
-/// pinned.
+/// The store that a script runs on. Reads see the pinned version, or the version after all writes
+/// if none is pinned.
 pub trait Server {
     ghost Kept: { Type 0 };
 
-    /// What no call changes.
+    /// The part of the server that no call changes.
     ghost kept: { Self → Kept };
 
     ghost shows: { Self → Store };
 
-    /// Why it refuses operations, given the server after the call.
+    /// Why the server refuses operations, given the server after the call.
     ghost refuses: { Self → List AnyOp → AnyRefusal → Self → Type 0 };
 
-    /// Writes operations, all or none. Returns the commit number and the operations' outcomes. It
-    /// returns Busy if another pass is writing, otherwise the volume's error, then CommitsSpent,
-    /// then OutOfMemory, then Full. A pin stays.
+    /// Writes all the operations or none of them. Returns the commit number and the operations'
+    /// outcomes. Returns Busy if another pass is writing. Otherwise the errors, in order of
+    /// precedence, are the volume's error, CommitsSpent, OutOfMemory and Full. A pin is left in
+    /// place.
     fn apply(&mut self, ops: &[Op]) -> Result<(u64, ArrayVec<Done, 64>), Refusal>
         requires some { 1 ≤ length ops.now }
         requires few { length ops.now ≤ 64 }
@@ -74,7 +75,7 @@ pub trait Server {
     fn is_pinned(&self) -> bool
         ensures { result ≡ is_some (shows self.now).pin };
 
-    /// Pins the version after all writes so far, and returns how many writes these are.
+    /// Pins the version after all writes so far, and returns the number of these writes.
     fn pin(&mut self) -> u64
         requires { (shows self.old).pin ≡ None }
         ensures stays { kept self.new ≡ kept self.old }
@@ -87,23 +88,23 @@ pub trait Server {
         ensures stays { kept self.new ≡ kept self.old }
         ensures unpins { shows self.new ≡ unpinned (shows self.old) };
 
-    /// The nodes that satisfy a query, in ascending order; or NotCovered or OutOfMemory.
+    /// The nodes that satisfy a query, in ascending order. The error is NotCovered or OutOfMemory.
     fn query(&mut self, query: &Query) -> Result<Vec<u64>, Refusal>
         ensures stays { kept self.new ≡ kept self.old }
         ensures joins { Joins (shows self.old) (shows self.new) }
         ensures answers { Answers (λ nodes. nodes.items) result
             (scan (viewed (shows self.new)) query.now) };
 
-    /// A page of a query's answer, in the order of an index. It returns NoSuchIndex if no index has
-    /// that name, or if the index is of another kind than the value after which the page begins. It
-    /// returns NotCovered next, and may also return OutOfMemory.
+    /// A page of a query's answer, in the order of an index. Returns NoSuchIndex if there is no
+    /// index with that name, or if the value after which the page begins isn't of the index's kind.
+    /// NoSuchIndex takes precedence over NotCovered. OutOfMemory is possible too.
     fn page(&mut self, query: Query, paging: &Paging) -> Result<Page, Refusal>
         ensures stays { kept self.new ≡ kept self.old }
         ensures joins { Joins (shows self.old) (shows self.new) }
         ensures answers { Answers page_found result
             (page_read (viewed (shows self.new)) paging.now query) };
 
-    /// Which indices would answer a query; or NotCovered or OutOfMemory.
+    /// The indices that would answer a query. The error is NotCovered or OutOfMemory.
     fn explain(&mut self, query: &Query) -> Result<Cover, Refusal>
         ensures stays { kept self.new ≡ kept self.old }
         ensures joins { Joins (shows self.old) (shows self.new) }
@@ -117,23 +118,23 @@ pub trait Server {
         ensures joins { Joins (shows self.old) (shows self.new) }
         ensures answer { result ≡ attribute (viewed (shows self.new)) node name.now };
 
-    /// A node's attributes, in ascending order of their names; or NoNode or OutOfMemory.
+    /// A node's attributes, in ascending order of their names. The error is NoNode or OutOfMemory.
     fn attrs(&mut self, node: u64) -> Result<Vec<(Name, Value)>, Refusal>
         ensures stays { kept self.new ≡ kept self.old }
         ensures joins { Joins (shows self.old) (shows self.new) }
         ensures answers { Answers (λ list. list.items) result
             (attributes_at (viewed (shows self.new)) node) };
 
-    /// The indices, in ascending order of their names; or OutOfMemory.
+    /// The indices, in ascending order of their names. The only error is OutOfMemory.
     fn indices(&mut self) -> Result<Vec<(Name, Kind)>, Refusal>
         ensures stays { kept self.new ≡ kept self.old }
         ensures joins { Joins (shows self.old) (shows self.new) }
         ensures answers { Answers (λ list. list.items) result
             (Ok (index_kinds (viewed (shows self.new)))) };
 
-    /// The script that rebuilds the version that reads see: the pinned one, or the one after all
-    /// writes. It is what be_journal_text's `dump_state` returns for a journal that leaves this
-    /// version.
+    /// The script that rebuilds the version that reads see: the pinned version, or the version
+    /// after all writes. It is the text that be_journal_text's `dump_state` returns for a journal
+    /// that leaves this version.
     fn state_text(&mut self) -> Result<String, AllocError>
         ensures stays { kept self.new ≡ kept self.old }
         ensures joins { Joins (shows self.old) (shows self.new) }
@@ -142,8 +143,8 @@ pub trait Server {
         ensures can { OnOk result (All CanBeOp (state_ops (viewed (shows self.new)))) };
 }
 
-/// Opens a new store with one pass, and with the pages and commits of the limits. The only error is
-/// OutOfMemory.
+/// Opens a new store with one pass and with the pages and commits given in the limits. The only
+/// error is OutOfMemory.
 pub fn open_for_one(alloc: Global, limits: Limits) -> Result<(be_store::Store, Pass), Refusal>
     requires { IsWithin limits }
     ensures opened { IfOk result (λ r. IsPassOf r.0 r.1
@@ -162,8 +163,8 @@ pub fn open_for_one(alloc: Global, limits: Limits) -> Result<(be_store::Store, P
     Ok((store, pass))
 }
 
-/// Writes, and tries again while another pass is writing, up to 10,000,000 times in all. Before
-/// each further try another thread may run.
+/// Writes, retrying while another pass is writing, for up to 10,000,000 tries in all. Another
+/// thread may run before each retry.
 fn apply_at_last(
     store: &be_store::Store,
     pass: &mut Pass,
@@ -186,8 +187,7 @@ fn apply_at_last(
 }
 
 /// A shared store, served from one of its passes. The other passes may write at any time; a script
-/// sees what this pass has seen. Only calls of the store led from what the pass knew at first to
-/// what it knows.
+/// sees what this pass has seen. What the pass knows has changed only through calls to the store.
 #[derive(Drop)]
 pub struct PassServer<'a> {
     alloc: Global,
@@ -213,7 +213,7 @@ impl<'a> Model for PassServer<'a> {
 }
 
 impl<'a> PassServer<'a> {
-    /// Serves a script from this pass of the store.
+    /// Serves scripts from this pass of the store.
     pub fn new(alloc: Global, store: &'a be_store::Store, pass: Pass) -> PassServer<'a>
         requires { IsPassOf store.now pass }
         ensures { (result.store ≡ store.now) × (result.knows ≡ pass.knows) }
@@ -221,7 +221,7 @@ impl<'a> PassServer<'a> {
         PassServer::at_first(alloc, store, pass)
     }
 
-    /// The same, and records what the pass knew at first.
+    /// Like `new`, but also records what the pass knew at first.
     pub(crate) fn at_first(alloc: Global, store: &'a be_store::Store, pass: Pass) -> PassServer<'a>
         requires { IsPassOf store.now pass }
         ensures store { result.store ≡ store.now }
@@ -237,7 +237,7 @@ impl<'a> PassServer<'a> {
         }
     }
 
-    /// Gives the pass back.
+    /// Returns the pass.
     pub fn into_pass(self) -> Pass
         ensures { IsPassOf self.entry.store result × (result.knows ≡ self.entry.knows) }
     {
@@ -245,7 +245,7 @@ impl<'a> PassServer<'a> {
         pass
     }
 
-    /// Gives the pass back, and says that calls of the store led to what it knows.
+    /// Returns the pass, and says that what it knows changed only through calls to the store.
     pub(crate) fn at_last(self) -> Pass
         ensures pass { IsPassOf self.entry.store result }
         ensures knows { result.knows ≡ self.entry.knows }
@@ -255,7 +255,7 @@ impl<'a> PassServer<'a> {
         pass
     }
 
-    /// Pins for one read if no version is pinned, and returns whether it did.
+    /// If no version is pinned, pins one for a single read. Returns whether it did.
     fn begin_read(&mut self) -> bool
         ensures stays { seat_of self.new ≡ seat_of self.old }
         ensures pinned { IsSome (known self.new.knows).pin }
@@ -271,7 +271,7 @@ impl<'a> PassServer<'a> {
         true
     }
 
-    /// Releases the pin of one read, if the read made it.
+    /// Releases the pin if `begin_read` made it for this read.
     fn end_read(&mut self, made: bool)
         requires { IsSome (known self.old.knows).pin }
         ensures stays { seat_of self.new ≡ seat_of self.old }

@@ -1,8 +1,8 @@
 //! Runs that end at the first refused line.
 //!
-//! Each line runs and its reply is written, as in any run. After a reply that says that its line
-//! wasn't carried out, no further line runs, and no further reply is written. Then the store is
-//! closed, and its journal is returned.
+//! Each line runs and its reply is written, as in any run. Once a reply says that its line wasn't
+//! carried out, no further line runs and no further reply is written. Then the store is closed and
+//! its journal is returned.
 ghost use Rattle.std.specs.Option.{option_map};
 ghost use Rattle.std.specs.Prelude.{◌≡◌, ◌≤◌, ◌^◌, ◌↔◌, length, IfOk, OnOk, IfErr, IfSome, OnErr};
 ghost use Rattle.std.specs.Prelude.{if◌then◌else◌};
@@ -28,12 +28,12 @@ use be_script_language::{Reply, read_line, reply_text};
 use std::alloc::Global;
 use std::io::Write;
 
-/// A line of a script that was refused.
+/// A refused line of a script.
 #[derive(Debug, Drop)]
 pub struct RefusedLine {
-    /// Its number; lines are numbered from 1.
+    /// The line's number, counting from 1.
     pub number: u64,
-    /// Its reply, with the LF.
+    /// The line's reply, with its LF.
     pub reply: String,
 }
 
@@ -61,7 +61,7 @@ fn refusal_in(is_refused: bool, text: String) -> Option<String>
 }
 
 /// Runs a line, and then writes its reply. Returns the reply if it says that the line wasn't
-/// carried out. If memory runs out, none of the reply is written.
+/// carried out. If memory runs out, nothing of the reply is written.
 fn run_line<S: Server, W: Write>(
     alloc: Global,
     server: &mut S,
@@ -92,7 +92,7 @@ fn run_line<S: Server, W: Write>(
     Ok(refusal_in(is_refusal(&reply), text))
 }
 
-/// The refused line with this number, if it has a reply.
+/// The refused line with this number, if there is a reply.
 fn refused_line(number: u64, reply: Option<String>) -> Option<RefusedLine>
     ensures { option_map strict.line_refused result
         ≡ strict.numbered number (option_map string_bytes reply) }
@@ -103,8 +103,8 @@ fn refused_line(number: u64, reply: Option<String>) -> Option<RefusedLine>
     }
 }
 
-/// Runs a script's lines in order, up to the first refused one, and returns that one. What follows
-/// the last LF is a line only if it isn't empty.
+/// Runs a script's lines in order up to and including the first refused line, and returns that
+/// line. The text after the last LF is a line only if it isn't empty.
 fn run_lines<S: Server, W: Write>(
     alloc: Global,
     server: &mut S,
@@ -140,7 +140,7 @@ fn run_lines<S: Server, W: Write>(
     Ok(refused_line(number, refused))
 }
 
-/// Runs a script on a new store up to the first refused line, and closes the store.
+/// Runs a script on a new store up to and including the first refused line, and closes the store.
 fn run_on_new<W: Write>(
     alloc: Global,
     script: &[u8],
@@ -169,12 +169,12 @@ fn run_on_new<W: Write>(
 }
 
 /// Runs a script as [`crate::run`] does, but ends after the first reply that says that its line
-/// wasn't carried out. Returns that line, or None if all lines ran without such a reply, and the
-/// journal of the accepted writes.
+/// wasn't carried out. Returns that line, or None if there was no such reply, and the journal of
+/// the accepted writes.
 ///
 /// Such replies are a refusal, `bad line`, `already begun`, `not begun`, `full batch`, `empty
-/// batch`, `already pinned`, `not pinned` and `no live query`. What it writes is an output of the
-/// lines up to that one. Errors are those of `run`, and leave what they leave there.
+/// batch`, `already pinned`, `not pinned` and `no live query`. The text that it writes is an output
+/// of the lines up to and including that one. The errors are those of `run`, with the same effects.
 pub fn run_strictly<R: ScriptReader, W: Write>(
     alloc: Global,
     reader: &mut R,

@@ -1,4 +1,4 @@
--- A session may go to another thread: threads may share what it shares, because a `&` to a pass gives no access to it.
+-- A session can be sent to another thread. Threads can share what it shares, because a `&` to a pass gives no access to it.
 use denote.RattleType.{RattleType}
 use denote.Param.Send.{IsSend, IsSync, part_keyless, sendable}
 use Rattle.std.proofs.Crossing.{crosses}
@@ -49,10 +49,10 @@ shared_sync = search (sendable, crosses, store_sync, returned_send, returned_syn
 pub session : IsSend Session.the_row
 session = search (sendable, crosses, pass_send, shared_send, shared_sync) depth 20
 
--- and so may a witness
+-- A witness can be sent to another thread.
 pub witness : IsSend Witness.the_row
 witness = search (sendable, crosses, badge_send) depth 20
 
--- and so may a change
+-- A change can be sent to another thread.
 pub change : IsSend Change.the_row
 change = search (sendable, crosses) depth 100 fits 20000

@@ -1,4 +1,4 @@
--- Bytes that grow at the end: a part that lay within them stays the same.
+-- Bytes that grow at the end. A part that lay within them stays the same.
 use Rattle.std.proofs.Common.{◌≡◌, ◌<◌, ◌≤◌, ◌+◌, ℕ, List, [], ◌∷◌, ◌++◌, arith, drop}
 use Rattle.std.proofs.Common.{get_or, length, map, length-append, length-drop, refl, sym, ap, subst, take, ◌∙◌}
 use Rattle.std.proofs.lemmas.List.{append_assoc, append-nil, drop-append-le, drop_at, map_more, take_more, take-append-le, take_all}
@@ -13,7 +13,7 @@ part_kept bytes more at len fits =
     let rest : len ≤ length (drop at bytes) = omega (arith, length-drop at bytes) in
     ap (take len) (drop-append-le at bytes more low) ∙ take-append-le len (drop at bytes) more rest
 
--- appended bytes are the part that begins at the old length, even after more is appended
+-- Appended bytes are the part that begins at the old length, even after more bytes are appended.
 pub part_end : (bytes name : List ℕ) → part (bytes ++ name) (length bytes) (length name) ≡ name
 part_end bytes name = ap (take (length name)) (drop_at bytes name (length bytes) refl) ∙ take_all (length name) name (omega arith)
 
@@ -63,7 +63,7 @@ parts_more [] o bytes = append-nil (both_parts o bytes)
 parts_more (n ∷ os) o bytes =
     ap (λ ps. both_parts n bytes ++ ps) (parts_more os o bytes) ∙ sym (append_assoc (both_parts n bytes) (all_parts os bytes) (both_parts o bytes))
 
--- one more operation, whose parts are the appended bytes
+-- One more operation, whose parts are the appended bytes.
 pub encoded_next : (os : List Operation) (o : Operation) (bytes all : List ℕ) (ops : List Op) (op : Op) → AreEncoded os bytes ops → all ≡ bytes ++ both_parts o all
     → ArePartsWithin o (length all) → IsMeantBy o all op → AreEncoded (os ++ o ∷ []) all (ops ++ op ∷ [])
 encoded_next os o bytes all ops op are grown within is =
@@ -73,7 +73,7 @@ encoded_next os o bytes all ops op are grown within is =
           ∙ (ap (λ ps. ps ++ more) (ap (all_parts os) grown ∙ (parts_kept os bytes more ops are.0 ∙ are.1)) ∙ sym grown),
     )
 
--- one more item of a list that is encoded as operations
+-- One more item of a list that is encoded as operations.
 pub listed_next : {A : Type 0} (f : A → Op) (xs : List A) (i : ℕ) (d : A) (os later : List Operation) (o : Operation) (bytes all : List ℕ) → i < length xs
     → AreEncoded os bytes (map f (take i xs)) → all ≡ bytes ++ both_parts o all → ArePartsWithin o (length all) → IsMeantBy o all (f (get_or xs i d))
     → later ≡ os ++ o ∷ []
@@ -83,7 +83,7 @@ listed_next f xs i d os later o bytes all low are grown within is pushed =
     (subst (λ ops. AreEncoded (os ++ o ∷ []) all ops) (sym (map_more f xs i d low))
     (encoded_next os o bytes all (map f (take i xs)) (f (get_or xs i d)) are grown within is))
 
--- one more operation of a list that is encoded as it is
+-- One more operation of a list that is encoded as it is.
 pub encoded_more : (ops : List Op) (i : ℕ) (d : Op) (os later : List Operation) (o : Operation) (bytes all : List ℕ) → i < length ops
     → AreEncoded os bytes (take i ops) → all ≡ bytes ++ both_parts o all → ArePartsWithin o (length all) → IsMeantBy o all (get_or ops i d)
     → later ≡ os ++ o ∷ []
@@ -93,7 +93,7 @@ encoded_more ops i d os later o bytes all low are grown within is pushed =
     (subst (λ xs. AreEncoded (os ++ o ∷ []) all xs) (sym (take_more ops i d low))
     (encoded_next os o bytes all (take i ops) (get_or ops i d) are grown within is))
 
--- parts that mean an operation, at their places in the bytes
+-- Parts that encode an operation, at their places in the bytes.
 pub meant_by : (o : Operation) (bytes name value : List ℕ) (op : Op) → part bytes o.name_at o.name_length ≡ name → part bytes o.value_at o.value_length ≡ value
     → IsMeant o.kind o.node name o.code o.number value op → IsMeantBy o bytes op
 meant_by o bytes name value op named valued is =

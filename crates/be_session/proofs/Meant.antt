@@ -13,7 +13,7 @@ pub meant_next : (os : List Operation) (i : ℕ) (d : Operation) (bytes : List �
 meant_next os i d bytes ops op low are within is =
     subst (λ xs. AreMeant xs bytes (ops ++ op ∷ [])) (sym (take_more os i d low)) (are_meant_more (take i os) (get_or os i d) bytes ops op are within is)
 
--- the operations before it are valid and it isn't: its place is reported
+-- The operations before this one are valid, but this one isn't, so its place is reported.
 pub invalid_here : (os : List Operation) (i : ℕ) (d : Operation) (bytes : List ℕ) (ops : List Op) (e : Fault) (place : ℕ) → place ≡ i → IsWriteCount (length os) → i < length os
     → AreMeant (take i os) bytes ops → IsInvalidAt (get_or os i d) bytes e → IsInvalid os bytes e place
 invalid_here os i d bytes ops e place is fits low are why =

@@ -1,4 +1,4 @@
--- A page's cursor is either at a key, which is at least as long as a node, or where it was.
+-- The cursor of a page is either at a key, which is at least as long as a node, or unchanged.
 use Rattle.std.proofs.Common.{◌≡◌, ◌≤◌, ℕ, zero, suc, Bool, true, false, cond, List, [], ◌∷◌, ◌++◌, refl, sym, ap, ◌∙◌, subst, arith, Ok, Err, IfErr, Some, None, is_some, take, length, length-append}
 use Rattle.std.specs.List.{Contains, AllByRecursion, flat_map}
 use Rattle.std.specs.Option.{option_map_or}
@@ -51,7 +51,7 @@ long_contained : (es : Entries) → ((k : List ℕ) → Contains (keys_of es) k 
 long_contained [] h = tt
 long_contained (e ∷ es) h = (h e.0 (0, omega arith, refl), long_contained es (λ k g. h k (suc g.0, omega (arith, g.1), g.2)))
 
--- sorting adds no keys
+-- Sorting adds no keys.
 module _ (descending : Bool) (es : Entries) where
   abbrev ordered_entries : Entries
   ordered_entries = fin.entries (fin.from_entries {R = key_cmp descending} es)
@@ -82,7 +82,7 @@ long_cursor : (cursor : Option (List ℕ)) (es : Entries) → IsLong cursor → 
 long_cursor cursor [] c h = c
 long_cursor cursor (e ∷ es) c h = long_cursor (Some e.0) es h.0 h.1
 
--- where a cursor was, if it is nowhere now
+-- The previous position of a cursor that is at no key now.
 none_before : (cursor : Option (List ℕ)) (ks : List (List ℕ)) → cursor_at cursor ks ≡ None → cursor ≡ None
 none_before cursor [] e = e
 none_before cursor (k ∷ ks) e = absurd (some (none_before (Some k) ks e))
@@ -90,7 +90,7 @@ none_before cursor (k ∷ ks) e = absurd (some (none_before (Some k) ks e))
     some : Some k ≡ None → ⊥
     some e = cc
 
--- and if no node was found
+-- The cursor is unchanged if no node was found.
 stays_without : (cursor : Option (List ℕ)) (es : Entries) → nodes_of es ≡ [] → cursor_at cursor (keys_of es) ≡ cursor
 stays_without cursor [] e = refl
 stays_without cursor (x ∷ es) e = cc
@@ -106,7 +106,7 @@ module _ (s : State) (f : Formula) (by : List ℕ) (descending : Bool) (cursor :
   abbrev made : List ℕ → Page
   made nodes = page_of cursor most (after descending cursor (in_order s by descending nodes))
 
-  -- a page was made of some nodes
+  -- A page consists of some nodes.
   of_nodes : page s f by descending cursor most ≡ Ok p → (nodes : List ℕ) × (made nodes ≡ p)
   of_nodes e = at (has_index s by) (scan s f) e
     where
@@ -135,7 +135,7 @@ module _ (s : State) (f : Formula) (by : List ℕ) (descending : Bool) (cursor :
     page_stays empty = sym (ap (λ (q : Page). q.cursor) is_made)
         ∙ stays_without cursor (entries_left nodes) (ap (λ (q : Page). q.nodes) is_made ∙ empty)
 
--- a reason that holds at a pin
+-- A reason that holds at a pin.
 pub unread_at : {X : Type 0} (why : Fault → Type 0) (pin : Option ℕ) (n : ℕ) → pin ≡ Some n → (answer : Result X Fault) → IfErr answer why → IfErr answer (λ e. IsUnread pin (why e) e)
 unread_at why pin n is (Ok x) h = tt
 unread_at why pin n is (Err e) h = subst (λ p. IsUnread p (why e) e) (sym is) h

@@ -1,4 +1,4 @@
--- The operations of an entry that made nodes are encoded with them.
+-- The operations of an entry that created nodes are encoded with these nodes.
 use Rattle.std.proofs.Common.{◌≡◌, ℕ, inl, inr, List, [], ◌∷◌, ◌++◌, length, get_or, Option, Some, None, sym, ap, ◌∙◌, subst, arith, length-append}
 use Rattle.std.specs.Borrow.{Bor}
 use Rattle.std.specs.Prelude.{IfSome, slice_get}
@@ -16,7 +16,7 @@ value_in : {A : Type 0} → A → Option A → A
 value_in d None = d
 value_in d (Some x) = x
 
--- one more operation
+-- One more operation.
 pub nodes_more : (os more : List Operation) (o : Operation) (ops : List Op) (dones : List Done) (next : Op) → ReportNodes os ops dones → more ≡ os ++ o ∷ []
     → slice_get ops (length os) ≡ Some next → ((done : Done) → slice_get dones (length os) ≡ Some done → ReportsNode o next done) → ReportNodes more ops dones
 unfolding value_in
@@ -36,7 +36,7 @@ nodes_more os more o ops dones next were is op reported i p q done at op_at done
           subst (λ (x : Operation). ReportsNode x q done) same (subst (λ (y : Op). ReportsNode o y done) op_is (reported done done_here)))
     ]
 
--- what was looked up in the outcomes
+-- What was looked up in the outcomes.
 pub reported_by_look : (r : Option (Bor Done)) (dones : List Done) (k : ℕ) (o : Operation) (op : Op) → IsItemAt dones k r → IfSome r (λ d. ReportsNode o op d.now)
     → (done : Done) → slice_get dones k ≡ Some done → ReportsNode o op done
 reported_by_look (Some d) dones k o op is reported done at = subst (λ (x : Done). ReportsNode o op x) (is.1 ∙ get_or_from_slice_get dones k done d.now at) reported

@@ -1,4 +1,4 @@
--- Operations that were written as a change, or weren't.
+-- Operations that were or weren't written as a change.
 use Rattle.std.proofs.Common.{◌≡◌, ℕ, List, ap, inl, inr, length, ◌∙◌}
 use Rattle.be_change.specs.Changing.{outcomes}
 use Rattle.be_change.specs.Comparing.{HaveRightKinds}

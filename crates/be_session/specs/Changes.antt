@@ -32,8 +32,9 @@ use Rattle.be_session.specs.declared.faults.Fault.TheVariants.{BadCount, Conflic
 use Rattle.be_session.specs.declared.faults.Fault.TheVariants.{Refused, WrongKind}
 use Rattle.be_session.specs.declared.lists.Operation.{Operation}
 
--- The number that a change returns for an operation that it has collected. For a new node it is the
--- next number after the operations before it, and the operation's outcome; otherwise it is 0.
+-- The number that a change returns for an operation that it has collected. For a new node, this is
+-- the next number after the operations before it, which is also the outcome of the operation.
+-- Otherwise it is 0.
 abbrev pub IsGiven : Changing → Changing → Op → ℕ → Type 0
 IsGiven was now New node =
     (outcomes now.first now.ops ≡ outcomes was.first was.ops ++ Node node ∷ [])
@@ -44,8 +45,8 @@ IsGiven was now (Unset changed name) node = node ≡ 0
 IsGiven was now (MkIndex name kind) node = node ≡ 0
 IsGiven was now (RmIndex name) node = node ≡ 0
 
--- If the change checks kinds and this sets an attribute, the value has the kind of its name's
--- index, as the operations before it leave that index.
+-- If the change checks kinds and this operation sets an attribute, the value has the kind of the
+-- index of its name, as the operations before it leave that index.
 abbrev pub SetsRightKind : Changing → Op → Type 0
 SetsRightKind c New = Unit {0}
 SetsRightKind c (Drop node) = Unit {0}
@@ -54,7 +55,7 @@ SetsRightKind c (Unset node name) = Unit {0}
 SetsRightKind c (MkIndex name kind) = Unit {0}
 SetsRightKind c (RmIndex name) = Unit {0}
 
--- this sets an attribute, and the index of its name takes another kind
+-- This operation sets an attribute, and the index of its name takes another kind.
 abbrev pub SetsWrongKind : Changing → Op → CollectError → Type 0
 SetsWrongKind c New e = ⊥
 SetsWrongKind c (Drop node) e = ⊥
@@ -63,56 +64,60 @@ SetsWrongKind c (Unset node name) e = ⊥
 SetsWrongKind c (MkIndex name kind) e = ⊥
 SetsWrongKind c (RmIndex name) e = ⊥
 
--- the change has collected exactly this operation, and has returned this number
+-- The change has collected exactly this operation and has returned this number.
 abbrev pub Collects : Changing → Changing → Op → ℕ → Type 0
 Collects was now op node = (now ≡ with_op was op) × IsGiven was now op node × SetsRightKind was op
 
--- why an operation wasn't collected
+-- The reason why an operation wasn't collected.
 abbrev pub IsUncollected : Changing → Op → CollectError → Type 0
 IsUncollected c op e = HasNoRoom c e ⊎ SetsWrongKind c op e
 
--- the operation that is encoded here was collected
+-- The operation that is encoded here was collected.
 abbrev pub CollectsMeant : Changing → Changing → Operation → List ℕ → ℕ → Type 0
 CollectsMeant was now o bytes node = (op : Op) × ArePartsWithin o (length bytes)
     × IsMeantBy o bytes op × Collects was now op node
 
--- why it wasn't: either the encoding is invalid, or the change doesn't take the operation
+-- The reason why the operation that is encoded here wasn't collected. Either the encoding is
+-- invalid, or the change doesn't take the operation.
 abbrev pub IsNotCollected : Changing → Operation → List ℕ → Fault → Type 0
 IsNotCollected c o bytes e = IsInvalidAt o bytes e
     ⊎ ((op : Op) × IsMeantBy o bytes op
     × (why : CollectError) × (e ≡ fault_of_collecting why) × IsUncollected c op why)
 
--- What a change reads at an attribute: what its operations leave there of the snapshot's, if the
--- session is pinned to that snapshot; otherwise NotPinned.
+-- What a change reads at an attribute. If the session is pinned to the change's snapshot, this is
+-- what the change's operations leave of the snapshot's attribute, and otherwise the result is
+-- NotPinned.
 abbrev pub ReadsChanged : Changing → Knowledge → ℕ → List ℕ → Result (Option Value) Fault → Type 0
 ReadsChanged change a node name (Ok found) = IsPinnedTo a change.number
     × (Reads change (volume_pinned a)
     → After change (volume_pinned a) (λ s. found ≡ attribute s node name))
 ReadsChanged change a node name (Err e) = (¬ (IsPinnedTo a change.number)) × (e ≡ NotPinned)
 
--- what a session returns about how a change ended
+-- What a session returns about how a change ended.
 abbrev pub as_answer : Result Ended Refusal → Result ℕ Fault
 as_answer (Ok (Accepted n)) = Ok n
 as_answer (Ok (Again found)) = Err (Conflict found)
 as_answer (Err why) = Err (Refused why)
 
--- How a change ends. If the session isn't pinned to its snapshot, nothing happens. Otherwise it
--- ends as be_change says; then the pin is released, if the change made it.
+-- How a change ends. If the session isn't pinned to the change's snapshot, nothing happens.
+-- Otherwise the change ends as be_change defines it, and the pin is then released if the change
+-- made it.
 abbrev pub EndsChange : Changing → (a d : Knowledge) → Result ℕ Fault → Type 0
 EndsChange change a d result =
     ((¬ (IsPinnedTo a change.number)) × (d ≡ a) × (result ≡ Err NotPinned))
     ⊎ (IsPinnedTo a change.number × (ended : Result Ended Refusal) × (result ≡ as_answer ended)
     × (c : Knowledge) × EndsOnce change a c ended × Releases change.pins c d)
 
--- an abandoned change writes nothing; if the session is pinned to its snapshot, the pin that it
--- made is released
+-- An abandoned change writes nothing. If the session is pinned to its snapshot and the change made
+-- the pin, the pin is released.
 abbrev pub Abandons : Changing → (a d : Knowledge) → Type 0
 Abandons change a d = ((¬ (IsPinnedTo a change.number)) × (d ≡ a))
     ⊎ (IsPinnedTo a change.number × Releases change.pins a d)
 
--- Operations were written at once as a change on the pinned snapshot, with this commit number:
--- exactly these, on exactly what was read, as the next entry after the snapshot. Each set has the
--- kind of the index of its name, and new nodes have the snapshot's next numbers.
+-- Operations were written in one call as a change on the pinned snapshot, with this commit number.
+-- Exactly these operations were written, on exactly what was read, as the next entry after the
+-- snapshot. Each set has the kind of the index of its name, and new nodes have the next numbers of
+-- the snapshot.
 abbrev pub WritesChange : (a d : Knowledge) → List Op → ℕ → Type 0
 WritesChange a d ops n = (number : ℕ) × IsPinnedTo a number
     × HaveRightKinds (volume_pinned a) ops (length ops)
@@ -124,16 +129,16 @@ abbrev pub IsMismatch : (a d : Knowledge) → List Op → Fault → ℕ → Type
 IsMismatch a d ops e place = HasRead a d × (index : Kind) × (e ≡ WrongKind index)
     × IsFirstOfWrongKind (volume_pinned a) ops place index
 
--- All operations have the right kinds, and the conditional write at the pin's number wasn't made.
+-- All operations have the right kinds, but the conditional write at the pin's number wasn't made.
 -- The place is the number that comes with the error.
 abbrev pub IsUnmade : (a d : Knowledge) → ℕ → List Op → Fault → ℕ → Type 0
 IsUnmade a d number ops e place = HaveRightKinds (volume_pinned a) ops (length ops)
     × (c : Knowledge) × HasRead a c × (why : ApplyIfError) × (e ≡ fault_of why)
     × IsUnapplied c d number ops why × (place ≡ fault_carried e)
 
--- Why operations weren't written as a change, and the place that is returned. Either the count
--- isn't 1 to 64, or there is no pin, and then nothing has happened; or a set is of a wrong kind; or
--- the store returned an error.
+-- The reason why operations weren't written as a change, and the place that is returned. Either the
+-- count isn't 1 to 64 or there is no pin, in which cases nothing has happened, or a set is of a
+-- wrong kind, or the store returned an error.
 abbrev pub IsUnwrittenChange : (a d : Knowledge) → List Op → Fault → ℕ → Type 0
 IsUnwrittenChange a d ops e place =
     (IsBadCount (length ops) × (e ≡ BadCount) × (place ≡ 0) × (d ≡ a))

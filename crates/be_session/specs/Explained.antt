@@ -9,11 +9,11 @@ use Rattle.be_value.specs.declared.refusals.Refusal.{Refusal}
 use Rattle.be_volume.specs.Query.{has_index}
 use Rattle.be_volume.specs.Volume.{State}
 
--- the text of the cover that is chosen if exactly the names for which `indexed` is true have an
--- index; or why none is chosen
+-- The text of the cover that is chosen if exactly the names for which `indexed` is true have an
+-- index, or the reason why none is chosen.
 abbrev pub explanation_where : (List ℕ → Bool) → Formula → Result (List ℕ) Refusal
 explanation_where indexed f = result_map_both (explanation f) (λ e. e) (chosen indexed f)
 
--- the same for a volume's indices
+-- The text of the cover that is chosen from a volume's indices, or the reason why none is chosen.
 abbrev pub explanation_in : State → Formula → Result (List ℕ) Refusal
 explanation_in volume f = explanation_where (has_index volume) f

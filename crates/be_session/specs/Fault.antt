@@ -15,8 +15,8 @@ use Rattle.be_session.specs.declared.faults.Fault.TheVariants.{NoValue, BadPart,
 use Rattle.be_session.specs.declared.faults.Fault.TheVariants.{InUse, BadCursor, NoRoom, WrongKind}
 use Rattle.be_session.specs.declared.faults.Fault.TheVariants.{Refused}
 
--- the number by which other languages know an error: a refusal's own number, and those of a session
--- from 66 on
+-- The number that identifies an error in other languages. A refusal has its own number, and the
+-- errors of a session are numbered from 66 on.
 abbrev pub fault_code : Fault → ℕ
 fault_code NotPinned = 66
 fault_code AlreadyPinned = 67
@@ -35,9 +35,9 @@ fault_code NoRoom = 79
 fault_code (WrongKind index) = 80
 fault_code (Refused e) = refusal_number e
 
--- The number that comes with an error. For a refusal it is the refusal's; for a conflict it is the
--- journal's length; for a value of the wrong kind it is the type code of the index's kind; and
--- otherwise 0.
+-- The number that comes with an error. For a refusal, this is the refusal's own number. For a
+-- conflict, it is the journal's length, and for a value of the wrong kind, the type code of the
+-- index's kind. Otherwise it is 0.
 abbrev pub fault_carried : Fault → ℕ
 fault_carried NotPinned = 0
 fault_carried AlreadyPinned = 0
@@ -56,12 +56,12 @@ fault_carried NoRoom = 0
 fault_carried (WrongKind index) = code_of index
 fault_carried (Refused e) = unwrap_or (carried e) 0
 
--- the error of a conditional write that the store didn't make
+-- The error of a conditional write that the store didn't make.
 abbrev pub fault_of : ApplyIfError → Fault
 fault_of (errors.Conflict length) = Conflict length
 fault_of (errors.Refused e) = Refused e
 
--- the error of an operation that a change didn't collect
+-- The error of an operation that a change didn't collect.
 abbrev pub fault_of_collecting : CollectError → Fault
 fault_of_collecting uncollected.TooMany = BadCount
 fault_of_collecting (uncollected.WrongKind index value) = WrongKind index

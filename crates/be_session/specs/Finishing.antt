@@ -14,11 +14,11 @@ use Rattle.be_session.specs.declared.faults.Fault.TheVariants.{InUse, Refused}
 use Rattle.be_session.specs.declared.finishing.Unfinished.{Unfinished}
 use Rattle.be_session.specs.declared.finishing.Unfinished.TheVariants.{Kept, PassLost}
 
--- A store with these limits was closed with this journal, and its passes know this; there is one of
--- each number. The journal is legal, each entry is by a pass of the store, and after each entry the
--- volume fits into the pages. It begins with what each pass has seen, and has exactly each pass's
--- own writes. An accepted write is at its commit number, and each pin was to a prefix of the
--- journal. The moves of all calls lie in one trace.
+-- A store with these limits was closed with this journal, and its passes know this. There is one
+-- pass for each number. The journal is legal, each entry is by a pass of the store, and the volume
+-- after each entry fits into the pages. The journal begins with what each pass has seen, and
+-- contains exactly the writes of each pass. Every accepted write is at its commit number, and every
+-- pin was to a prefix of the journal. The moves of all calls lie in one trace.
 pub record IsClosedWith (limits : Limits) (passes : List Knowledge) (log : Log) : Type 0 where
   pub all : (k : ℕ) → k < limits.passes → Has passes k
   pub legal : IsLegal log.entries
@@ -30,20 +30,22 @@ pub record IsClosedWith (limits : Limits) (passes : List Knowledge) (log : Log) 
   pub limit : log.limit ≡ limits.commits
   pub moves : AreInOneTrace limits passes
 
--- the store of a pass that knew this was closed with this journal
+-- The store of a pass that knew this was closed with this journal.
 abbrev pub IsFinishedBy : Limits → Knowledge → Log → Type 0
 IsFinishedBy limits a log = (first : List Knowledge) × (rest : List Knowledge)
     × IsClosedWith limits (first ++ a ∷ rest) log
 
--- the session's store was closed with this journal
+-- The session's store was closed with this journal.
 abbrev pub IsFinished : Sitting → Log → Type 0
 IsFinished s log = IsFinishedBy s.store.limits s.knows log
 
--- why a session can't close its store: either another one is open, or memory ran out
+-- The reason why a session can't close its store. Either another session is open, or memory ran
+-- out.
 abbrev pub IsNotLast : Fault → Type 0
 IsNotLast e = (e ≡ InUse) ⊎ (e ≡ Refused OutOfMemory)
 
--- why the store wasn't closed: either the session is as it was, or it is gone with the store
+-- The reason why the store wasn't closed. Either the session is unchanged, or it is gone together
+-- with the store.
 abbrev pub IsUnfinished : Sitting → Unfinished → Type 0
 IsUnfinished s (Kept t e) = (t ≡ s) × IsNotLast e
 IsUnfinished s PassLost = Unit {0}

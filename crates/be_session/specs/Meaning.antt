@@ -16,8 +16,8 @@ use Rattle.be_session.specs.declared.faults.Fault.{Fault}
 use Rattle.be_session.specs.declared.faults.Fault.TheVariants.{NotUtf8, NoOperation, NoKind}
 use Rattle.be_session.specs.declared.faults.Fault.TheVariants.{NoValue, Refused}
 
--- The value that a type code, a number and bytes mean. A text or raw bytes is the bytes; a number
--- is the number, in two's complement if it has a sign.
+-- The value that a type code, a number and bytes encode. A string or raw bytes are encoded by the
+-- bytes, and a number by the number, which is in two's complement if the kind is signed.
 abbrev pub IsValueMeant : ℕ → ℕ → List ℕ → Value → Type 0
 IsValueMeant code number bytes (Cstr text) = (code ≡ code_of kinds.Cstr) × (text ≡ bytes)
 IsValueMeant code number bytes (Long n) = (code ≡ code_of kinds.Long) × (n ≡ cast_signed w64 number)
@@ -27,7 +27,7 @@ IsValueMeant code number bytes (Rawt raw) = (code ≡ code_of kinds.Rawt) × (ra
 IsValueMeant code number bytes (Ulng n) = (code ≡ code_of kinds.Ulng) × (n ≡ number)
 IsValueMeant code number bytes (Ullg n) = (code ≡ code_of kinds.Ullg) × (n ≡ number)
 
--- what a value doesn't use is 0 or empty
+-- Whatever a value doesn't use is 0 or empty.
 abbrev pub HasNoMore : ℕ → List ℕ → Value → Type 0
 HasNoMore number bytes (Cstr text) = number ≡ 0
 HasNoMore number bytes (Long n) = bytes ≡ []
@@ -37,7 +37,7 @@ HasNoMore number bytes (Rawt raw) = number ≡ 0
 HasNoMore number bytes (Ulng n) = bytes ≡ []
 HasNoMore number bytes (Ullg n) = bytes ≡ []
 
--- The operation that these mean; each operation uses only some of the parts.
+-- The operation that these values encode. Each operation uses only some of the parts.
 abbrev pub IsMeant : ℕ → ℕ → List ℕ → ℕ → ℕ → List ℕ → Op → Type 0
 IsMeant number node name code value_number bytes New = number ≡ 0
 IsMeant number node name code value_number bytes (Drop n) = (number ≡ 1) × (n ≡ node)
@@ -49,21 +49,23 @@ IsMeant number node name code value_number bytes (MkIndex called kind) = (number
     × (called ≡ name) × (code_of kind ≡ code)
 IsMeant number node name code value_number bytes (RmIndex called) = (number ≡ 5) × (called ≡ name)
 
--- no kind has this type code
+-- No kind has this type code.
 abbrev pub IsNoKind : ℕ → Type 0
 IsNoKind code = (kind : Kind) → code_of kind ≢ code
 
--- why bytes aren't a name: either they aren't UTF-8, or the text isn't a valid name
+-- The reason why bytes aren't a name. Either they aren't valid UTF-8, or the text isn't a valid
+-- name.
 abbrev pub IsNoName : List ℕ → Fault → Type 0
 IsNoName name e = ((e ≡ NotUtf8) × (¬ (IsUtf8 name)))
     ⊎ (IsUtf8 name × (why : Refusal) × (e ≡ Refused why) × (name_from name ≡ Err why))
 
--- why bytes aren't a value's text, for the same reasons
+-- The reason why bytes aren't the text of a value. Either they aren't valid UTF-8, or the text
+-- isn't a valid value.
 abbrev pub IsNoText : List ℕ → Fault → Type 0
 IsNoText bytes e = ((e ≡ NotUtf8) × (¬ (IsUtf8 bytes)))
     ⊎ (IsUtf8 bytes × (why : Refusal) × (e ≡ Refused why) × (text_from bytes ≡ Err why))
 
--- why a number and bytes mean no value of this kind
+-- The reason why a number and bytes don't encode a value of this kind.
 abbrev pub IsNoneOf : Kind → ℕ → List ℕ → Fault → Type 0
 IsNoneOf kinds.Cstr number bytes e = IsNoText bytes e
 IsNoneOf kinds.Long number bytes e = (e ≡ NoValue) × (¬ (FitsSigned w32 (cast_signed w64 number)))
@@ -74,12 +76,13 @@ IsNoneOf kinds.Rawt number bytes e = (why : Refusal) × (e ≡ Refused why)
 IsNoneOf kinds.Ulng number bytes e = (e ≡ NoValue) × (¬ (number < 2 ^ 32))
 IsNoneOf kinds.Ullg number bytes e = ⊥
 
--- why a type code, a number and bytes mean no value
+-- The reason why a type code, a number and bytes don't encode a value.
 abbrev pub IsNoValue : ℕ → ℕ → List ℕ → Fault → Type 0
 IsNoValue code number bytes e = ((e ≡ NoKind) × IsNoKind code)
     ⊎ ((kind : Kind) × (code_of kind ≡ code) × IsNoneOf kind number bytes e)
 
--- Why these mean no operation. The name is tested first, if the operation has one.
+-- The reason why these values don't encode an operation. If the operation has a name, the name is
+-- checked first.
 abbrev pub IsNoOperation : ℕ → List ℕ → ℕ → ℕ → List ℕ → Fault → Type 0
 IsNoOperation number name code value_number bytes e =
     ((e ≡ NoOperation) × (5 < number))

@@ -1,4 +1,4 @@
--- What a session returns of parts of an answer.
+-- What a session returns when it reads parts of an answer.
 use Rattle.std.specs.Prelude.{◌≡◌, ◌⊎◌, ◌≤◌, ℕ, Bool, List, [], Ok, None, Some}
 use Rattle.std.specs.declared.result.Result.{Result}
 use Rattle.be_order.specs.Ordered.{page, page_with}
@@ -15,12 +15,12 @@ use Rattle.be_session.specs.declared.cursors.Cursor.{Cursor}
 use Rattle.be_session.specs.declared.faults.Fault.{Fault}
 use Rattle.be_session.specs.declared.faults.Fault.TheVariants.{BadCursor, NoRoom, Refused}
 
--- the volume has no index of that name; if the bytes aren't a valid name, none can have it
+-- The volume has no index of that name. If the bytes aren't a valid name, no index can have it.
 abbrev pub LacksIndex : State → List ℕ → Type 0
 LacksIndex volume by = ((e : Fault) × IsNoName by e) ⊎ (index_kind volume by ≡ None)
 
--- A page of an answer was read in the order of an index, which has this kind. It starts at a cursor
--- of that kind, which moves to the page's last node, or stays if the page is empty.
+-- A page of an answer was read in the order of an index of this kind. The page starts at a cursor
+-- of that kind, which moves to the last node of the page, or is unchanged if the page is empty.
 pub record IsPageRead (volume : State) (f : Formula) (by : List ℕ) (descending : Bool) (most : ℕ)
     (cursor moved : Cursor) (nodes : List ℕ) (more : Bool) : Type 0 where
   pub wanted : 1 ≤ most
@@ -32,16 +32,16 @@ pub record IsPageRead (volume : State) (f : Formula) (by : List ℕ) (descending
   pub page_is : page volume f by descending (cursor_key cursor) most
       ≡ Ok (page_with nodes (cursor_key moved) more)
 
--- why no page of an index of this kind was read: the cursor is of another kind, the query has an
--- error, or memory ran out
+-- The reason why no page of an index of this kind was read. Either the cursor is of another kind,
+-- or the query has an error, or memory ran out.
 abbrev pub IsNoPageIn : Kind → State → Formula → List ℕ → Bool → ℕ → Cursor → Fault → Type 0
 IsNoPageIn kind volume f by descending most cursor e =
     ((¬ (IsCursorOf kind cursor)) × (e ≡ BadCursor))
     ⊎ (IsCursorOf kind cursor
     × IsUnanswered (page volume f by descending (cursor_key cursor) most) e)
 
--- Why a page couldn't be read: the caller wants no nodes, there is no such index, or no page of
--- that index could be read. The first of these that applies is reported.
+-- The reason why no page could be read. Either the caller wants no nodes, or there is no such
+-- index, or no page of that index could be read. The first reason that applies is reported.
 abbrev pub IsNoPage : State → Formula → List ℕ → Bool → ℕ → Cursor → Fault → Type 0
 IsNoPage volume f by descending most cursor e =
     ((most ≡ 0) × (e ≡ NoRoom))
@@ -49,7 +49,7 @@ IsNoPage volume f by descending most cursor e =
     ⊎ ((1 ≤ most) × (kind : Kind) × (index_kind volume by ≡ Some kind)
     × IsNoPageIn kind volume f by descending most cursor e)
 
--- why a few nodes of an answer weren't read: the caller wants none, the query has an error, or
--- memory ran out
+-- The reason why the nodes of a part of an answer weren't read. Either the caller wants none, or
+-- the query has an error, or memory ran out.
 abbrev pub AreUnread : {Y : Type 0} → Result Y Refusal → ℕ → Fault → Type 0
 AreUnread meant most e = ((most ≡ 0) × (e ≡ NoRoom)) ⊎ ((1 ≤ most) × IsUnanswered meant e)

@@ -1,11 +1,11 @@
--- A prepared query: parsed once and kept, so that it can be asked again.
+-- A prepared query, which is parsed once and kept for repeated use.
 use Rattle.std.specs.Prelude.{◌≡◌, ℕ, List, [], None, refl}
 use Rattle.std.specs.Coded.{Coded, code_by, coded_ℕ, coded_list, coded×}
 use Rattle.be_query.specs.Grammar.{Formula}
 use Rattle.be_store.specs.Live.{LiveQuery, coded_live}
 
--- the query with its answer at the last refresh, the nodes that came and went then, and those that
--- it found when last asked
+-- The query with its answer at the last refresh, the nodes that the refresh added and removed, and
+-- the nodes that it found when it was last run.
 pub record PreparedQuery : Type 0 where
   pub live : LiveQuery
   pub found : List ℕ
@@ -19,12 +19,12 @@ coded_prepared =
     (λ p. (p.live, (p.found, (p.came, p.went))))
     (λ c. record { live = c.0; found = c.1.0; came = c.1.1.0; went = c.1.1.1 }) (λ _. refl)
 
--- this query before it was asked or refreshed: nothing was found, its last answer is empty, and
--- nothing came or went
+-- This query before it was first run or refreshed. Nothing has been found, its last answer is
+-- empty, and no nodes have been added or removed.
 abbrev pub IsUnasked : Formula → PreparedQuery → Type 0
 IsUnasked query p = (p.live ≡ record { query = query; last = []; table = None })
     × (p.found ≡ []) × (p.came ≡ []) × (p.went ≡ [])
 
--- the same query, which found these nodes when it was last asked
+-- The same query after it found these nodes when it was last run.
 abbrev pub with_found : PreparedQuery → List ℕ → PreparedQuery
 with_found p nodes = record p { found = nodes }

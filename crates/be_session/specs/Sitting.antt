@@ -26,7 +26,7 @@ use Rattle.be_session.specs.declared.faults.Fault.{Fault}
 use Rattle.be_session.specs.declared.faults.Fault.TheVariants.{NotPinned, BadCount, NotUtf8}
 use Rattle.be_session.specs.declared.faults.Fault.TheVariants.{Refused}
 
--- the store, what the session's pass knows, and how many unused passes wait with it
+-- The store, what the session's pass knows, and how many unused passes wait with the session.
 pub record Sitting : Type 0 where
   pub store : Opened
   pub knows : Knowledge
@@ -40,19 +40,19 @@ pub record IsOpened (limits : Limits) (s : Sitting) : Type 0 where
   pub count : s.spare + 1 ≡ limits.passes
   pub unused : s.knows ≡ newcomer limits (s.spare + 1) s.spare
 
--- the pass that knows this is pinned
+-- The pass that knows this is pinned.
 abbrev pub IsPinned : Knowledge → Type 0
 IsPinned a = is_some (pinned_number a.phase) ≡ true
 
--- what an unpinned pass of this store knows
+-- What an unpinned pass of this store knows.
 abbrev pub IsUnpinnedAt : Opened → Knowledge → Type 0
 IsUnpinnedAt store a = (a.limits ≡ store.limits) × (pinned_number a.phase ≡ None)
 
--- a pass of this store that isn't pinned
+-- A pass of this store that isn't pinned.
 abbrev pub IsUnpinnedOf : Opened → SeatFacts → Type 0
 IsUnpinnedOf store pass = IsPassOf store pass × (pinned_number pass.knows.phase ≡ None)
 
--- The pass of this seat, which isn't pinned: it may wait in the seat's slot.
+-- The unpinned pass of this seat, which can wait in the slot of the seat.
 abbrev pub MayWaitAt : SeatFacts → SeatFacts → Type 0
 MayWaitAt seat pass =
     (pass.blank ≡ false) × (pass.table ≡ seat.table) × (pass.knows.limits ≡ seat.knows.limits)
@@ -60,19 +60,19 @@ MayWaitAt seat pass =
     × IsBetweenCalls seat.knows.limits.passes pass.knows.phase
     × (pinned_number pass.knows.phase ≡ None)
 
--- these are the seats of all passes of the store, by number
+-- These are the seats of all passes of the store, by number.
 abbrev pub AreAllSeats : Opened → List SeatFacts → Type 0
 AreAllSeats store seats = AreNew store 0 seats × (length seats ≡ store.limits.passes)
 
--- A pass that another session takes knew this. It is the last of those that wait here, which has
--- seen and written nothing; or none waits, and the pass was given back and isn't pinned.
+-- What a pass knew when another session took it. Either it is the last of those that wait here,
+-- which has seen and written nothing, or none waits, and the pass was given back and isn't pinned.
 abbrev pub IsTakenFrom : Sitting → Sitting → Knowledge → Type 0
 IsTakenFrom s t b =
     ((s.spare ≡ t.spare + 1) × (b ≡ newcomer s.store.limits (t.spare + 1) t.spare))
     ⊎ ((s.spare ≡ 0) × (t.spare ≡ 0) × IsUnpinnedAt s.store b)
 
--- Another session's pass knows this. It has met the pass of the session that made it. Both have
--- then seen what either had seen: the longer of two prefixes of one journal.
+-- What the pass of another session knows once it has met the pass of the session that created it.
+-- Both have then seen the longer of two prefixes of one journal.
 abbrev pub IsHandedOut : Sitting → Sitting → Knowledge → Type 0
 IsHandedOut s t c =
     (b : Knowledge) × IsTakenFrom s t b × StartsWith (longer s.knows.seen b.seen) s.knows.seen
@@ -80,9 +80,9 @@ IsHandedOut s t c =
     × (t.knows ≡ met s.knows (longer s.knows.seen b.seen))
     × (c ≡ met b (longer s.knows.seen b.seen))
 
--- A pass has met another unpinned pass of its store. It has then seen what either had seen: the
--- longer of two prefixes of one journal, whose length is n. The moves of both up to then lie in one
--- trace.
+-- A pass has met another unpinned pass of its store. It has then seen the longer of two prefixes of
+-- one journal, and n is the length of that prefix. All moves of the two passes up to then lie in
+-- one trace.
 abbrev pub HasMet : Opened → Knowledge → Knowledge → ℕ → Type 0
 HasMet store a c n =
     (b : Knowledge) × IsUnpinnedAt store b × StartsWith (longer a.seen b.seen) a.seen
@@ -90,54 +90,55 @@ HasMet store a c n =
     × (c ≡ met a (longer a.seen b.seen)) × (n ≡ length (longer a.seen b.seen))
     × HasTrace store.limits (a ∷ b ∷ [])
 
--- A pass and a witness have then seen what either had seen: the longer of two prefixes of one
--- journal, whose length is n.
+-- A pass and a witness have then seen the longer of two prefixes of one journal, and n is the
+-- length of that prefix.
 abbrev pub Joins : Knowledge → List Commit → Knowledge → List Commit → ℕ → Type 0
 Joins a reported c now n =
     StartsWith now a.seen × StartsWith now reported × (now ≡ longer a.seen reported)
     × (c ≡ met a now)
     × (n ≡ length now)
 
--- Why a write did nothing, and what its pass then knows: either the count isn't 1 to 64, or the
--- store refused it.
+-- The reason why a write did nothing, and what its pass then knows. Either the count isn't 1 to 64,
+-- or the store refused the write.
 abbrev pub IsUnwritten : Knowledge → Knowledge → List Op → Fault → Type 0
 IsUnwritten a c ops e =
     ((e ≡ BadCount) × (c ≡ a) × ((length ops ≡ 0) ⊎ (64 < length ops)))
     ⊎ ((why : Refusal) × (e ≡ Refused why) × Learns a c × IsReason a c ops why)
 
--- Why a conditional write did nothing, and what its pass then knows: either the count isn't 1 to
--- 64, or the store returned an error.
+-- The reason why a conditional write did nothing, and what its pass then knows. Either the count
+-- isn't 1 to 64, or the store returned an error.
 abbrev pub IsUnwrittenIf : Knowledge → Knowledge → ℕ → List Op → Fault → Type 0
 IsUnwrittenIf a c number ops e =
     ((e ≡ BadCount) × (c ≡ a) × ((length ops ≡ 0) ⊎ (64 < length ops)))
     ⊎ ((why : ApplyIfError) × (e ≡ fault_of why) × IsUnapplied a c number ops why)
 
--- why a read has no answer: either the model has this error, or memory runs out
+-- The reason why a read returns no answer. Either the model has this error, or memory runs out.
 abbrev pub IsUnanswered : {Y : Type 0} → Result Y Refusal → Fault → Type 0
 IsUnanswered meant e = (why : Refusal) × (e ≡ Refused why) × IsMemory why (meant ≡ Err why)
 
--- a read returned what it should, as `view` shows it, or an error
+-- A read returned the expected answer, as `view` shows it, or an error.
 abbrev pub ReadAnswers : {X Y : Type 0} → (X → Y) → Result X Fault → Result Y Refusal → Type 0
 ReadAnswers view (Ok x) meant = meant ≡ Ok (view x)
 ReadAnswers view (Err e) meant = IsUnanswered meant e
 
--- NotPinned exactly if there is no pin; otherwise this
+-- The result is NotPinned if there is no pin, and otherwise this holds.
 abbrev pub AtPin : {X : Type 0} → Option ℕ → Result X Fault → Type 0 → Type 0
 AtPin None answer reported = answer ≡ Err NotPinned
 AtPin (Some n) answer reported = reported
 
--- why a live query wasn't asked or refreshed: there is no pin, the query has an error at the pin,
--- or memory runs out
+-- The reason why a live query wasn't run or refreshed. Either there is no pin, or the query has an
+-- error at the pin, or memory runs out.
 abbrev pub IsUnrefreshed : Option ℕ → Result (List ℕ) Refusal → Fault → Type 0
 IsUnrefreshed None meant e = e ≡ NotPinned
 IsUnrefreshed (Some n) meant e = IsUnanswered meant e
 
--- why a read returned nothing: either there is no pin, or for this reason
+-- The reason why a read returned nothing. Either there is no pin, or it is this reason.
 abbrev pub IsUnread : Option ℕ → Type 0 → Fault → Type 0
 IsUnread None why e = e ≡ NotPinned
 IsUnread (Some n) why e = why
 
--- why bytes aren't a query's text: they aren't UTF-8, the text has this error, or memory runs out
+-- The reason why bytes aren't the text of a query. Either they aren't valid UTF-8, or the text has
+-- this error, or memory runs out.
 abbrev pub IsNoQuery : List ℕ → Fault → Type 0
 IsNoQuery text e = ((e ≡ NotUtf8) × (¬ (IsUtf8 text)))
     ⊎ ((why : Refusal) × (e ≡ Refused why) × IsMemory why (fault text ≡ Some why))

@@ -1,4 +1,5 @@
-//! Changes through a session's calls: begun, collected, read and ended without a callback.
+//! Changes made through calls of a session, which begin, collect, read and end them without a
+//! callback.
 ghost use Rattle.std.specs.Prelude.{◌≡◌, IfErr, IfOk, false, true};
 ghost use Rattle.be_change.specs.Ending.{Begins, IsNotBegun};
 ghost use Rattle.be_session.specs.Changes.{Abandons, Collects, CollectsMeant, EndsChange};
@@ -15,8 +16,8 @@ use be_change::{Change, CollectError, Ended, Kinds, check_kinds};
 use be_store::{Name, Op, Refusal, Value};
 use std::alloc::{AllocFailed, Global};
 
-/// Collects an operation. Returns the number that its node will have if it makes one, and otherwise
-/// 0.
+/// Collects an operation. If it creates a node, returns the number that the node will have, and
+/// otherwise 0.
 fn collect(change: &mut Change, op: Op) -> Result<u64, CollectError>
     ensures ok { IfOk result (λ node. Collects change.old change.new op node) }
     ensures err { IfErr result (λ e. (change.new ≡ change.old) × IsUncollected change.old op e) }
@@ -46,12 +47,12 @@ fn collect(change: &mut Change, op: Op) -> Result<u64, CollectError>
     }
 }
 
-/// Collects the operation that is encoded here. Returns the number that its node will have if it
-/// makes one, and otherwise 0.
+/// Decodes an operation and collects it. If it creates a node, returns the number that the node
+/// will have, and otherwise 0.
 ///
-/// An error adds nothing. The errors are those of an invalid operation; WrongKind if the change
-/// checks kinds and the index of the name takes another kind; BadCount at the 65th operation; and
-/// OutOfMemory.
+/// An error adds nothing. The errors are those of an invalid operation, `WrongKind` if the change
+/// checks kinds and the index of that name takes another kind, `BadCount` at the 65th operation,
+/// and `OutOfMemory`.
 pub fn collect_operation(
     change: &mut Change,
     encoded: &Operation,
@@ -73,14 +74,15 @@ pub fn collect_operation(
 }
 
 impl Session {
-    /// Writes a batch as a change on the pinned snapshot, all or none, if no other write has come
-    /// since. Returns the commit number; the pin stays. New nodes get the numbers from `next` on.
+    /// Writes a batch as a change on the pinned snapshot, all or none, if no other write has been
+    /// made since. Returns the commit number and leaves the pin in place. New nodes are numbered
+    /// from `next` on.
     ///
-    /// Errors, in this order: BadCount; NotPinned; WrongKind; those of `apply_if` at the snapshot's
-    /// number. WrongKind has the place of the first set whose value isn't of its index's kind; the
-    /// operations before it are taken into account. For the errors of `apply_if`, the place is the
-    /// number that comes with the error. After an error nothing is written. Apart from the write it
-    /// reads the version page for each set.
+    /// Errors are reported in this order: `BadCount`; `NotPinned`; `WrongKind`; the errors of
+    /// `apply_if` at the snapshot's number. `WrongKind` has the place of the first set whose value
+    /// isn't of the kind of its index, with the preceding operations taken into account. For the
+    /// errors of `apply_if`, the place is the number that comes with the error. If the call fails,
+    /// nothing is written. Besides the write, the call reads the version page once for each set.
     pub fn apply_change(&mut self, ops: &[Op]) -> Result<u64, ListFault>
         ensures store { (self.new.store ≡ self.old.store) × (self.new.spare ≡ self.old.spare) }
         ensures ok { IfOk result (λ n. WritesChange self.old.knows self.new.knows ops.now n) }
@@ -101,7 +103,7 @@ impl Session {
         }
     }
 
-    /// Whether the session is pinned to this snapshot.
+    /// Returns whether the session is pinned to this snapshot.
     fn is_pinned_to(&self, number: u64) -> bool
         ensures yes { result ≡ true → IsPinnedTo self.now.knows number }
         ensures no { result ≡ false → ¬ (IsPinnedTo self.now.knows number) }
@@ -112,10 +114,10 @@ impl Session {
         }
     }
 
-    /// Begins a change on the pinned snapshot, which checks kinds. If the session isn't pinned,
-    /// this pins it, and the end of the change unpins it. After OutOfMemory the session is pinned
-    /// or not, as before. It allocates memory for the change and for the list of the snapshot's
-    /// indices.
+    /// Begins a change on the pinned snapshot, with checking of kinds. If the session isn't pinned,
+    /// this call pins it, and the end of the change unpins it. `OutOfMemory` leaves the session
+    /// pinned or unpinned as before. Memory is allocated for the change and for a list of the
+    /// snapshot's indices.
     pub fn begin_change(&mut self, alloc: Global) -> Result<Box<Change, Global>, Fault>
         ensures store { (self.new.store ≡ self.old.store) × (self.new.spare ≡ self.old.spare) }
         ensures ok { IfOk result (λ change. Begins change.value true self.old.knows
@@ -134,8 +136,8 @@ impl Session {
         }
     }
 
-    /// A node's attribute as the change's operations leave it, if it has one. NotPinned if the
-    /// session isn't pinned to the change's snapshot.
+    /// Returns an attribute of a node as the change's operations leave it, or `None` if the node
+    /// doesn't have it. Returns `NotPinned` if the session isn't pinned to the change's snapshot.
     pub fn changed(
         &mut self,
         change: &Change,
@@ -152,13 +154,13 @@ impl Session {
         Ok(change.get(self.shared.store(), &mut self.pass, node, name))
     }
 
-    /// Writes what the change has collected as one transaction, if no other write has come since
-    /// its snapshot. Unpins the session if `begin_change` pinned it. Returns the commit number, or
-    /// the snapshot's number if nothing was collected.
+    /// Writes what the change has collected as one transaction, if no other write has been made
+    /// since its snapshot. Unpins the session if `begin_change` pinned it. Returns the commit
+    /// number, or the snapshot's number if nothing was collected.
     ///
-    /// NotPinned if the session isn't pinned to the change's snapshot; Conflict with the journal's
-    /// length if another write came: begin again; and the store's refusals. After an error nothing
-    /// is written.
+    /// Returns `NotPinned` if the session isn't pinned to the change's snapshot, `Conflict` with
+    /// the journal's length if another write came first, or an error of the store. After a
+    /// `Conflict`, begin the change again. If the call fails, nothing is written.
     pub fn end_change(&mut self, change: Change) -> Result<u64, Fault>
         ensures store { (self.new.store ≡ self.old.store) × (self.new.spare ≡ self.old.spare) }
         ensures ends { EndsChange change self.old.knows self.new.knows result }

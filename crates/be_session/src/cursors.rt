@@ -8,14 +8,14 @@ use crate::Fault;
 use arrayvec::ArrayVec;
 use be_store::Kind;
 
-/// The minimum length of a key: the bytes of its node.
+/// The minimum length of a key, which is the length of its node.
 const MINIMUM: u32 = 8;
 
-/// The maximum length of a key: a text of 255 bytes, a zero byte, and the node.
+/// The maximum length of a key: a string of 255 bytes, a zero byte, and the node.
 const MOST: u32 = 264;
 
-/// A position in the order of an index: the key that a page ended with, at the front of `key`, and
-/// the type code of the index's kind. All zeros mean the beginning.
+/// A position in the order of an index. `key` starts with the key at which a page ended, and `kind`
+/// is the type code of the index's kind. All zeros mean the beginning.
 #[repr(C)]
 #[derive(Clone, Copy)]
 pub struct Cursor {
@@ -25,7 +25,7 @@ pub struct Cursor {
 }
 
 impl Cursor {
-    /// The beginning of every order.
+    /// Returns the beginning of every order.
     pub fn beginning() -> Cursor
         ensures { (result.kind ≡ 0) × (result.length ≡ 0) }
     {
@@ -36,8 +36,9 @@ impl Cursor {
         }
     }
 
-    /// The key after which a page continues in an index of this kind; None at the beginning.
-    /// BadCursor if the cursor is of another kind, or its key doesn't have 8 to 264 bytes.
+    /// Returns the key after which a page continues in an index of this kind, or `None` at the
+    /// beginning. Returns `BadCursor` if the cursor has another kind, or if its key doesn't have 8
+    /// to 264 bytes.
     pub(crate) fn position(&self, kind: Kind) -> Result<Option<ArrayVec<u8, 264>>, Fault>
         ensures ok { IfOk result (λ key. IsCursorOf kind self.now
             × (cursor_bytes key ≡ cursor_key self.now)) }
@@ -56,8 +57,8 @@ impl Cursor {
         Ok(Some(key))
     }
 
-    /// Moves the cursor to the key of a page's last node, in an index of this kind. A page without
-    /// nodes leaves it as it was.
+    /// Moves the cursor to the key of a page's last node in an index of this kind. A page without
+    /// nodes leaves the cursor unchanged.
     pub(crate) fn move_to(&mut self, kind: Kind, key: &Option<ArrayVec<u8, 264>>, nodes: usize)
         requires begins { IsCursorOf kind self.old }
         requires long { IsLong (cursor_bytes key.now) }

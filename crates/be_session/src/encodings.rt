@@ -1,5 +1,5 @@
-//! Attributes, indices and operations as other languages get them: as operations, with the bytes
-//! that contain their parts.
+//! Attributes, indices and operations as they are returned to other languages: as operations, with
+//! the bytes that contain their parts.
 ghost use Rattle.std.specs.Prelude.{◌≡◌, ◌++◌, IfOk, IfErr, IfSome, length, map};
 ghost use Rattle.be_value.specs.declared.refusals.Refusal.TheVariants.{OutOfMemory};
 ghost use Rattle.be_session.specs.Operations.{AreEncoded, IsMeantBy, ArePartsWithin, ReportNodes};
@@ -18,7 +18,8 @@ pub struct Encoding {
     pub bytes: Vec<u8>,
 }
 
-/// Appends bytes, and returns their offset and length. OutOfMemory, also at 4 GiB.
+/// Appends bytes and returns their offset and length. Returns `OutOfMemory` if memory runs out or
+/// at 4 GiB.
 fn append(bytes: &mut Vec<u8>, more: &[u8]) -> Result<(u32, u32), Fault>
     ensures ok { IfOk result (λ r. (r.0 ≡ length bytes.old.items) × (r.1 ≡ length more.now)
         × (bytes.new.items ≡ bytes.old.items ++ more.now)) }
@@ -34,8 +35,8 @@ fn append(bytes: &mut Vec<u8>, more: &[u8]) -> Result<(u32, u32), Fault>
     Ok((at, length))
 }
 
-/// The operation that sets an attribute of a node. Appends its name and its value to the bytes.
-/// OutOfMemory.
+/// Encodes the operation that sets an attribute of a node, and appends its name and value to the
+/// bytes. The only error is `OutOfMemory`.
 fn encode_attribute(
     bytes: &mut Vec<u8>,
     node: u64,
@@ -63,7 +64,8 @@ fn encode_attribute(
     })
 }
 
-/// The operation that makes an index. Appends its name to the bytes. OutOfMemory.
+/// Encodes the operation that creates an index, and appends its name to the bytes. The only error
+/// is `OutOfMemory`.
 fn encode_index(bytes: &mut Vec<u8>, name: &Name, kind: Kind) -> Result<Operation, Fault>
     ensures more { IfOk result (λ o. bytes.new.items ≡ bytes.old.items
         ++ both_parts o bytes.new.items) }
@@ -84,7 +86,8 @@ fn encode_index(bytes: &mut Vec<u8>, name: &Name, kind: Kind) -> Result<Operatio
     })
 }
 
-/// A node's attributes, as the operations that set them, in the list's order. OutOfMemory.
+/// Encodes the attributes of a node as the operations that set them, in list order. The only error
+/// is `OutOfMemory`.
 pub fn encoded_attributes(
     alloc: Global,
     node: u64,
@@ -103,7 +106,8 @@ pub fn encoded_attributes(
     Ok(Encoding { operations, bytes })
 }
 
-/// Indices, as the operations that make them, in the list's order. OutOfMemory.
+/// Encodes indices as the operations that create them, in list order. The only error is
+/// `OutOfMemory`.
 pub fn encoded_indices(alloc: Global, list: &[(Name, Kind)]) -> Result<Encoding, Fault>
     ensures ok { IfOk result (λ s. AreEncoded s.operations.items s.bytes.items
         (map makes list.now)) }
@@ -118,7 +122,8 @@ pub fn encoded_indices(alloc: Global, list: &[(Name, Kind)]) -> Result<Encoding,
     Ok(Encoding { operations, bytes })
 }
 
-/// Encodes an operation. Appends its name and its value to the bytes. OutOfMemory.
+/// Encodes an operation, and appends its name and value to the bytes. The only error is
+/// `OutOfMemory`.
 fn encode(bytes: &mut Vec<u8>, op: &Op) -> Result<Operation, Fault>
     ensures more { IfOk result (λ o. bytes.new.items ≡ bytes.old.items
         ++ both_parts o bytes.new.items) }
@@ -141,7 +146,7 @@ fn encode(bytes: &mut Vec<u8>, op: &Op) -> Result<Operation, Fault>
     })
 }
 
-/// Encodes operations in the list's order. OutOfMemory.
+/// Encodes operations in list order. The only error is `OutOfMemory`.
 pub fn encoded_operations(alloc: Global, list: &[Op]) -> Result<Encoding, Fault>
     ensures ok { IfOk result (λ s. AreEncoded s.operations.items s.bytes.items list.now) }
     ensures err { IfErr result (λ e. e ≡ Refused OutOfMemory) }
@@ -155,8 +160,8 @@ pub fn encoded_operations(alloc: Global, list: &[Op]) -> Result<Encoding, Fault>
     Ok(Encoding { operations, bytes })
 }
 
-/// Encodes an operation of an entry as `encode` does. If it made a node, the encoding has that
-/// node's number.
+/// Encodes an operation of an entry as `encode` does. If the operation created a node, its encoding
+/// has the number of that node.
 fn encode_done(bytes: &mut Vec<u8>, op: &Op, done: Option<&Done>) -> Result<Operation, Fault>
     ensures more { IfOk result (λ o. bytes.new.items ≡ bytes.old.items
         ++ both_parts o bytes.new.items) }
@@ -172,8 +177,8 @@ fn encode_done(bytes: &mut Vec<u8>, op: &Op, done: Option<&Done>) -> Result<Oper
     Ok(operation)
 }
 
-/// Encodes an entry's operations in order. Each one that made a node has that node's number.
-/// OutOfMemory.
+/// Encodes the operations of an entry in order. Each operation that created a node has the number
+/// of that node. The only error is `OutOfMemory`.
 pub fn encoded_entry(alloc: Global, ops: &[Op], dones: &[Done]) -> Result<Encoding, Fault>
     ensures ok { IfOk result (λ s. AreEncoded s.operations.items s.bytes.items ops.now) }
     ensures made { IfOk result (λ s. ReportNodes s.operations.items ops.now dones.now) }

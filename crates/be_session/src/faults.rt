@@ -8,46 +8,47 @@ use be_change::{CollectError, KindMismatch};
 use be_store::{ApplyIfError, Kind, Refusal};
 use std::alloc::{AllocError, AllocFailed};
 
-/// Why a call of a session did nothing. A refused write may have shown the pass more of the
-/// journal.
+/// The reason why a call of a session did nothing. A refused write may still have shown the pass
+/// more of the journal.
 #[derive(Clone, Copy, Debug, PartialEq, Eq)]
 pub enum Fault {
     NotPinned,
     AlreadyPinned,
     /// The store has no unused pass.
     NoPass,
-    /// A write of no operation, or of more than 64.
+    /// A write with no operations, or with more than 64.
     BadCount,
-    /// Bytes that should be a text but aren't UTF-8.
+    /// Bytes that must be text but aren't valid UTF-8.
     NotUtf8,
-    /// A number that means no operation.
+    /// A number that doesn't stand for an operation.
     NoOperation,
-    /// A type code that means no kind.
+    /// A type code that doesn't stand for a kind.
     NoKind,
     /// A number that the kind can't hold.
     NoValue,
     /// A part that isn't within the bytes.
     BadPart,
-    /// A number that means no item of a predicate.
+    /// A number that doesn't stand for an item of a predicate.
     NoItem,
-    /// Another write came first: the journal has this many entries, and not the number that the
-    /// caller named.
+    /// Another write came first: the journal has this many entries, which isn't the number that the
+    /// caller passed.
     Conflict(u64),
     /// Another session of the store is open, so this one can't close the store.
     InUse,
-    /// A cursor of another kind than the index, or one whose key doesn't have 8 to 264 bytes.
+    /// A cursor whose kind isn't that of the index, or whose key doesn't have 8 to 264 bytes.
     BadCursor,
-    /// No room for a single node.
+    /// There is no room for even a single node.
     NoRoom,
-    /// The index of that name takes values of this kind, and the value has another kind.
+    /// The index of that name takes values of this kind, and the value has a different one.
     WrongKind(Kind),
     Refused(Refusal),
 }
 
 impl Fault {
-    /// The number that comes with the error. For a refusal it is the refusal's, such as the pass
-    /// that is writing or the offset of a byte in a text. For a conflict it is the journal's
-    /// length. For a value of the wrong kind it is the type code of the index. Otherwise it is 0.
+    /// Returns the number that comes with the error. For a refusal, this is the refusal's own
+    /// number, such as the pass that is writing or the offset of a byte in a text. For a conflict,
+    /// it is the journal's length, and for a value of the wrong kind, the type code of the index.
+    /// Otherwise it is 0.
     pub fn carried(&self) -> u64
         ensures { result ≡ fault_carried self.now }
     {
@@ -59,7 +60,7 @@ impl Fault {
         }
     }
 
-    /// The number by which other languages know the error. It is never 0.
+    /// Returns the number that identifies the error in other languages. It is never 0.
     pub fn code(&self) -> u32
         ensures { result ≡ fault_code self.now }
     {
@@ -84,12 +85,12 @@ impl Fault {
     }
 }
 
-/// Why a list of operations or items is invalid.
+/// The reason why a list of operations or items is invalid.
 #[derive(Clone, Copy, Debug, PartialEq, Eq)]
 pub struct ListFault {
     pub fault: Fault,
-    /// The index of the invalid item in the list, from 0. If the list is invalid as a whole, this
-    /// is the number that comes with the error, or 0.
+    /// The index of the invalid item in the list, counting from 0. If the list as a whole is
+    /// invalid, this is the number that comes with the error, or 0.
     pub place: u64,
 }
 

@@ -1,4 +1,4 @@
-//! Names that are checked once and kept, and how many cells a call may return.
+//! Names that are checked once and kept, and the limit on the cells that a call can return.
 ghost use Rattle.std.specs.Prelude.{◌≡◌, ◌*◌, ◌^◌, ◌<◌, ◌≤◌, true, false, IfErr, IfOk, Ok, IsUtf8};
 ghost use Rattle.be_paged_reading.specs.Cells.{name_in};
 ghost use Rattle.be_session.specs.Meaning.{IsNoName};
@@ -8,10 +8,10 @@ use crate::Fault;
 use crate::meanings::name;
 use be_store::HeldName;
 
-/// One call returns up to 2^32 cells.
+/// One call returns at most 2^32 cells.
 const MOST_CELLS: usize = 1 << 32;
 
-/// These bytes as a name, checked once and kept.
+/// Checks that these bytes are a valid name, and returns them as a name that can be kept.
 pub fn held_name(bytes: &[u8]) -> Result<HeldName, Fault>
     ensures ok { IfOk result (λ held. (name_in held ≡ bytes.now) × IsUtf8 bytes.now
         × (name_from bytes.now ≡ Ok bytes.now)) }
@@ -20,7 +20,7 @@ pub fn held_name(bytes: &[u8]) -> Result<HeldName, Fault>
     Ok(HeldName::new(&name(bytes)?))
 }
 
-/// Whether one call may return this many cells.
+/// Returns whether one call can return this many cells.
 pub(crate) fn are_few(nodes: usize, names: usize) -> bool
     ensures few { result ≡ true → nodes * names ≤ 2 ^ 32 }
     ensures many { result ≡ false → 2 ^ 32 < nodes * names }

@@ -1,4 +1,4 @@
-//! Predicates in reverse Polish order, as other languages encode them.
+//! Predicates in reverse Polish notation, as other languages encode them.
 ghost use Rattle.std.specs.Prelude.{◌≡◌, ◌<◌, ℕ, List, IfOk, IfErr, map};
 ghost use Rattle.be_query.specs.Rpn.{item_of};
 ghost use Rattle.be_session.specs.Items.{AreItemsMeant, AreItemsInvalid, IsBuilt, IsItemMeant};
@@ -12,20 +12,21 @@ use crate::{Fault, ListFault};
 use be_store::{Item, Query, from_rpn};
 use std::alloc::Global;
 
-/// A predicate's item as C encodes it. Its bytes are a part of one byte string for all items.
+/// An item of a predicate as C encodes it. Its bytes are a part of one byte string that is shared
+/// by all items.
 #[repr(C)]
 #[derive(Clone, Copy)]
 pub struct PredicateItem {
-    /// 0 is an attribute and 1 a text, by their bytes; 2 is a signed number and 3 an unsigned one.
-    /// 4 to 9 compare with ==, !=, <, <=, > and >=. 10 to 12 ask whether the attribute contains the
-    /// text, begins with it or ends with it. 13 is and, 14 or, 15 not.
+    /// 0 is an attribute and 1 a string, given by their bytes; 2 is a signed number and 3 an
+    /// unsigned one. 4 to 9 compare with ==, !=, <, <=, > and >=. 10 to 12 test whether the
+    /// attribute contains, begins with or ends with the string. 13 is and, 14 is or, and 15 is not.
     pub kind: u32,
     pub at: u32,
     pub length: u32,
     pub number: u64,
 }
 
-/// An item that is an operator on the items before it.
+/// Returns the item for an operator, which acts on the items before it.
 fn working_item(kind: u32) -> Result<Item, Fault>
     requires { 3 < kind }
     ensures ok { IfOk result (λ item. (number : ℕ) (bytes : List ℕ)
@@ -73,7 +74,7 @@ fn one_item(alloc: Global, encoded: &PredicateItem, bytes: &[u8]) -> Result<Item
     }
 }
 
-/// The place that is reported with an error of the item at this place.
+/// Returns the place to report for an error in this item, or 0 if memory ran out.
 fn reported(fault: &Fault, place: usize) -> u64
     ensures { result ≡ item_reported fault.now place }
 {
@@ -83,8 +84,8 @@ fn reported(fault: &Fault, place: usize) -> u64
     place as u64
 }
 
-/// The items that are encoded here. An error says that an item's part isn't within the bytes, or
-/// that it is no valid item.
+/// Decodes a list of items. Returns an error if the part of an item isn't within the bytes, or if
+/// an item is invalid.
 fn items(alloc: Global, encoded: &[PredicateItem], bytes: &[u8]) -> Result<Vec<Item>, ListFault>
     ensures ok { IfOk result (λ items. AreItemsMeant encoded.now bytes.now
         (map item_of items.items)) }
@@ -103,8 +104,9 @@ fn items(alloc: Global, encoded: &[PredicateItem], bytes: &[u8]) -> Result<Vec<I
     Ok(items)
 }
 
-/// The query that items in reverse Polish order build. The first invalid item determines the error
-/// and its place. Otherwise an error is that of `be_query::from_rpn`, with the item that it names.
+/// Builds a query from items in reverse Polish notation. If an item is invalid, returns the error
+/// and the place of the first such item. Otherwise returns the errors of `be_query::from_rpn`, with
+/// the item that it names.
 pub fn query_of_items(
     alloc: Global,
     encoded: &[PredicateItem],

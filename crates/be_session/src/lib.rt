@@ -1,10 +1,10 @@
-//! A pass with its share of the store: what one user outside Rattle holds.
+//! A pass together with a share of its store: what one user outside Rattle holds.
 //!
-//! A session checks for itself what the store's calls require of their callers, so each of its
-//! calls may be made at any time. Two requirements are not checked. The witness for `join` has to
-//! be of this store, and before `refresh_changed` the query's last refresh has to be in this store.
-//! A session may move to another thread between two calls. The store is freed with its last
-//! session.
+//! A session itself checks the requirements that the store's calls make of their callers, so any of
+//! its calls can be made at any time. Two requirements are not checked: the witness that is passed
+//! to `join` must be of this store, and before `refresh_changed`, the last refresh of the query
+//! must have been in this store. A session can be moved to another thread between calls. The store
+//! is freed together with its last session.
 #![tactic(auto)]
 
 mod changing;

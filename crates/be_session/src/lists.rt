@@ -9,12 +9,12 @@ use crate::{Fault, ListFault};
 use be_store::Op;
 use std::alloc::Global;
 
-/// An operation as C encodes it. Its name and its value's bytes are parts of one byte string for
-/// all operations of a write.
+/// An operation as C encodes it. Its name and the bytes of its value are parts of one byte string
+/// that is shared by all operations of a write.
 #[repr(C)]
 #[derive(Clone, Copy)]
 pub struct Operation {
-    /// 0 makes a node, 1 removes it, 2 sets an attribute and 3 removes it, 4 makes an index and 5
+    /// 0 creates a node, 1 removes it, 2 sets an attribute, 3 removes it, 4 creates an index, and 5
     /// removes it.
     pub kind: u32,
     /// The type code of the value or the index.
@@ -28,7 +28,7 @@ pub struct Operation {
     pub value_length: u32,
 }
 
-/// A part of the bytes, if it lies within them.
+/// Returns a part of the bytes, or `None` if it doesn't lie within them.
 pub(crate) fn part(bytes: &[u8], at: u32, len: u32) -> Option<&[u8]>
     ensures some { IfSome result (λ found. (at + len ≤ length bytes.now)
         × (found.now ≡ part bytes.now at len)) }
@@ -42,8 +42,8 @@ pub(crate) fn part(bytes: &[u8], at: u32, len: u32) -> Option<&[u8]>
     Some(&bytes[start..end])
 }
 
-/// The operation that is encoded here. BadPart if a part isn't within the bytes; otherwise the
-/// error of `operation`.
+/// Decodes one operation. Returns `BadPart` if a part isn't within the bytes, and otherwise the
+/// result of `operation`.
 pub(crate) fn one(encoded: &Operation, bytes: &[u8]) -> Result<Op, Fault>
     ensures ok { IfOk result (λ op. ArePartsWithin encoded.now (length bytes.now)
         × IsMeantBy encoded.now bytes.now op) }
@@ -65,9 +65,9 @@ pub(crate) fn one(encoded: &Operation, bytes: &[u8]) -> Result<Op, Fault>
     )
 }
 
-/// The 1 to 64 operations that are encoded here, in order. BadCount if there are none or more than
-/// 64: then it allocates no memory and reads nothing. Otherwise an error is that of the first
-/// invalid operation, with its place, or OutOfMemory.
+/// Decodes a list of 1 to 64 operations in order. Returns `BadCount`, without allocating memory or
+/// reading anything, if there are none or more than 64. Otherwise returns the error and the index
+/// of the first invalid operation, or `OutOfMemory`.
 pub fn operations(alloc: Global, encoded: &[Operation], bytes: &[u8]) -> Result<Vec<Op>, ListFault>
     ensures count { IfOk result (λ _. IsWriteCount (length encoded.now)) }
     ensures ok { IfOk result (λ ops. AreMeant encoded.now bytes.now ops.items) }

@@ -1,4 +1,4 @@
-//! Operations and values as other languages encode them: numbers and bytes.
+//! Operations and values as other languages encode them, in numbers and bytes.
 ghost use Rattle.std.specs.Int.{cast_signed, w32, w64};
 ghost use Rattle.std.specs.Int.RustNames.{FitsSigned};
 ghost use Rattle.std.specs.Prelude.{◌≡◌, ◌≢◌, ◌<◌, ◌^◌, Ok, IfOk, IfErr, IfSome, IfNone, IsUtf8};
@@ -12,7 +12,7 @@ ghost use Rattle.be_session.specs.declared.faults.Fault.TheVariants.{NotUtf8, No
 use crate::Fault;
 use be_store::{Kind, Name, Op, Value};
 
-/// The kind with this type code.
+/// Returns the kind with this type code.
 pub(crate) fn kind_of_code(code: u32) -> Option<Kind>
     ensures found { IfSome result (λ kind. code_of kind ≡ code) }
     ensures none { IfNone result ((kind : AnyKind) → code_of kind ≢ code) }
@@ -49,7 +49,7 @@ pub(crate) fn text(bytes: &[u8]) -> Result<&str, Fault>
     }
 }
 
-/// These bytes as a name.
+/// Returns these bytes as a name.
 pub fn name(bytes: &[u8]) -> Result<Name, Fault>
     ensures ok { IfOk result (λ name. (name ≡ bytes.now) × IsUtf8 bytes.now) }
     ensures named { IfOk result (λ name. name_from bytes.now ≡ Ok bytes.now) }
@@ -82,7 +82,7 @@ fn uint32(number: u64) -> Result<Value, Fault>
     }
 }
 
-/// The value that a type code, a number and bytes mean. If the kind doesn't use the number or the
+/// Decodes a value from a type code, a number and bytes. If the kind doesn't use the number or the
 /// bytes, they are ignored.
 pub(crate) fn value(code: u32, number: u64, bytes: &[u8]) -> Result<Value, Fault>
     ensures ok { IfOk result (λ value. IsValueMeant code number bytes.now value) }
@@ -99,8 +99,8 @@ pub(crate) fn value(code: u32, number: u64, bytes: &[u8]) -> Result<Value, Fault
     }
 }
 
-/// The type code, the number and the bytes that encode this value. The number is 0 for a text or
-/// raw bytes, and there are no bytes for a number.
+/// Encodes a value as a type code, a number and bytes. The number is 0 for strings and raw bytes,
+/// and the bytes are empty for numbers.
 pub fn encoded(value: &Value) -> (u32, u64, &[u8])
     ensures meant { IsValueMeant result.0 result.1 result.2.now value.now }
     ensures no_more { HasNoMore result.1 result.2.now value.now }
@@ -116,8 +116,9 @@ pub fn encoded(value: &Value) -> (u32, u64, &[u8])
     }
 }
 
-/// The operation with this number: 0 makes a node, 1 removes it, 2 sets an attribute and 3 removes
-/// it, 4 makes an index and 5 removes it. Parts that the operation doesn't use are ignored.
+/// Decodes the operation with this number: 0 creates a node, 1 removes it, 2 sets an attribute, 3
+/// removes it, 4 creates an index, and 5 removes it. Parts that the operation doesn't use are
+/// ignored.
 pub(crate) fn operation(
     number: u32,
     node: u64,
@@ -142,9 +143,9 @@ pub(crate) fn operation(
     }
 }
 
-/// The number, the node and the name that encode this operation, and the type code, the number and
-/// the bytes of its value. These are the parts that `operation` takes; a part that the operation
-/// doesn't use is 0 or empty.
+/// Encodes an operation as its number, its node, its name, and the type code, number and bytes of
+/// its value. These are the parts that `operation` takes. Parts that the operation doesn't use are
+/// 0 or empty.
 pub(crate) fn encoded_operation(op: &Op) -> (u32, u64, &[u8], (u32, u64, &[u8]))
     ensures { IsMeant result.0 result.1 result.2.now result.3.0 result.3.1 result.3.2.now op.now }
 {

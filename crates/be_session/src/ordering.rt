@@ -1,4 +1,4 @@
-//! Parts of a live query's answer, at the session's pin.
+//! Calls that read parts of a live query's answer, or refresh the query from what was written.
 ghost use Rattle.std.specs.Prelude.{◌≡◌, ◌≤◌, ℕ, [], IfErr, IfOk, Ok, OnErr, OnOk, Some};
 ghost use Rattle.be_order.specs.Firsts.{IsAnyOf, from_number};
 ghost use Rattle.be_order.specs.Ordered.{cursor_bytes, page, page_with};
@@ -21,8 +21,8 @@ use crate::{Cursor, Fault, Session};
 use arrayvec::ArrayVec;
 use be_store::{HeldName, Kind, Live, Name, Order, Refusal, Updates};
 
-/// An order as other languages name it: the checked name of an index, whether it is ascending or
-/// exactly the reverse, and how many nodes are wanted at most.
+/// An order as other languages name it: the checked name of an index, whether the order is
+/// ascending or exactly the reverse, and the maximum number of nodes to return.
 #[derive(Clone, Copy)]
 pub struct HeldOrder<'a> {
     pub by: &'a HeldName,
@@ -30,7 +30,8 @@ pub struct HeldOrder<'a> {
     pub most: usize,
 }
 
-/// The name that is held. NoSuchIndex if the bytes aren't a name, because then no index has it.
+/// Returns the name that is held. Returns `NoSuchIndex` if the bytes aren't a name, because then no
+/// index can have it.
 fn index_name(held: &HeldName) -> Result<Name, Fault>
     ensures ok { IfOk result (λ name. name ≡ name_in held.now) }
     ensures err { IfErr result (λ e. (e ≡ Refused NoSuchIndex)
@@ -44,8 +45,7 @@ fn index_name(held: &HeldName) -> Result<Name, Fault>
 }
 
 impl Session {
-    /// A page of an answer, after a key. After an error the key is as it was, and the list is
-    /// empty.
+    /// Finds a page of an answer after a key. An error leaves the key unchanged and the list empty.
     fn page_after(
         &mut self,
         live: &mut Live,
@@ -75,8 +75,8 @@ impl Session {
         Ok(more)
     }
 
-    /// A page of an answer in the order of an index of this kind, after a cursor of that kind.
-    /// After an error the cursor is as it was, and the list is empty.
+    /// Finds a page of an answer in the order of an index of this kind, after a cursor of that
+    /// kind. An error leaves the cursor unchanged and the list empty.
     fn page_by(
         &mut self,
         live: &mut Live,
@@ -105,12 +105,13 @@ impl Session {
         Ok(more)
     }
 
-    /// Replaces a list's content with a page of a live query's answer, in the order of an index.
-    /// Moves the cursor to the page's last node, and returns whether there are more.
+    /// Replaces the contents of a list with one page of a live query's answer in the order of an
+    /// index. Moves the cursor to the last node of the page, and returns whether more pages follow.
     ///
-    /// Errors, in this order: NotPinned; NoRoom if no node is wanted; NoSuchIndex; BadCursor; and
-    /// those of the query. It is BadCursor if the cursor is of another kind than the index, or its
-    /// key doesn't have 8 to 264 bytes. Errors leave the cursor as it was, and the list is empty.
+    /// Errors are reported in this order: `NotPinned`; `NoRoom` if no node is wanted;
+    /// `NoSuchIndex`; `BadCursor`; the query's errors. `BadCursor` means that the kind of the
+    /// cursor isn't that of the index, or that its key doesn't have 8 to 264 bytes. An error leaves
+    /// the cursor unchanged and the list empty.
     pub fn ordered(
         &mut self,
         live: &mut Live,
@@ -149,9 +150,9 @@ impl Session {
         self.page_by(live, kind, wanted, cursor, nodes)
     }
 
-    /// Replaces a list's content with up to `most` nodes of a live query's answer, from the number
-    /// `first` on, in ascending order. NotPinned; NoRoom if no node is wanted; and the query's
-    /// errors. After an error the list is empty.
+    /// Replaces the contents of a list with up to `most` nodes of a live query's answer in
+    /// ascending order, starting at the number `first`. Returns `NotPinned`, `NoRoom` if no node is
+    /// wanted, or an error of the query. After an error, the list is empty.
     pub fn first(
         &mut self,
         live: &mut Live,
@@ -187,9 +188,9 @@ impl Session {
         }
     }
 
-    /// Replaces a list's content with any nodes of a live query's answer, none of them twice:
-    /// `most` of them, or all if there are fewer. NotPinned; NoRoom if no node is wanted; and the
-    /// query's errors. After an error the list is empty.
+    /// Replaces the contents of a list with arbitrary nodes of a live query's answer, without
+    /// duplicates: `most` nodes, or all if the answer has fewer. Returns `NotPinned`, `NoRoom` if
+    /// no node is wanted, or an error of the query. After an error, the list is empty.
     pub fn any(&mut self, live: &mut Live, most: usize, nodes: &mut Vec<u64>) -> Result<(), Fault>
         ensures store { (self.new.store ≡ self.old.store) × (self.new.spare ≡ self.old.spare) }
         ensures read { HasRead self.old.knows self.new.knows }
@@ -218,11 +219,12 @@ impl Session {
         }
     }
 
-    /// Returns what `refresh` returns, based on what was written since the last refresh, as the
-    /// live query's `refresh_changed` does. It makes a lock and an unlock, or no move. An error
-    /// leaves the live query as it was.
+    /// Returns what `refresh` returns, but computes it from what was written since the last
+    /// refresh, as the live query's `refresh_changed` does. Makes either no move, or a lock and an
+    /// unlock. An error leaves the live query unchanged.
     ///
-    /// As with `join`, the caller has to know that the last refresh was in this store.
+    /// As with `join`, one requirement is not checked: the last refresh must have been in this
+    /// store.
     pub fn refresh_changed(&mut self, live: &mut Live) -> Result<Updates, Fault>
         requires own { IsLiveOf self.old.store live.old }
         ensures store { (self.new.store ≡ self.old.store) × (self.new.spare ≡ self.old.spare) }

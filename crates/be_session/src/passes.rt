@@ -1,4 +1,5 @@
-//! Passes of a store that nobody has used yet: those with the lowest numbers, in order.
+//! Passes of a store that have never been used, which are the ones with the lowest numbers, in
+//! order.
 ghost use Rattle.std.specs.Prelude.{◌≡◌, ◌<◌, ◌+◌, ◌↔◌, IfSome, IsSome, MatchOption, vec_capacity};
 ghost use Rattle.std.specs.Prelude.{vec_len};
 ghost use Rattle.be_table.specs.Rule.{newcomer};

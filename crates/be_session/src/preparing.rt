@@ -1,4 +1,4 @@
-//! Queries that are parsed once and kept, so that they can be asked again.
+//! Queries that are parsed once and kept for repeated use.
 ghost use Rattle.std.specs.Prelude.{◌≡◌, ◌≤◌, ℕ, [], Ok, IfOk, IfErr, OnErr, OnOk, string_bytes};
 ghost use Rattle.be_value.specs.declared.refusals.Refusal.TheVariants.{OutOfMemory};
 ghost use Rattle.be_query.specs.Grammar.{Formula, IsTextOf};
@@ -23,9 +23,9 @@ use be_store::{Live, Query, Updates};
 use std::alloc::{AllocError, Global};
 use std::marker::Model;
 
-/// A query that is parsed once and kept. It has what it found when it was last asked, its answer at
-/// the last refresh, and which nodes came and went then. It belongs to no session, and any session
-/// may ask it.
+/// A query that is parsed once and kept. It holds the nodes that it last found, its answer at the
+/// last refresh, and which nodes that refresh added and removed. It belongs to no session, and any
+/// session can run it.
 #[derive(Drop)]
 pub struct Prepared {
     live: Live,
@@ -49,12 +49,12 @@ impl Model for Prepared {
 }
 
 impl Prepared {
-    /// Asks the query in the session's pinned version, and keeps the nodes that match it there
-    /// instead of what it found before. After an error it keeps none. The last refresh's answer
-    /// stays.
+    /// Runs the query in the session's pinned version, and keeps the matching nodes in place of
+    /// those that it found before. After an error, it keeps none. The answer of the last refresh is
+    /// unchanged.
     ///
-    /// It costs what `Store::query_prepared` costs. It reuses the list of the previous call, so it
-    /// allocates memory only if that list is too small.
+    /// The cost is that of `Store::query_prepared`. The call reuses the list of the previous call,
+    /// so it allocates memory only if that list is too small.
     #[tactic(auto, using(crate::proofs::Same::same_but_found))]
     pub fn find(&mut self, session: &mut Session) -> Result<(), Fault>
         ensures store { (session.new.store ≡ session.old.store)
@@ -71,10 +71,10 @@ impl Prepared {
         session.query_into(&mut self.live, &mut self.found)
     }
 
-    /// Asks the query in the session's pinned version for a page in the order of an index. Keeps
-    /// the page's nodes instead of what was found before, and returns whether there are more.
-    /// Errors are those of `Session::ordered`: they leave the cursor as it was, and no node is
-    /// kept.
+    /// Finds a page of the answer in the session's pinned version, in the order of an index. Keeps
+    /// the nodes of the page in place of those found before, and returns whether more pages follow.
+    /// The errors are those of `Session::ordered`. They leave the cursor unchanged, and no nodes
+    /// are kept.
     #[tactic(auto, using(crate::proofs::Same::same_but_found))]
     pub fn find_ordered(
         &mut self,
@@ -98,8 +98,8 @@ impl Prepared {
         session.ordered(&mut self.live, order, cursor, &mut self.found)
     }
 
-    /// Asks the query in the session's pinned version for up to `most` nodes from a number on.
-    /// Keeps these instead of what was found before. After an error none is kept.
+    /// Finds up to `most` nodes of the answer in the session's pinned version, starting at a given
+    /// number, and keeps them in place of those found before. After an error, none are kept.
     #[tactic(auto, using(crate::proofs::Same::same_but_found))]
     pub fn find_first(
         &mut self,
@@ -123,8 +123,8 @@ impl Prepared {
         session.first(&mut self.live, first, most, &mut self.found)
     }
 
-    /// Asks the query in the session's pinned version for any `most` of its nodes. Keeps these
-    /// instead of what was found before. After an error none is kept.
+    /// Finds up to `most` arbitrary nodes of the answer in the session's pinned version, and keeps
+    /// them in place of those found before. After an error, none are kept.
     #[tactic(auto, using(crate::proofs::Same::same_but_found))]
     pub fn find_any(&mut self, session: &mut Session, most: usize) -> Result<(), Fault>
         ensures store { (session.new.store ≡ session.old.store)
@@ -142,16 +142,16 @@ impl Prepared {
         session.any(&mut self.live, most, &mut self.found)
     }
 
-    /// The nodes that the last call found, in the order in which it found them. There are none
-    /// before the first call, or after an error.
+    /// Returns the nodes that the last call found, in the order in which it found them. There are
+    /// none before the first call or after an error.
     pub fn found(&self) -> &[u64]
         ensures { result.now ≡ self.now.found }
     {
         self.found.as_slice()
     }
 
-    /// Asks the query in the session's pinned version, and keeps which nodes came and which went
-    /// since the last refresh. An error leaves everything as it was.
+    /// Runs the query in the session's pinned version, and keeps which nodes were added and removed
+    /// since the last refresh. An error leaves everything unchanged.
     #[tactic(auto, using(crate::proofs::Same::same_prepared))]
     pub fn refresh(&mut self, session: &mut Session) -> Result<(), Fault>
         ensures store { (session.new.store ≡ session.old.store)
@@ -173,8 +173,8 @@ impl Prepared {
         }
     }
 
-    /// Does what `refresh` does, based on what was written since the last refresh, which has to be
-    /// one in the session's store. An error leaves everything as it was.
+    /// Does what `refresh` does, but computes the result from what was written since the last
+    /// refresh, which must have been in the session's store. An error leaves everything unchanged.
     #[tactic(auto, using(crate::proofs::Same::same_prepared))]
     pub fn refresh_changed(&mut self, session: &mut Session) -> Result<(), Fault>
         requires own { IsLiveOf session.old.store self.old.live }
@@ -195,7 +195,7 @@ impl Prepared {
         Ok(())
     }
 
-    /// The canonical text of the query. OutOfMemory.
+    /// Returns the canonical text of the query. The only error is `OutOfMemory`.
     pub fn text(&self, alloc: Global) -> Result<String, Fault>
         ensures ok { IfOk result (λ text. string_bytes text ≡ or_text self.now.live.query) }
         ensures err { IfErr result (λ e. e ≡ Refused OutOfMemory) }
@@ -203,14 +203,14 @@ impl Prepared {
         Ok(print(alloc, self.live.query())?)
     }
 
-    /// The nodes that came at the last refresh, in ascending order.
+    /// Returns the nodes that the last refresh added, in ascending order.
     pub fn created(&self) -> &[u64]
         ensures { result.now ≡ self.now.came }
     {
         self.updates.created.as_slice()
     }
 
-    /// The nodes that went at the last refresh, in ascending order.
+    /// Returns the nodes that the last refresh removed, in ascending order.
     pub fn removed(&self) -> &[u64]
         ensures { result.now ≡ self.now.went }
     {
@@ -218,7 +218,7 @@ impl Prepared {
     }
 }
 
-/// A query that was never asked or refreshed, in a box.
+/// Creates a boxed query that has never been run or refreshed.
 fn in_box(alloc: Global, query: Query) -> Result<Box<Prepared, Global>, AllocError>
     ensures { IfOk result (λ p. IsUnasked query p.value) }
 {
@@ -236,7 +236,7 @@ fn in_box(alloc: Global, query: Query) -> Result<Box<Prepared, Global>, AllocErr
     }
 }
 
-/// The query whose text these bytes are, in a box. Errors are those of `query_of`.
+/// Parses a query from its text and returns it in a box. The errors are those of `query_of`.
 pub fn prepare(alloc: Global, text: &[u8]) -> Result<Box<Prepared, Global>, Fault>
     ensures ok { IfOk result (λ p. (query : Formula) × IsTextOf text.now query
         × IsUnasked query p.value) }
@@ -246,8 +246,8 @@ pub fn prepare(alloc: Global, text: &[u8]) -> Result<Box<Prepared, Global>, Faul
     Ok(in_box(alloc, query)?)
 }
 
-/// The query that items in reverse Polish order build, in a box. Errors are those of
-/// `query_of_items`.
+/// Builds a query from items in reverse Polish notation and returns it in a box. The errors are
+/// those of `query_of_items`.
 pub fn prepare_items(
     alloc: Global,
     encoded: &[PredicateItem],

@@ -1,4 +1,4 @@
-//! `Session`: a pass with its share of the store, and its calls.
+//! `Session`, a pass together with a share of its store, and its calls.
 ghost use Rattle.std.specs.Prelude.{◌≡◌, ◌⊎◌, ◌≤◌, ◌<◌, ◌+◌, ◌*◌, ◌^◌, ℕ, [], None, Ok, IsOk, IfOk};
 ghost use Rattle.std.specs.Prelude.{IfErr, OnErr, OnOk, false, is_some, length, map as each};
 ghost use Rattle.std.specs.Prelude.{string_bytes, true, vec_len};
@@ -45,14 +45,14 @@ use std::alloc::{AllocFailed, Global};
 use std::marker::Model;
 use std::sync::Arc;
 
-/// A pass, with its store and the unused passes that wait for a session of their own.
+/// A pass, together with its store and the unused passes that wait for sessions of their own.
 #[derive(Drop)]
 pub struct Session {
     pub(crate) shared: Arc<Shared, Global>,
     pub(crate) pass: Pass,
     spare: Vec<Pass>,
-    /// A list for the outcomes of a change. Clearing a new list for each change would take longer
-    /// than checking the kinds of its values.
+    /// A reusable list for the outcomes of a change. Clearing a new list for each change would take
+    /// longer than checking the kinds of the values.
     pub(crate) outcomes: ArrayVec<Done, 64>,
 }
 
@@ -75,7 +75,7 @@ impl Model for Session {
         × AreNew s.shared.value 0 s.spare.items };
 }
 
-/// The first session of a new store, with the store's other passes.
+/// Creates the first session of a new store, which also holds the other passes of the store.
 fn seated(
     alloc: Global,
     limits: Limits,
@@ -102,8 +102,8 @@ fn seated(
     }
 }
 
-/// Takes the pass out of a session. The session's share of the store and the passes that wait with
-/// it are dropped.
+/// Takes the pass out of a session. The session's share of the store and its waiting passes are
+/// dropped.
 fn pass_of(session: Session) -> Pass
     ensures pass { IsPassOf session.store result }
     ensures knows { result.knows ≡ session.knows }
@@ -117,8 +117,8 @@ fn pass_of(session: Session) -> Pass
     pass
 }
 
-/// A session with a pass, in a box; no other pass waits with it. If memory runs out, the error
-/// returns the session.
+/// Creates a boxed session for a pass, with no waiting passes. If memory runs out, the session is
+/// returned as the error.
 fn in_box(
     alloc: Global,
     shared: Arc<Shared, Global>,
@@ -141,8 +141,8 @@ fn in_box(
     }
 }
 
-/// A session with a pass that was given back, in a box. NoPass if there is none; OutOfMemory, which
-/// gives the pass back again.
+/// Creates a boxed session for a pass that was given back. Returns `NoPass` if there is none, or
+/// `OutOfMemory`, in which case the pass is given back again.
 fn of_returned(alloc: Global, shared: Arc<Shared, Global>) -> Result<Box<Session, Global>, Fault>
     ensures session { IfOk result (λ s. (s.value.store ≡ shared.value) × (s.value.spare ≡ 0)) }
     ensures pass { IfOk result (λ s. IsUnpinnedAt shared.value s.value.knows) }
@@ -160,7 +160,8 @@ fn of_returned(alloc: Global, shared: Arc<Shared, Global>) -> Result<Box<Session
     }
 }
 
-/// The session made of these parts, with the reason why it can't close its store.
+/// Puts a session back together from its parts, and returns it with the reason why it can't close
+/// its store.
 fn kept(shared: Arc<Shared, Global>, pass: Pass, spare: Vec<Pass>, fault: Fault) -> Unfinished
     requires pass { IsPassOf shared.value pass }
     requires spare { AreNew shared.value 0 spare.items }
@@ -180,7 +181,7 @@ fn kept(shared: Arc<Shared, Global>, pass: Pass, spare: Vec<Pass>, fault: Fault)
     Unfinished::Kept(session, fault)
 }
 
-/// Whether a write may have this many operations: 1 to 64.
+/// Returns whether a write can have this many operations, which is 1 to 64.
 pub(crate) fn is_batch(ops: &[Op]) -> bool
     ensures is { result ≡ true → (1 ≤ length ops.now) × (length ops.now ≤ 64) }
     ensures not { result ≡ false → (length ops.now ≡ 0) ⊎ (64 < length ops.now) }
@@ -189,11 +190,11 @@ pub(crate) fn is_batch(ops: &[Op]) -> bool
 }
 
 impl Session {
-    /// A new store, and a session with the last of its passes, which has seen nothing. The other
-    /// passes wait with the session.
+    /// Opens a new store, and returns a session with the last of its passes, which has seen nothing
+    /// yet. The other passes wait with the session.
     ///
-    /// BadLimits exactly if a limit is out of range; OutOfMemory. It allocates all pages, 4 KiB
-    /// each.
+    /// Returns `BadLimits` if a limit is out of range, and only then, or `OutOfMemory`. The call
+    /// allocates all pages, 4 KiB each.
     pub fn open(alloc: Global, limits: Limits) -> Result<Session, Fault>
         ensures ok { IfOk result (λ s. IsOpened limits s) }
         ensures err { IfErr result (λ e. (why : AnyRefusal) × (e ≡ Refused why)
@@ -212,14 +213,15 @@ impl Session {
         seated(alloc, limits, shared, pass, passes)
     }
 
-    /// Another session of the same store, in a box. It gets the last pass that waits here, or if
-    /// none waits, one that `close` gave back in any thread. The two passes then meet, so the new
-    /// session has seen all that this one has, including its writes. A pin of this session stays.
-    /// NoPass if there is no such pass; OutOfMemory, which leaves the pass where it was.
+    /// Creates another session of the same store, in a box. The new session gets the last pass that
+    /// waits here. If none waits, it gets one that was given back by `close` in any thread. The two
+    /// passes then meet, so that the new session has seen everything that this one has seen,
+    /// including its writes. A pin of the caller is unaffected. Returns `NoPass` if there is no
+    /// such pass, or `OutOfMemory`, in which case the pass remains where it was.
     ///
-    /// The session that opened the store holds the passes that nobody has used yet. A pass that
-    /// was given back keeps what it has seen, and its writes stay in the journal under its number.
-    /// Apart from the box, the call costs three steps.
+    /// The passes that have never been used wait with the session that opened the store. A pass
+    /// that was given back keeps what it has seen, and its writes remain in the journal under its
+    /// number. Apart from allocating the box, the call takes three steps.
     pub fn another(&mut self, alloc: Global) -> Result<Box<Session, Global>, Fault>
         ensures same { self.new.store ≡ self.old.store }
         ensures session { IfOk result (λ s. (s.value.store ≡ self.old.store)
@@ -233,7 +235,7 @@ impl Session {
         Ok(session)
     }
 
-    /// Another session of the same store, in a box, whose pass hasn't met this one.
+    /// Creates another session of the same store, in a box, without letting its pass meet this one.
     fn take_another(&mut self, alloc: Global) -> Result<Box<Session, Global>, Fault>
         ensures same { (self.new.store ≡ self.old.store) × (self.new.knows ≡ self.old.knows) }
         ensures session { IfOk result (λ s. (s.value.store ≡ self.old.store)
@@ -257,13 +259,13 @@ impl Session {
         }
     }
 
-    /// Releases the pin, and gives back the pass and the passes that wait here. `another` can then
-    /// use them in each session of the store. A session that is dropped loses them. The store is
-    /// freed with its last session. It waits for nobody.
+    /// Releases the pin, and gives back the pass and the passes that wait here. Any session of the
+    /// store can then get them from `another`. Passes are lost if their session is dropped instead.
+    /// The store is freed together with its last session. The call never waits.
     ///
-    /// Returns a witness of all that the pass has seen of the journal, including its own writes. If
-    /// the session that calls `finish` has joined the witness, they are in the journal that
-    /// `finish` returns.
+    /// Returns a witness of everything that the pass has seen of the journal, including its own
+    /// writes. If the session that calls `finish` has joined the witness, these writes are in the
+    /// journal that `finish` returns.
     pub fn close(self) -> Witness
         ensures witness { IsWitnessOf self.store result × (result.seen ≡ self.knows.seen) }
     {
@@ -279,8 +281,9 @@ impl Session {
         witness
     }
 
-    /// Whether `finish` may be called. InUse if another session of the store is open; OutOfMemory.
-    /// It allocates the memory for `finish`, which then needs none.
+    /// Checks whether `finish` can be called. Returns `InUse` if another session of the store is
+    /// open, or `OutOfMemory`. If the check succeeds, the memory that `finish` needs has been
+    /// allocated.
     pub fn may_finish(&mut self) -> Result<(), Fault>
         ensures same { self.new ≡ self.old }
         ensures err { IfErr result IsNotLast }
@@ -292,13 +295,13 @@ impl Session {
         Ok(())
     }
 
-    /// Closes the store, if this is its last session, and returns the journal. It takes the pass,
-    /// those that were given back and those that wait; they may be pinned. It waits for nobody, and
-    /// costs a load and a join for each pass.
+    /// Closes the store, if this is its last session, and returns the journal. Takes the pass of
+    /// this session, the passes that were given back, and those that wait; they may be pinned. The
+    /// call never waits, and costs one load and one join per pass.
     ///
-    /// The journal covers everything, whatever calls were made by whatever sessions. It has each
-    /// accepted write of a session at its commit number, and nothing else. An error says what
-    /// became of the session.
+    /// The journal covers everything that happened, whatever calls were made by whatever sessions.
+    /// It contains each accepted write of a session at its commit number, and nothing else. The
+    /// error says what became of the session.
     pub fn finish(self) -> Result<Journal, Unfinished>
         ensures ok { IfOk result (IsFinished self) }
         ensures err { IfErr result (IsUnfinished self) }
@@ -321,10 +324,11 @@ impl Session {
         }
     }
 
-    /// Meets a pass that was given back: both have then seen what either had seen. Returns its
-    /// length. NoPass if there is no such pass, or if another thread is using it.
+    /// Meets a pass that was given back, so that both have then seen the longer of two prefixes of
+    /// the journal. Returns the length of that prefix. Returns `NoPass` if there is no such pass,
+    /// or if another thread is using it.
     ///
-    /// So such a pass carries what one session has seen to another, if both meet it in turn.
+    /// If two sessions meet such a pass in turn, it carries what the first has seen to the second.
     pub fn meet(&mut self) -> Result<u64, Fault>
         ensures store { (self.new.store ≡ self.old.store) × (self.new.spare ≡ self.old.spare) }
         ensures ok { IfOk result (λ n. HasMet self.old.store self.old.knows self.new.knows n) }
@@ -338,9 +342,9 @@ impl Session {
         Ok(length)
     }
 
-    /// A witness of all that the pass has seen of the journal. Send it to another thread, over any
-    /// channel: a session that joins it there has then seen as much. It owns no share of the store.
-    /// One step; no memory is allocated.
+    /// Returns a witness of everything that the pass has seen of the journal. Send it to another
+    /// thread over any channel. A session that joins the witness there has then seen at least as
+    /// much. The witness has no share of the store. Takes one step and allocates no memory.
     pub fn witness(&mut self) -> Witness
         ensures store { (self.new.store ≡ self.old.store) × (self.new.spare ≡ self.old.spare) }
         ensures knows { self.new.knows ≡ one_step_on self.old.knows }
@@ -350,12 +354,13 @@ impl Session {
         self.shared.store().witness(&mut self.pass)
     }
 
-    /// Afterwards the session and the witness have seen what either had seen. Returns its length. A
-    /// pin stays, and the witness can be sent on. What the session pins and writes from then on
-    /// comes after what the witness had seen. Three steps; no memory is allocated.
+    /// Shows the session what the witness has seen, and the witness what the session has seen.
+    /// Afterwards both have seen the longer of the two prefixes of the journal, whose length is
+    /// returned. A pin is unaffected, and the witness can be sent on to other threads. Everything
+    /// that the session pins and writes from then on comes after what the witness had seen. Takes
+    /// three steps and allocates no memory.
     ///
-    /// This call has a requirement that nothing checks at run time: the witness has to be of this
-    /// store.
+    /// One requirement of this call is not checked at run time: the witness must be of this store.
     pub fn join(&mut self, witness: &mut Witness) -> u64
         requires witness { IsWitnessOf self.old.store witness.old }
         ensures store { (self.new.store ≡ self.old.store) × (self.new.spare ≡ self.old.spare) }
@@ -366,7 +371,7 @@ impl Session {
         self.shared.store().join(&mut self.pass, witness)
     }
 
-    /// Pins the current version, and returns its number, which is how many writes it has.
+    /// Pins the current version, and returns its number, which is how many writes it includes.
     pub fn pin(&mut self) -> Result<u64, Fault>
         ensures store { (self.new.store ≡ self.old.store) × (self.new.spare ≡ self.old.spare) }
         ensures ok { IfOk result (λ n. Pins self.old.knows self.new.knows n) }
@@ -382,7 +387,7 @@ impl Session {
         Ok(number)
     }
 
-    /// Whether a version is pinned.
+    /// Returns whether a version is pinned.
     pub fn is_pinned(&self) -> bool
         ensures { result ≡ is_some (pinned_number self.now.knows.phase) }
     {
@@ -403,10 +408,10 @@ impl Session {
         Ok(())
     }
 
-    /// Writes a batch of 1 to 64 operations, all or none. Returns the length of the journal
-    /// including them. The operations' outcomes replace what was in `dones`. BadCount for any other
-    /// number of operations, and then nothing happens; otherwise it does what the store's
-    /// `apply_into` does.
+    /// Writes a batch of 1 to 64 operations, all or none. Returns the journal's length including
+    /// this batch. The outcomes of the operations replace the contents of `dones`. For any other
+    /// number of operations, returns `BadCount` without doing anything. Otherwise does what the
+    /// store's `apply_into` does.
     pub fn apply(&mut self, ops: &[Op], dones: &mut ArrayVec<Done, 64>) -> Result<u64, Fault>
         ensures store { (self.new.store ≡ self.old.store) × (self.new.spare ≡ self.old.spare) }
         ensures ok { IfOk result (λ n. Accepts self.old.knows self.new.knows ops.now n
@@ -422,9 +427,9 @@ impl Session {
         Ok(self.shared.store().apply_into(&mut self.pass, ops, dones)?)
     }
 
-    /// Writes as `apply` does if the journal has `number` entries, and otherwise writes nothing,
-    /// like the store's `apply_if_into`. BadCount comes before every other error. Conflict has the
-    /// length that was found.
+    /// Does what `apply` does if the journal has exactly `number` entries, and otherwise writes
+    /// nothing, like the store's `apply_if_into`. `BadCount` takes precedence over every other
+    /// error. `Conflict` carries the length that was found.
     pub fn apply_if(
         &mut self,
         number: u64,
@@ -446,22 +451,22 @@ impl Session {
         Ok(store.apply_if_into(&mut self.pass, number, ops, dones)?)
     }
 
-    /// The pass's number, which its entries in the journal have.
+    /// Returns the pass's number, under which its entries are in the journal.
     pub fn number(&self) -> u64
         ensures { result ≡ self.now.knows.number }
     {
         self.pass.number()
     }
 
-    /// How many entries of the journal the pass has seen.
+    /// Returns how many journal entries the pass has seen.
     pub fn seen(&self) -> u64
         ensures { result ≡ length self.now.knows.seen }
     {
         self.pass.seen()
     }
 
-    /// Up to `most` entries of the journal from the index `from` on, which counts from 0, as the
-    /// store's `journal_from` returns them. It needs no pin.
+    /// Returns up to `most` journal entries, starting at the index `from`, which counts from 0, as
+    /// the store's `journal_from` does. Needs no pin.
     pub fn journal_from(
         &mut self,
         alloc: Global,
@@ -480,7 +485,7 @@ impl Session {
         Ok(store.journal_from(alloc, &mut self.pass, from, most)?)
     }
 
-    /// The number that the next new node gets, in the pinned version.
+    /// Returns the number that the next new node would get in the pinned version.
     pub fn next(&mut self) -> Result<u64, Fault>
         ensures store { (self.new.store ≡ self.old.store) × (self.new.spare ≡ self.old.spare) }
         ensures read { HasRead self.old.knows self.new.knows }
@@ -493,8 +498,8 @@ impl Session {
         Ok(self.shared.store().next(&mut self.pass))
     }
 
-    /// The text of the journal up to now, as the store's `journal_text` returns it. The journal is
-    /// legal. It needs no pin.
+    /// Returns the journal's text so far, as the store's `journal_text` does. The journal is legal.
+    /// Needs no pin.
     pub fn journal_text(&mut self) -> Result<String, Fault>
         ensures store { (self.new.store ≡ self.old.store) × (self.new.spare ≡ self.old.spare) }
         ensures learns { Learns self.old.knows self.new.knows }
@@ -509,8 +514,8 @@ impl Session {
         Ok(answer?)
     }
 
-    /// How full the store is, and the oldest version in a reader slot, as the store's `status`
-    /// returns them. It needs no pin.
+    /// Reports how full the store is and the oldest version in a reader slot, as the store's
+    /// `status` does. Needs no pin.
     pub fn status(&mut self) -> Result<Status, Fault>
         ensures store { (self.new.store ≡ self.old.store) × (self.new.spare ≡ self.old.spare) }
         ensures learns { Learns self.old.knows self.new.knows }
@@ -522,7 +527,7 @@ impl Session {
         Ok(reported?)
     }
 
-    /// The nodes that match the query in the pinned version, in ascending order.
+    /// Returns the nodes that match the query in the pinned version, in ascending order.
     pub fn query(&mut self, alloc: Global, query: &Query) -> Result<Vec<u64>, Fault>
         ensures store { (self.new.store ≡ self.old.store) × (self.new.spare ≡ self.old.spare) }
         ensures read { HasRead self.old.knows self.new.knows }
@@ -537,9 +542,9 @@ impl Session {
         Ok(store.query(alloc, &mut self.pass, query)?.nodes)
     }
 
-    /// Replaces a list's content with the nodes that match a live query in the pinned version, in
-    /// ascending order. A list that has room for them allocates no memory. After an error it is
-    /// empty. The last refresh's answer stays.
+    /// Replaces the contents of a list with the nodes that match a live query in the pinned
+    /// version, in ascending order. If the list has room for them, no memory is allocated. After an
+    /// error, the list is empty. The answer of the last refresh is unchanged.
     pub fn query_into(&mut self, live: &mut Live, nodes: &mut Vec<u64>) -> Result<(), Fault>
         ensures store { (self.new.store ≡ self.old.store) × (self.new.spare ≡ self.old.spare) }
         ensures read { HasRead self.old.knows self.new.knows }
@@ -564,8 +569,8 @@ impl Session {
         }
     }
 
-    /// Asks a live query in the pinned version, and returns which nodes came and which went since
-    /// its last refresh. An error leaves the live query as it was.
+    /// Runs a live query in the pinned version, and returns which nodes were added and removed
+    /// since its last refresh. An error leaves the live query unchanged.
     pub fn refresh(&mut self, live: &mut Live) -> Result<Updates, Fault>
         ensures store { (self.new.store ≡ self.old.store) × (self.new.spare ≡ self.old.spare) }
         ensures read { HasRead self.old.knows self.new.knows }
@@ -582,9 +587,9 @@ impl Session {
         Ok(live.refresh(self.shared.store(), &mut self.pass)?)
     }
 
-    /// The index cover from which a query would be answered in the pinned version: the chosen
-    /// comparisons, in canonical form and joined by ` || `, and the score. NotCovered if no index
-    /// of that version covers the query; OutOfMemory.
+    /// Returns the index cover from which a query would be answered in the pinned version: the
+    /// chosen comparisons in canonical form, joined by ` || `, and the score. Returns `NotCovered`
+    /// if no index of that version covers the query, or `OutOfMemory`.
     pub fn explain(&mut self, alloc: Global, query: &Query) -> Result<String, Fault>
         ensures store { (self.new.store ≡ self.old.store) × (self.new.spare ≡ self.old.spare) }
         ensures read { HasRead self.old.knows self.new.knows }
@@ -599,8 +604,9 @@ impl Session {
         Ok(cover_text(alloc, query, &cover)?)
     }
 
-    /// Up to `most` nodes of the pinned version from the number `from` on, in ascending order. A
-    /// list with fewer is the last one. To continue, call it with the number after the last node.
+    /// Returns up to `most` nodes of the pinned version in ascending order, starting at the number
+    /// `from`. A list with fewer nodes is the last one. To continue, call it again with the number
+    /// after the last node.
     pub fn nodes(&mut self, alloc: Global, from: u64, most: usize) -> Result<Vec<u64>, Fault>
         ensures store { (self.new.store ≡ self.old.store) × (self.new.spare ≡ self.old.spare) }
         ensures read { HasRead self.old.knows self.new.knows }
@@ -615,7 +621,7 @@ impl Session {
         Ok(store.nodes(alloc, &mut self.pass, from, most)?)
     }
 
-    /// A node's attribute in the pinned version, if it has one.
+    /// Returns an attribute of a node in the pinned version, or `None` if the node doesn't have it.
     pub fn get(&mut self, node: u64, name: &Name) -> Result<Option<Value>, Fault>
         ensures store { (self.new.store ≡ self.old.store) × (self.new.spare ≡ self.old.spare) }
         ensures read { HasRead self.old.knows self.new.knows }
@@ -628,8 +634,9 @@ impl Session {
         Ok(self.shared.store().get(&mut self.pass, node, name))
     }
 
-    /// A node's attribute in the pinned version as a cell, if it has one. The bytes of a text are
-    /// written to the front of `bytes`, as many as fit.
+    /// Returns an attribute of a node in the pinned version as a cell, or `None` if the node
+    /// doesn't have it. If the attribute is a string, its bytes are written to the start of
+    /// `bytes`, as many as fit.
     pub fn get_into(
         &mut self,
         node: u64,
@@ -651,8 +658,9 @@ impl Session {
         Ok(store.get_into(&mut self.pass, node, name, bytes))
     }
 
-    /// Writes what each node has at each name in the pinned version, in one cell for each, like the
-    /// store's `columns`. BadCount if there are more than 2^32 cells.
+    /// Reads the attributes with the given names from each of the nodes in the pinned version, and
+    /// writes one cell per node and name, like the store's `columns`. Returns `BadCount` if there
+    /// are more than 2^32 cells.
     pub fn columns(
         &mut self,
         nodes: &[u64],
@@ -678,7 +686,7 @@ impl Session {
         Ok(store.columns(&mut self.pass, nodes, names, cells, bytes))
     }
 
-    /// A node's attributes in the pinned version, sorted by the bytes of their names.
+    /// Returns the attributes of a node in the pinned version, sorted by the bytes of their names.
     pub fn attrs(&mut self, alloc: Global, node: u64) -> Result<Vec<(Name, Value)>, Fault>
         ensures store { (self.new.store ≡ self.old.store) × (self.new.spare ≡ self.old.spare) }
         ensures read { HasRead self.old.knows self.new.knows }
@@ -692,7 +700,8 @@ impl Session {
         Ok(self.shared.store().attrs(alloc, &mut self.pass, node)?)
     }
 
-    /// The names and kinds of the pinned version's indices, sorted by the bytes of the names.
+    /// Returns the names and kinds of the pinned version's indices, sorted by the bytes of the
+    /// names.
     pub fn indices(&mut self, alloc: Global) -> Result<Vec<(Name, Kind)>, Fault>
         ensures store { (self.new.store ≡ self.old.store) × (self.new.spare ≡ self.old.spare) }
         ensures read { HasRead self.old.knows self.new.knows }
@@ -706,11 +715,12 @@ impl Session {
         Ok(self.shared.store().indices(alloc, &mut self.pass)?)
     }
 
-    /// Reads the next operations that rebuild the pinned version on an empty store, if none is
-    /// ready: up to 64 of them, and none after the last. OutOfMemory loses nothing.
+    /// Reads the next operations that rebuild the pinned version in an empty store, up to 64 of
+    /// them, unless some are still ready. After the last operation, it reads none. `OutOfMemory`
+    /// loses nothing.
     ///
-    /// A place belongs to one pin. At another pin it continues after the same steps there, but the
-    /// operations that are ready are still those of the first pin.
+    /// A place belongs to one pin. At another pin, it continues after the same steps of that
+    /// version, but any operations that are ready are still those of the first pin.
     pub fn state(&mut self, alloc: Global, place: &mut StatePlace) -> Result<(), Fault>
         ensures store { (self.new.store ≡ self.old.store) × (self.new.spare ≡ self.old.spare) }
         ensures read { HasRead self.old.knows self.new.knows }
@@ -739,8 +749,8 @@ impl Session {
     }
 }
 
-/// The query whose text these bytes are. NotUtf8 if the bytes aren't UTF-8; otherwise the result of
-/// `be_query::parse`.
+/// Parses a query from the bytes of its text. Returns `NotUtf8` if the bytes aren't valid UTF-8,
+/// and otherwise the result of `be_query::parse`.
 pub fn query_of(alloc: Global, text: &[u8]) -> Result<Query, Fault>
     ensures ok { IfOk result (λ query. IsTextOf text.now query) }
     ensures err { IfErr result (λ e. IsNoQuery text.now e) }
@@ -751,21 +761,22 @@ pub fn query_of(alloc: Global, text: &[u8]) -> Result<Query, Fault>
     }
 }
 
-/// Returns the same value. It compiles only if values of the type may go to another thread.
+/// Returns its argument. It compiles only for types whose values can be sent to another thread.
 pub fn sent<T: Send>(value: T) -> T
     ensures { result ≡ value }
 {
     value
 }
 
-/// A law of sessions: what always holds for a pass holds for a session's pass. It does nothing.
+/// A law of sessions, which does nothing: what always holds for a pass holds for the pass of a
+/// session.
 pub fn session_is_pass(session: &Session)
     ensures { IsPass session.now.knows }
 {
     session.pass.is_pass();
 }
 
-/// A law of the type: a session may go to another thread. It does nothing.
+/// A law of the type, which does nothing: a session can be sent to another thread.
 pub fn may_move(session: Session) -> Session
     ensures { result ≡ session }
 {

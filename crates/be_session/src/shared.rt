@@ -33,7 +33,7 @@ impl Fits for Returned {
     ghost fits = { λ seat returned. MayWaitAt seat returned.pass };
 }
 
-/// Puts a pass into its seat's slot. Returns the pass if another one waits there, or if another
+/// Puts a pass into its seat's slot. Returns the pass if another pass waits there or if another
 /// thread is using the slot.
 fn put(slot: &Counted<Option<Returned>>, pass: Pass) -> Option<Pass>
     requires { MayWaitAt slot.now pass }
@@ -63,7 +63,7 @@ fn take(slot: &Counted<Option<Returned>>) -> Option<Pass>
     }
 }
 
-/// The pass, with its pin released if it has one.
+/// Returns the pass, after releasing its pin if it has one.
 fn unpinned(store: &Store, mut pass: Pass) -> Pass
     requires { IsPassOf store.now pass }
     ensures pass { IsUnpinnedOf store.now result }
@@ -76,7 +76,7 @@ fn unpinned(store: &Store, mut pass: Pass) -> Pass
     pass
 }
 
-/// Adds the pass with the number k from its slot. Returns false if it isn't there. If k is `own`,
+/// Appends pass number k from its slot. Returns `false` if the pass isn't there. If k is `own`,
 /// that pass is already in the list.
 fn collect(
     _store: &Store,
@@ -107,8 +107,8 @@ fn collect(
     }
 }
 
-/// Adds the passes from the number `first` on from their slots, except the pass `own`. Returns
-/// false if one isn't there.
+/// Appends the passes from their slots, starting at the number `first` and skipping `own`. Returns
+/// `false` if one of them isn't there.
 fn collect_all(
     store: &Store,
     slots: &[Counted<Option<Returned>>],
@@ -134,7 +134,7 @@ fn collect_all(
     true
 }
 
-/// A store, with a slot for each of its passes.
+/// A store with a slot for each of its passes.
 #[derive(Drop)]
 pub(crate) struct Shared {
     store: Store,
@@ -153,7 +153,7 @@ impl Model for Shared {
 }
 
 impl Shared {
-    /// The store, with an empty slot for each of its passes.
+    /// Creates an empty slot for each pass of the store.
     pub(crate) fn new(alloc: Global, store: Store, passes: &[Pass]) -> Result<Shared, AllocError>
         requires { AreAllSeats store passes.now }
         ensures { IfOk result (λ s. s ≡ store) }
@@ -171,7 +171,7 @@ impl Shared {
         &self.store
     }
 
-    /// How many passes the store has.
+    /// Returns how many passes the store has.
     pub(crate) fn passes(&self) -> usize
         ensures count { result ≡ self.now.limits.passes }
         ensures few { result < 2 ^ 63 }
@@ -179,8 +179,8 @@ impl Shared {
         self.slots.len()
     }
 
-    /// Closes the store with this pass, the passes that nobody has used, and all that were given
-    /// back. None if one is missing.
+    /// Closes the store with this pass, the passes that have never been used, and all passes that
+    /// were given back. Returns `None` if one is missing.
     pub(crate) fn finish(self, pass: Pass, mut passes: Vec<Pass>) -> Option<Journal>
         requires pass { IsPassOf self pass }
         requires new { AreNew self 0 passes.items }
@@ -196,8 +196,8 @@ impl Shared {
         Some(store.close(passes))
     }
 
-    /// Releases a pass's pin and gives the pass back. Each pass has its own slot, which is empty
-    /// while the pass is in use. So the pass goes into that slot, and nothing is returned.
+    /// Releases the pin of a pass and gives the pass back. Each pass has its own slot, which is
+    /// empty while the pass is in use, so the pass goes into that slot and the result is `None`.
     pub(crate) fn give_back(&self, pass: Pass) -> Option<Pass>
         requires { IsPassOf self.now pass }
         ensures { IfSome result (λ p. IsUnpinnedOf self.now p
@@ -208,7 +208,7 @@ impl Shared {
         put(slot, unpinned(&self.store, pass))
     }
 
-    /// Gives back passes that nobody has used.
+    /// Gives back passes that have never been used.
     pub(crate) fn give_back_all(&self, mut passes: Vec<Pass>)
         requires { AreNew self.now 0 passes.items }
     {
@@ -219,7 +219,7 @@ impl Shared {
         }
     }
 
-    /// Takes a pass that was given back from its slot. It looks at each slot once.
+    /// Takes a pass that was given back out of its slot. Looks at each slot once.
     pub(crate) fn take_returned(&self) -> Option<Pass>
         ensures { IfSome result (λ p. IsUnpinnedOf self.now p) }
     {

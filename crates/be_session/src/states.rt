@@ -1,7 +1,7 @@
-//! The operations that rebuild a version, as other languages get them.
+//! The operations that rebuild a version, as they are returned to other languages.
 //!
-//! A list that was read stays ready until there is room to return all of it. So neither running out
-//! of memory nor a lack of room loses an operation.
+//! Operations that were read stay ready until there is room to return all of them, so that neither
+//! running out of memory nor a lack of room loses an operation.
 ghost use Rattle.std.specs.Prelude.{◌≤◌, length};
 
 use crate::encodings::encoded_operations;
@@ -9,8 +9,8 @@ use crate::{Encoding, Fault};
 use be_store::{Op, Place};
 use std::alloc::Global;
 
-/// How far the operations that rebuild a version have been returned, with those that were read and
-/// are ready.
+/// A position in the operations that rebuild a version: how far they have been returned, and which
+/// were read and are ready.
 #[derive(Drop)]
 pub struct StatePlace {
     pub(crate) place: Place,
@@ -27,7 +27,7 @@ impl StatePlace {
     ghost use Rattle.be_session.specs.States.{WaitAfter, unread, unreported, waiting};
     ghost use Rattle.be_session.specs.declared.faults.Fault.TheVariants.{Refused};
 
-    /// The place before the first operation. No memory is allocated.
+    /// Returns the position before the first operation. No memory is allocated.
     pub fn new(alloc: Global) -> StatePlace
         ensures { (volume : State) → unreported volume result ≡ state_ops volume }
     {
@@ -37,8 +37,9 @@ impl StatePlace {
         }
     }
 
-    /// Encodes the operations that are ready. If they fit into this many operations and bytes, they
-    /// count as returned; otherwise they stay ready. After OutOfMemory they stay ready, too.
+    /// Encodes the operations that are ready. If the encoding fits into this many operations and
+    /// bytes, they count as returned, and otherwise they stay ready. They also stay ready after
+    /// `OutOfMemory`.
     pub fn report(
         &mut self,
         alloc: Global,

@@ -5,18 +5,18 @@ use Rattle.std.specs.Io.KnownBytes.{Consumes, IsAtEnd}
 use Rattle.std.specs.declared.option.Option.{Option}
 use Rattle.be_shell.specs.Break.{broken, owed}
 
--- the first place of a buffer is written
+-- The first byte of a buffer is written.
 first_set : (buf : List ℕ) (x : ℕ) → 1 ≤ length buf → take 1 (slice_set buf 0 x) ≡ x ∷ []
 first_set [] x h = absurd (omega (arith, h))
 first_set (b ∷ buf) x h = refl
 
--- the LF that was owed
+-- The LF that was owed.
 lf_read : (known : Option (List ℕ)) (owes : Bool) → owes ≡ true → Consumes (option_map (owed owes) known) (option_map (owed false) known) (10 ∷ [])
 lf_read None owes e = tt
 lf_read (Some xs) true e = refl
 lf_read (Some xs) false e = cc
 
--- a byte of the reader below
+-- A byte of the underlying reader.
 byte_read : (old new : Option (List ℕ)) (owes : Bool) (b : ℕ) → owes ≡ false → Consumes old new (b ∷ []) →
     Consumes (option_map (owed owes) old) (option_map (owed (nat_eq b 3)) new) (b ∷ [])
 byte_read None new owes b e h = tt
@@ -28,7 +28,7 @@ byte_read (Some xs) (Some ys) false b e h = ap broken h ∙ by (nat_eq b 3) refl
     by true is = let three : 3 ≡ b = grind (arith, nat_tests) in ap (λ (z : ℕ). z ∷ 10 ∷ broken ys) three
     by false is = refl
 
--- the same, written to the front of a buffer
+-- The LF that was owed, written to the start of a buffer.
 pub lf_put : (known : Option (List ℕ)) (owes : Bool) (buf : List ℕ) → 1 ≤ length buf → owes ≡ true →
     Consumes (option_map (owed owes) known) (option_map (owed false) known) (take 1 (slice_set buf 0 10))
     × (◌≡◌ {A = ℕ} 1 0 → 0 < length (slice_set buf 0 10) → IsAtEnd (option_map (owed false) known))

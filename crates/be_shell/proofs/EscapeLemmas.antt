@@ -1,13 +1,13 @@
--- A text whose front is shown as it is.
+-- A text whose first part is shown unchanged.
 use Rattle.std.proofs.Common.{◌≡◌, ◌≤◌, ◌<◌, ℕ, suc, ◌+◌, List, [], ◌∷◌, ◌++◌, length, take, drop, get_or, add-one, append_assoc, refl, sym, ap, ◌∙◌, arith}
 use Rattle.std.proofs.Math.Seq.{take-suc, drop-cons}
 use Rattle.be_shell.specs.Escape.{shown, KeepsFirst}
 
--- the first n bytes of a text are shown as they are
+-- The first n bytes of a text are shown unchanged.
 abbrev pub IsPlainTo : List ℕ → ℕ → Type 0
 IsPlainTo bytes n = shown bytes ≡ take n bytes ++ shown (drop n bytes)
 
--- one more byte
+-- One more byte.
 pub one_more : (bytes : List ℕ) (n : ℕ) → n < length bytes → IsPlainTo bytes n → KeepsFirst (drop n bytes) → IsPlainTo bytes (n + 1)
 one_more bytes n h front keeps =
     let x = get_or bytes n 0 in
@@ -18,6 +18,6 @@ one_more bytes n h front keeps =
     front ∙ (ap (λ (z : List ℕ). take n bytes ++ z) more ∙ (sym (append_assoc (take n bytes) (x ∷ []) (shown rest)) ∙ ap (λ (z : List ℕ). z ++ shown rest) (sym taken))) in
     rw add-one whole
 
--- the first byte
+-- The first byte.
 pub first_plain : (bytes : List ℕ) → 1 ≤ length bytes → KeepsFirst bytes → IsPlainTo bytes 1
 first_plain bytes h keeps = one_more bytes 0 (omega (arith, h)) refl keeps

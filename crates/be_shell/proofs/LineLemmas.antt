@@ -12,7 +12,7 @@ use Rattle.be_script_runner.proofs.RunLemmas.{read_both}
 use Rattle.be_shell.specs.Bytes.{HasTaken, Hears, ChangesBytes}
 use Rattle.be_shell.specs.Conversation.{Event, short_line, long_line, hears, ends, says, flushes, fails}
 
--- nothing was taken
+-- Nothing was taken.
 none_consumed : (known : Option (List ℕ)) → Consumes known known []
 none_consumed None = tt
 none_consumed (Some xs) = refl
@@ -28,7 +28,7 @@ no_bytes : (xs : List ℕ) → length xs ≡ 0 → xs ≡ []
 no_bytes [] e = refl
 no_bytes (x ∷ xs) e = absurd (omega (arith, e))
 
--- one more byte, which doesn't end the line
+-- One more byte, which doesn't end the line.
 pub byte_taken : (old mid new : Option (List ℕ)) (kept kept' : List ℕ) (c : ℕ) → HasTaken old mid kept → Consumes mid new (c ∷ []) → is_line_end c ≡ false →
     (length kept ≤ 65536 → kept' ≡ kept ++ c ∷ []) → (65536 < length kept → kept' ≡ kept) → HasTaken old new kept'
 byte_taken old mid new kept kept' c h g e more full = by (nat_lt 65536 (length kept)) refl
@@ -53,7 +53,7 @@ byte_taken old mid new kept kept' c h g e more full = by (nat_lt 65536 (length k
           long = λ many. omega (arith, ap length (more fits), length-append kept (c ∷ []), ap length (h.whole fits), length-append h.bytes (c ∷ []), many);
         }
 
--- the LF of a line
+-- The LF of a line.
 pub line_ended : (old mid new : Option (List ℕ)) (kept : List ℕ) (event : Event) → HasTaken old mid kept → Consumes mid new (10 ∷ []) →
     (length kept ≤ 65536 → event ≡ hears (short_line kept)) → (65536 < length kept → event ≡ hears long_line) → Hears old new event
 line_ended old mid new kept event h g short long = by (nat_lt 65536 (length kept)) refl
@@ -73,7 +73,7 @@ line_ended old mid new kept event h g short long = by (nat_lt 65536 (length kept
           taken = inl (read_both old mid new h.bytes (10 ∷ []) h.taken g);
         })
 
--- the end, with no LF before it
+-- The end, without an LF before it.
 pub line_left : (old mid new : Option (List ℕ)) (kept : List ℕ) (event : Event) → HasTaken old mid kept → Consumes mid new [] → IsAtEnd new →
     (length kept ≡ 0 → event ≡ ends) → (1 ≤ length kept → length kept ≤ 65536 → event ≡ hears (short_line kept)) → (65536 < length kept → event ≡ hears long_line) → Hears old new event
 line_left old mid new kept event h g last empty short long = by (nat_lt 65536 (length kept)) (nat_lt 0 (length kept)) refl refl
@@ -99,7 +99,7 @@ line_left old mid new kept event h g last empty short long = by (nat_lt 65536 (l
         let nothing : h.bytes ≡ [] = no_bytes h.bytes (omega (arith, ap length (h.whole fits), none)) in
         subst (λ (e : Event). Hears old new e) (sym (empty none)) (subst (λ (z : List ℕ). Consumes old new z) nothing all, last)
 
--- hearing leaves the writer unchanged
+-- Reading a line leaves the writer unchanged.
 pub hears_moves : (left left' reported : Option (List ℕ)) (event : Event) → Hears left left' event → ChangesBytes left left' reported reported event
 hears_moves left left' reported (hears line) h = (h, refl)
 hears_moves left left' reported ends h = (h, refl)

@@ -16,7 +16,7 @@ use Rattle.be_shell.specs.Conversation.{Event, Heard, hears, IsBroken, RepliedTo
 same_store : (a : Store) (j j' : List Entry) (v v' : State) → j ≡ j' → v ≡ v' → (record a { journal = j; volume = v }) ≡ (record a { journal = j'; volume = v' })
 same_store a j j' v v' p q = ap (λ (z : List Entry). record a { journal = z; volume = v }) p ∙ ap (λ (z : State). record a { journal = j'; volume = z }) q
 
--- what the other passes write, in two parts
+-- What the other passes write, in two parts.
 pub joins_both : (a b c : Store) → Joins a b → Joins b c → Joins a c
 joins_both a b c h g =
     let volume = λ (v : State) (e : Entry). state_after v e.ops in
@@ -28,7 +28,7 @@ joins_both a b c h g =
       store = whole ∙ same_store a _ _ _ _ (append_assoc a.journal h.others g.others) (sym (fold-append volume a.volume h.others g.others));
     }
 
--- a reply after a read
+-- A reply after a read.
 pub replied_from : (a b : Store) (client : Client) (line : Heard) (after : Session) (reply : List ℕ) → Joins a b → RepliedTo (session b client) line after reply →
     RepliedTo (session a client) line after reply
 replied_from a b client line after reply j h = (h.0, record { now = h.1.now; joins = joins_both a b h.1.now j h.1.joins; is = h.1.is }, h.2)
@@ -41,7 +41,7 @@ broken_from TooLong a b client line events j h = h
 broken_from Write a b client line events j h = (h.0, h.1, h.2, h.3, replied_from a b client h.0 h.1 h.2 j h.4, h.5, h.6)
 broken_from Memory a b client line events j h = h
 
--- a fault after a read
+-- A fault after a read.
 pub broke_from : {P : Type 0} (does : P → Event → P → Type 0) (e : RunFault) (a b : Store) (client : Client) (line : Heard) (p q : P) → Joins a b →
     BrokeAfter does e (session b client) line p q → BrokeAfter does e (session a client) line p q
 broke_from does e a b client line p q j h = (h.0, broken_from e a b client line h.0 j h.1, h.2)

@@ -1,4 +1,4 @@
--- How a text is said piece by piece.
+-- How a text is written piece by piece.
 use Rattle.std.proofs.Common.{◌≡◌, ℕ, List, [], ◌∷◌, ◌++◌, length, map, append_assoc, refl, sym, ap, ◌∙◌, subst, arith}
 use Rattle.std.proofs.lemmas.List.{append-nil}
 use Rattle.be_script_runner.specs.Run.{IsFrontOf}
@@ -10,7 +10,7 @@ no_bytes : (xs : List ℕ) → length xs ≡ 0 → xs ≡ []
 no_bytes [] e = refl
 no_bytes (x ∷ xs) e = absurd (omega (arith, e))
 
--- a front of the first part
+-- The beginning of the first part.
 pub front_of_more : (whole piece tail front : List ℕ) → whole ≡ piece ++ tail → IsFrontOf piece front → IsFrontOf whole front
 front_of_more whole piece tail front e h = (h.0 ++ tail, e ∙ (ap (λ (z : List ℕ). z ++ tail) h.1 ∙ append_assoc front h.0 tail))
 
@@ -23,12 +23,12 @@ say_more : {P : Type 0} (does : P → Event → P → Type 0) (m q : P) (piece :
 say_more {P} does m q piece [] p h d = (q, subst (λ (z : P). does z (says piece) q) h d, refl)
 say_more does m q piece (x ∷ pieces) p h d = (h.0, h.1, say_more does m q piece pieces h.0 h.2 d)
 
--- one more piece
+-- One more piece.
 piece_said : {P : Type 0} (does : P → Event → P → Type 0) (p m q : P) (bytes piece : List ℕ) → SaysAll does p bytes m → does m (says piece) q → SaysAll does p (bytes ++ piece) q
 piece_said does p m q bytes piece h d =
     (h.0 ++ piece ∷ [], say_more does m q piece h.0 p h.1 d, joined_more h.0 piece ∙ ap (λ (z : List ℕ). z ++ piece) h.2)
 
--- a front of the text was said as it is shown, and this is the rest
+-- The first part of the text was written as it is shown, and this is the rest.
 abbrev pub HasSaid : {P : Type 0} → (P → Event → P → Type 0) → P → P → List ℕ → List ℕ → Type 0
 HasSaid does p q whole rest = (front : List ℕ) × SaysAll does p front q × (shown whole ≡ front ++ shown rest)
 
@@ -54,6 +54,6 @@ cut_said does p m q whole rest h x = (
   piece_said does p m q h.0 x.0 h.1 x.2,
 )
 
--- the whole is a front of itself
+-- The whole text is a first part of itself.
 pub front_of_whole : (bytes : List ℕ) → IsFrontOf bytes bytes
 front_of_whole bytes = ([], sym (append-nil bytes))

@@ -1,4 +1,4 @@
--- A conversation over known bytes says an output of the script that they are.
+-- A conversation over known bytes writes an output of the script that these bytes are.
 use Rattle.std.proofs.Common.{◌≡◌, ◌⊎◌, ◌≤◌, ℕ, List, [], ◌∷◌, ◌++◌, length, length-append, Some, None, inl, inr, refl, sym, ap, ◌∙◌, subst, append_assoc, arith}
 use Rattle.std.proofs.lemmas.List.{append-nil}
 use Rattle.std.proofs.lemmas.List.Elements.{All-head, All-tail}
@@ -13,7 +13,7 @@ use Rattle.be_shell.specs.Bytes.{AreShort, IsHeardOf, IsWhole, Known, TakesLine,
 use Rattle.be_shell.specs.Conversation.{Event, Heard, short_line, long_line, ends, RepliedTo, exchange, IsTalk, Happens, TalkedTo}
 use Rattle.be_shell.proofs.TalkLemmas.{empty_more}
 
--- how known bytes change by a read, by a write, and by nothing
+-- How known bytes are changed by a read, by a write, and by neither.
 consumed : (old new : Option (List ℕ)) (xs bytes : List ℕ) → old ≡ Some xs → Consumes old new bytes → (rest : List ℕ) × (new ≡ Some rest) × (xs ≡ bytes ++ rest)
 consumed old new xs bytes e h = by new (subst (λ (z : Option (List ℕ)). Consumes z new bytes) e h)
   where
@@ -42,7 +42,7 @@ heard_short : (bytes : List ℕ) (line : Heard) → length bytes ≤ 65536 → I
 heard_short bytes (short_line l) few h = ap short_line (sym h.0)
 heard_short bytes long_line few h = absurd (omega (arith, few, h))
 
--- if nothing is left, no line comes
+-- If nothing is left, there is no line.
 no_line : (old new : Option (List ℕ)) (line : Heard) → old ≡ Some [] → TakesLine old new line → ⊥
 no_line old new line e t = by t.taken
   where
@@ -54,13 +54,13 @@ no_line old new line e t = by t.taken
         let k = consumed old new [] t.bytes e c.1 in
         omega (arith, ap length k.2, length-append t.bytes k.0, c.0)
 
--- what a conversation says until its end, and the session that it leaves
+-- What a conversation writes until its end, and the session that it leaves.
 pub record Said (s : Session) (lines : List (List ℕ)) (reported : List ℕ) (last : Session) (end : Known) : Type 0 where
   pub out : List ℕ
   pub said : end.reported ≡ Some (reported ++ out)
   pub output : Outputs s lines last out
 
--- no line came
+-- There was no line.
 over : (s last : Session) (reported : List ℕ) (talk : List Event) (p end : Known) → p.reported ≡ Some reported → IsTalk s [] talk last → Happens known_do p (talk ++ ends ∷ []) end → Said s ([] ∷ []) reported last end
 over s last reported talk p end e h g =
     let x : Happens known_do p (ends ∷ []) end = subst (λ (t : List Event). Happens known_do p (t ++ ends ∷ []) end) h.1 g in
@@ -70,7 +70,7 @@ over s last reported talk p end e h g =
       output = empty_more [] s last [] (h.0, refl);
     }
 
--- nothing was left, so no line came
+-- Nothing was left, so there was no line.
 none_came : (lines : List Heard) (s last : Session) (reported : List ℕ) (talk : List Event) (p end : Known) → p.left ≡ Some [] → p.reported ≡ Some reported → IsTalk s lines talk last →
     Happens known_do p (talk ++ ends ∷ []) end → (last ≡ s) × (end.reported ≡ Some reported)
 none_came [] s last reported talk p end l e h g =
@@ -80,7 +80,7 @@ none_came (line ∷ lines) s last reported talk p end l e h g =
     let x : Happens known_do p ((exchange line h.1 ++ h.2) ++ ends ∷ []) end = subst (λ (t : List Event). Happens known_do p (t ++ ends ∷ []) end) h.5 g in
     absurd (no_line p.left x.0.left line l x.1.0)
 
--- the lines of bytes are heard one after another
+-- The lines in the bytes are read one after another.
 pub whole : (lines : List Heard) (s last : Session) (script reported : List ℕ) (talk : List Event) (p end : Known) → p.left ≡ Some script → p.reported ≡ Some reported → AreShort (lines_of script) →
     IsTalk s lines talk last → Happens known_do p (talk ++ ends ∷ []) end → Said s (lines_of script) reported last end
 whole [] s last script reported talk p end l e short h g =
@@ -99,7 +99,7 @@ whole (line ∷ lines) s last script reported talk p end l e short h g = by x.1.
     left_now : (ys : List ℕ) → x.0.left ≡ Some ys → x.2.2.0.left ≡ Some ys
     left_now ys k = x.2.2.1.0 ∙ (x.2.1.0 ∙ k)
 
-    -- the line, if it was at the front of what was left
+    -- The line, if it was at the start of what was left.
     replied : (bytes : List ℕ) (more : List (List ℕ)) → lines_of script ≡ bytes ∷ more → IsHeardOf bytes line → RepliedTo s (short_line bytes) h.0 h.1
     replied bytes more k heard = subst (λ (z : Heard). RepliedTo s z h.0 h.1)
         (heard_short bytes line (All-head (λ line. length line ≤ 65536) bytes more (subst AreShort k short)) heard) h.3

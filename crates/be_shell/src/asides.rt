@@ -3,8 +3,8 @@ ghost use Rattle.std.specs.Prelude.{◌≡◌, position, take, drop};
 ghost use Rattle.std.specs.List.{list_all};
 ghost use Rattle.be_shell.specs.Aside as spec;
 
-/// The longest line that a terminal returns, in bytes without its LF. It cuts a longer line to this
-/// length.
+/// The length of the longest line that a terminal returns, in bytes without its LF. The terminal
+/// cuts longer lines to this length.
 pub(crate) const MAX_TYPED: usize = 4095;
 
 /// What a line asks of the terminal itself.
@@ -28,7 +28,7 @@ pub(crate) fn is_blank(byte: u8) -> bool
     byte == b' ' || byte == b'\t' || byte == b'\r'
 }
 
-/// The line without the blanks at its front.
+/// Returns the line without its leading blanks.
 pub(crate) fn skip(line: &[u8]) -> &[u8]
     ensures { result.now ≡ spec.skip line.now }
 {
@@ -48,7 +48,7 @@ fn is_all_blank(line: &[u8]) -> bool
     line.iter().all(|c| is_blank(*c))
 }
 
-/// The position of the first blank.
+/// Returns the position of the first blank.
 fn first_blank(line: &[u8]) -> Option<usize>
     ensures { result ≡ position spec.is_blank line.now }
 {
@@ -66,7 +66,7 @@ pub(crate) fn split_word(line: &[u8]) -> (&[u8], &[u8])
     }
 }
 
-/// What a word asks for, if it is the only word of its line or if it isn't.
+/// Returns what a word asks for, depending on whether it is the only word of its line.
 fn named(word: &[u8], is_alone: bool) -> Aside
     ensures { result ≡ spec.named word.now is_alone }
 {
@@ -83,7 +83,7 @@ fn named(word: &[u8], is_alone: bool) -> Aside
     }
 }
 
-/// What a line of a file asks of the terminal itself.
+/// Returns what a line of a file asks of the terminal itself.
 pub(crate) fn aside_of(line: &[u8]) -> Aside
     ensures { result ≡ spec.aside_of line.now }
 {
@@ -91,14 +91,14 @@ pub(crate) fn aside_of(line: &[u8]) -> Aside
     named(word, is_all_blank(rest))
 }
 
-/// Whether Ctrl-C ended the line: its last byte is 3.
+/// Returns whether Ctrl-C ended the line, in which case its last byte is 3.
 fn is_cancelled(line: &[u8]) -> bool
     ensures { result ≡ spec.is_cancelled line.now }
 {
     line.ends_with(b"\x03".as_slice())
 }
 
-/// What a typed line asks of the terminal itself.
+/// Returns what a typed line asks of the terminal itself.
 pub(crate) fn typed_of(line: &[u8]) -> Aside
     ensures { result ≡ spec.typed_of line.now }
 {

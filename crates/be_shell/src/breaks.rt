@@ -6,10 +6,10 @@ ghost use Rattle.be_shell.specs.Bytes.{TakesByte};
 
 use std::io::{self, Read};
 
-/// The byte that Ctrl-C types, if a terminal returns it as a character.
+/// The byte that Ctrl-C types if a terminal returns it as a character.
 const CANCEL: u8 = 3;
 
-/// The next byte, or `None` at the end.
+/// Returns the next byte, or `None` at the end.
 fn next_byte<R: Read>(reader: &mut R) -> io::Result<Option<u8>>
     ensures byte { IfOk result (λ next. TakesByte (R.remaining reader.old) (R.remaining reader.new)
         next) }
@@ -23,8 +23,8 @@ fn next_byte<R: Read>(reader: &mut R) -> io::Result<Option<u8>>
     }
 }
 
-/// A reader that adds an LF after each byte 3 of the reader below. So the byte that Ctrl-C types
-/// ends a line, and is the line's last byte. It reads one byte at a time.
+/// A reader that adds an LF after each byte 3 of the underlying reader. The byte that Ctrl-C types
+/// therefore ends a line, and is the last byte of that line. Reads one byte at a time.
 #[derive(Drop)]
 pub struct Breaking<R> {
     reader: R,
@@ -32,7 +32,7 @@ pub struct Breaking<R> {
 }
 
 impl<R: Read> Breaking<R> {
-    /// Wraps the reader below. Nothing has been read yet.
+    /// Wraps a reader from which nothing has been read yet.
     pub fn new(reader: R) -> Breaking<R>
         ensures { breaks_left R.remaining result ≡ option_map broken (R.remaining reader) }
     {
@@ -46,8 +46,8 @@ impl<R: Read> Breaking<R> {
 impl<R: Read> Read for Breaking<R> {
     ghost remaining = { breaks_left R.remaining };
 
-    /// Reads at most one byte: an LF after a byte 3, and otherwise the next byte of the reader
-    /// below. The errors are those of that reader.
+    /// Reads at most one byte, which is an LF after a byte 3, and otherwise the next byte of the
+    /// underlying reader. The errors are those of that reader.
     fn read(&mut self, buf: &mut [u8]) -> io::Result<usize> {
         if buf.len() == 0 {
             return Ok(0);

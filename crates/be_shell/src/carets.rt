@@ -1,10 +1,10 @@
-//! Shows a query with an error on standard error, with a caret under the place of the error.
+//! Shows a query that has an error on standard error, with a caret under the position of the error.
 use be_script_language::{Request, read_line};
 use std::alloc::{AllocError, Global};
 use std::io::Eprint;
 use unicode_width::UnicodeWidthChar;
 
-/// The number at the front, or 0.
+/// Returns the number at the start of the text, or 0.
 fn number_at(text: &[u8]) -> usize {
     let mut number: usize = 0;
     for byte in text {
@@ -18,7 +18,7 @@ fn number_at(text: &[u8]) -> usize {
     number
 }
 
-/// The place of the query's error that the reply reports.
+/// Returns the position of the query error that the reply reports.
 pub(crate) fn fault_at(reply: &[u8]) -> Option<usize> {
     if let Some(number) = reply.strip_prefix(b"refused 12 Syntax ".as_slice()) {
         return Some(number_at(number));
@@ -27,7 +27,7 @@ pub(crate) fn fault_at(reply: &[u8]) -> Option<usize> {
     Some(number_at(number))
 }
 
-/// The text as it is shown, and as many spaces as it has columns before the byte at this offset.
+/// Returns the text as it is shown, and one space for each column before the byte at this offset.
 fn under(alloc: Global, text: &str, at: usize) -> Result<(String, String), AllocError> {
     let mut shown = String::new(alloc);
     let mut spaces = String::new(alloc);
@@ -52,7 +52,7 @@ fn under(alloc: Global, text: &str, at: usize) -> Result<(String, String), Alloc
     Ok((shown, spaces))
 }
 
-/// The text of the query in a line, if there is one.
+/// Returns the text of the query in a line, if there is one.
 fn query_text(alloc: Global, line: &[u8]) -> Option<String> {
     match read_line(alloc, line) {
         Ok(Request::Query(text)) => Some(text),
@@ -63,7 +63,7 @@ fn query_text(alloc: Global, line: &[u8]) -> Option<String> {
     }
 }
 
-/// Shows a query with a caret under the place of its error.
+/// Shows a query with a caret under the position of its error.
 pub(crate) fn point_at<R: Eprint>(rt: &R, alloc: Global, line: &[u8], at: usize) {
     let Some(text) = query_text(alloc, line) else {
         return;

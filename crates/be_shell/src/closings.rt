@@ -16,7 +16,8 @@ use be_script_runner::{
 };
 use std::alloc::Global;
 
-/// Talks with one peer to its end, and then with the other. A fault ends both conversations.
+/// Talks with the first peer until it has no more lines, and then with the second. A fault ends
+/// both conversations.
 fn converse_with_both<S: Server, F: Peer, P: Peer>(
     alloc: Global,
     server: &mut S,
@@ -38,9 +39,9 @@ fn converse_with_both<S: Server, F: Peer, P: Peer>(
     converse(alloc, server, client, peer)
 }
 
-/// Talks as [`crate::shell`] does, and also returns the store's journal. If a fault ends the
-/// conversations, the journal has what was accepted until then. It is `None` if no store was
-/// opened, or if there was no memory to close it.
+/// Does what [`crate::shell`] does, but also returns the store's journal. If a fault ends the
+/// conversations, the journal has what was accepted before that. The journal is `None` if no store
+/// was opened, or if there was no memory to close it.
 pub fn shell_and_close<F: Peer, P: Peer>(
     alloc: Global,
     first: &mut F,

@@ -1,4 +1,5 @@
-//! Conversations: a line is heard, its reply is said and flushed, and then the next line is heard.
+//! Conversations, in which a line is read, its reply is written and flushed, and then the next line
+//! is read.
 ghost use Rattle.std.specs.Prelude.{◌≡◌, ◌≤◌, ℕ, List, [], ◌∷◌, length, IfOk, IfErr, OnOk};
 ghost use Rattle.std.specs.String.{string_bytes};
 ghost use Rattle.be_script_language.specs.View.{request_of};
@@ -14,7 +15,7 @@ use be_script_language::{Request, read_line, reply_text};
 use be_script_runner::{Client, RunFault, Server, answer};
 use std::alloc::{AllocError, Global};
 
-/// What a line asks for.
+/// Returns what a line asks for.
 fn request_in(alloc: Global, line: &Line) -> Result<Request, AllocError>
     ensures { IfOk result (λ request. request_of request
         ≡ spec.asked_by (spec.line_heard line.now)) }
@@ -50,7 +51,7 @@ fn reply_to<S: Server>(
     }
 }
 
-/// Says a reply and flushes it.
+/// Writes a reply and flushes it.
 fn send<P: Peer>(peer: &mut P, reply: &[u8]) -> Result<(), RunFault>
     ensures reported { OnOk result (spec.Happens P.does peer.old
         (spec.says reply.now ∷ spec.flushes ∷ []) peer.new) }
@@ -63,7 +64,7 @@ fn send<P: Peer>(peer: &mut P, reply: &[u8]) -> Result<(), RunFault>
     Ok(())
 }
 
-/// Runs a line that was heard, says its reply and flushes it.
+/// Runs a line that was read, then writes and flushes its reply.
 fn serve_line<S: Server, P: Peer>(
     alloc: Global,
     server: &mut S,
@@ -103,7 +104,7 @@ fn hand_state<S: Server, P: Peer>(server: &mut S, peer: &mut P)
     }
 }
 
-/// Hears a line, runs it, says its reply and flushes it. It returns false if there are no more
+/// Reads a line, runs it, then writes and flushes its reply. Returns `false` if there are no more
 /// lines.
 fn exchange<S: Server, P: Peer>(
     alloc: Global,
@@ -130,13 +131,13 @@ fn exchange<S: Server, P: Peer>(
 
 /// Talks with a peer until there are no more lines, or until a fault.
 ///
-/// Each line is run before its reply is said, and the reply is flushed before the next line is
-/// heard. The client's open batch and live query continue, and stay open afterwards, so the
+/// Each line is run before its reply is written, and the reply is flushed before the next line is
+/// read. The client's open batch and live query stay open between lines and afterwards, so the
 /// conversation can continue with another peer.
 ///
-/// After a fault, everything before it has been said, and possibly the front of the reply that it
-/// interrupted. After `Memory`, the line may have been run or not. `Read` is also returned after
-/// 2^64 - 1 lines.
+/// After a fault, all earlier replies have been written, and the reply that the fault interrupted
+/// may have been written in part. After `Memory`, the line may or may not have been run. `Read` is
+/// also returned after 2^64 - 1 lines.
 pub fn converse<S: Server, P: Peer>(
     alloc: Global,
     server: &mut S,

@@ -10,10 +10,10 @@ use be_script_runner::{RunFault, put};
 use std::alloc::Global;
 use std::io::{Read, Write};
 
-/// The most bytes of a line that are kept, not counting its LF.
+/// The maximum number of bytes of a line that are kept, not counting its LF.
 const MAX_LINE: usize = 1 << 16;
 
-/// The next byte, or `None` at the end.
+/// Returns the next byte, or `None` at the end.
 fn read_byte<R: Read>(reader: &mut R) -> Result<Option<u8>, RunFault>
     ensures byte { IfOk result (λ next. TakesByte (R.remaining reader.old) (R.remaining reader.new)
         next) }
@@ -27,7 +27,7 @@ fn read_byte<R: Read>(reader: &mut R) -> Result<Option<u8>, RunFault>
     }
 }
 
-/// Keeps one more byte of a line, up to one more than a line may have. That last byte shows that
+/// Keeps one more byte of a line, up to one more than the maximum length. That last byte shows that
 /// the line is too long.
 fn keep(line: &mut Vec<u8>, byte: u8) -> Result<(), RunFault>
     ensures more { OnOk result (vec_len line.old ≤ 65536 → line.new.items ≡ line.old.items ++ byte
@@ -44,7 +44,7 @@ fn keep(line: &mut Vec<u8>, byte: u8) -> Result<(), RunFault>
     }
 }
 
-/// The line of which these bytes were kept.
+/// Returns the line of which these bytes were kept.
 fn line_of(kept: Vec<u8>) -> Line
     ensures short { vec_len kept ≤ 65536 → line_heard result ≡ short_line kept.items }
     ensures long { 65536 < vec_len kept → line_heard result ≡ long_line }
@@ -56,8 +56,8 @@ fn line_of(kept: Vec<u8>) -> Line
     }
 }
 
-/// The line after the last LF, of which these bytes were kept. An empty one doesn't count as a
-/// line.
+/// Returns the line after the last LF, of which these bytes were kept. If it is empty, it doesn't
+/// count as a line.
 fn last_line(kept: Vec<u8>) -> Option<Line>
     ensures none { vec_len kept ≡ 0 → hearing result ≡ ends }
     ensures short { 1 ≤ vec_len kept → vec_len kept ≤ 65536 → hearing result
@@ -71,8 +71,8 @@ fn last_line(kept: Vec<u8>) -> Option<Line>
     }
 }
 
-/// Reads to the next LF, or to the end. It keeps at most 65,537 bytes in memory, however long the
-/// line is. `Read` is also returned after 2^64 - 1 bytes without an LF.
+/// Reads to the next LF, or to the end. Keeps at most 65,537 bytes in memory, however long the line
+/// is. `Read` is also returned after 2^64 - 1 bytes without an LF.
 fn hear_line<R: Read>(alloc: Global, reader: &mut R) -> Result<Option<Line>, RunFault>
     ensures heard { IfOk result (λ next. Hears (R.remaining reader.old) (R.remaining reader.new)
         (hearing next)) }
@@ -97,8 +97,8 @@ fn hear_line<R: Read>(alloc: Global, reader: &mut R) -> Result<Option<Line>, Run
     Err(RunFault::Read)
 }
 
-/// A peer that hears lines from a reader, each up to its LF, and says replies to a writer. It reads
-/// one byte at a time, so wrap a file or a pipe in a `BufReader`. It doesn't prompt.
+/// A peer that reads lines from a reader, each up to its LF, and writes replies to a writer. It
+/// reads one byte at a time, so wrap a file or a pipe in a `BufReader`. It doesn't prompt.
 #[derive(Drop)]
 pub struct Ends<R, W> {
     reader: R,
@@ -106,7 +106,7 @@ pub struct Ends<R, W> {
 }
 
 impl<R: Read, W: Write> Ends<R, W> {
-    /// Makes a peer of this reader and this writer.
+    /// Creates a peer from this reader and this writer.
     pub fn new(reader: R, writer: W) -> Ends<R, W>
         ensures { (result.reader ≡ reader) × (result.writer ≡ writer) }
     {

@@ -1,4 +1,4 @@
-//! Shows control characters by their codes, so that no value can control the terminal.
+//! Shows control characters as codes, so that no value can control the terminal.
 ghost use Rattle.std.specs.Prelude.{◌≡◌, ◌<◌, ◌≤◌, ◌++◌, length, take, drop, IfSome, IfNone};
 ghost use Rattle.be_shell.specs.Escape as spec;
 
@@ -15,14 +15,15 @@ fn hex_digit(n: u8) -> u8
     if n < 10 { b'0' + n } else { 87 + n }
 }
 
-/// A code as `\x` and two hexadecimal digits.
+/// Returns a code in the form of `\x` and two hexadecimal digits.
 pub(crate) fn mark(code: u8) -> [u8; 4]
     ensures { result ≡ spec.mark code }
 {
     [b'\\', b'x', hex_digit(code / 16), hex_digit(code % 16)]
 }
 
-/// The code of the control character at the front, and what follows it.
+/// Returns the code of the control character at the start, and what follows it, or `None` if there
+/// is no control character at the start.
 pub(crate) fn control_at(bytes: &[u8]) -> Option<(u8, &[u8])>
     ensures some { IfSome result (λ found. spec.shown bytes.now ≡ spec.mark found.0
         ++ spec.shown found.1.now) }
@@ -40,7 +41,7 @@ pub(crate) fn control_at(bytes: &[u8]) -> Option<(u8, &[u8])>
     None
 }
 
-/// How many bytes at the front are shown as they are. The first byte is one of them.
+/// Returns how many bytes at the start are shown unchanged. The first byte must be one of them.
 pub(crate) fn plain_len(bytes: &[u8]) -> usize
     requires some { 1 ≤ length bytes.now }
     requires first { spec.KeepsFirst bytes.now }

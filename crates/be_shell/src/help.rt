@@ -1,11 +1,11 @@
-//! What a terminal writes to standard error. Whatever can't be written there, or needs memory that
-//! isn't available, is left out.
+//! Messages that a terminal writes to standard error. A message is omitted if it can't be written
+//! or if there is no memory for it.
 use crate::asides::{skip, split_word};
 use crate::carets::{fault_at, point_at};
 use std::alloc::Global;
 use std::io::Eprint;
 
-/// Each command, on one line.
+/// All commands, one per line.
 const HELP: &str = "\
 new                       make a node
 drop N                    remove a node
@@ -32,7 +32,7 @@ help                      list the commands; help COMMAND, one of them
 quit                      end the shell, as exit and the end of input do
 ";
 
-/// A command's line of help.
+/// Returns the help line of a command.
 fn usage_of(command: &[u8]) -> Option<&'static str> {
     for line in HELP.lines() {
         let (word, _) = split_word(line.as_bytes());
@@ -43,7 +43,7 @@ fn usage_of(command: &[u8]) -> Option<&'static str> {
     None
 }
 
-/// Writes to standard error how a command is used, or that there is no such command.
+/// Writes the usage of a command to standard error, or reports that there is no such command.
 pub(crate) fn print_usage<R: Eprint>(rt: &R, command: &[u8]) {
     let _ = match usage_of(command) {
         Some(usage) => eprintln!(rt; "{usage}"),
@@ -62,13 +62,13 @@ pub(crate) fn print_help<R: Eprint>(rt: &R, line: &[u8]) {
     }
 }
 
-/// Whether there is a hint for a reply.
+/// Returns whether there is a hint for a reply.
 pub(crate) fn wants_hint(reply: &[u8]) -> bool {
     reply == b"bad line\n".as_slice() || fault_at(reply).is_some()
 }
 
-/// Writes to standard error what a reply leaves out: how the command of a bad line is used, or
-/// where a query has its error.
+/// Writes to standard error what a reply doesn't say: the usage of the command in a bad line, or
+/// the position of the error in a query.
 pub(crate) fn hint<R: Eprint>(rt: &R, alloc: Global, line: &[u8], reply: &[u8]) {
     if reply == b"bad line\n".as_slice() {
         let (word, _) = split_word(skip(line));

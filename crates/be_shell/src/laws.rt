@@ -6,14 +6,14 @@ ghost use Rattle.be_script_runner.specs.Store.{Store};
 ghost use Rattle.be_shell.specs.Bytes.{AreShort, IsWhole, Known, known_do, knows};
 ghost use Rattle.be_shell.specs.Conversation.{Event, IsTalk, TalkedTo, all_short, said};
 
-/// What is said in a conversation is the output that its lines have in a script.
+/// A conversation writes the same output as its lines do in a script.
 pub fn talk_is_output()
     ensures { (s last : Session) (lines : List (List ℕ)) (talk : List Event)
         → IsTalk s (all_short lines) talk last → Outputs s lines last (said talk) }
 {}
 
-/// A conversation over a script's lines is an output of that script, and leaves the same store. It
-/// doesn't matter whether the empty line after a final LF is heard.
+/// A conversation over the lines of a script is an output of that script, and leaves the same
+/// store, whether or not the empty line after a final LF is read.
 pub fn talk_of_script_is_output()
     ensures whole { (store : Store) (script : List ℕ) (talk : List Event) (last : Session) →
         IsTalk (opening store) (all_short (lines_of script)) talk last
@@ -24,8 +24,8 @@ pub fn talk_of_script_is_output()
         → IsOutputTo store script last.store (said talk) }
 {}
 
-/// If the bytes are a script without long lines, a conversation over all of them says an output of
-/// that script. `run` writes an output of the same script.
+/// If the bytes are a script without long lines, a conversation over all of them writes an output
+/// of that script. `run` writes an output of the same script.
 pub fn talk_of_bytes_is_output()
     ensures { (store : Store) (script reported : List ℕ) (last : Session) (end : Known)
         → AreShort (lines_of script) →

@@ -1,15 +1,15 @@
-//! The shell: it keeps a store open and answers lines one by one.
+//! The shell, which keeps a store open and answers lines one by one.
 //!
-//! [`shell`] opens a store, and answers each line of a peer before it hears the next. A line's
-//! reply is what it would be in a script, by the same definition. [`Peer`] is a trait, so its
-//! contract fixes the order of hearing and saying for every peer.
+//! [`shell`] opens a store, and answers each line of a peer before it reads the next. The reply to
+//! a line is what it would be in a script, by the same definition. [`Peer`] is a trait, so its
+//! contract fixes the order of reading lines and writing replies for every peer.
 //!
 //! [`Ends`] is a peer made of a reader and a writer. [`Screen`] is a peer that shows control
-//! characters by their codes. [`Terminal`] is a peer that is prompted. [`Breaking`] is a reader in
-//! which Ctrl-C ends a line.
+//! characters as codes. [`Terminal`] is a peer that is prompted. [`Breaking`] is a reader in which
+//! Ctrl-C ends a line.
 //!
-//! The modules, from the bottom up: lines, peers, conversations, a reader and a writer as a peer,
-//! what is shown, terminals, and the shell.
+//! The modules, from the bottom up, cover lines, peers, conversations, a peer made of a reader and
+//! a writer, what is shown, terminals, and the shell.
 #![tactic(auto)]
 
 mod asides;

@@ -1,10 +1,10 @@
-//! A line as it is heard.
+//! Lines as the shell reads them.
 
-/// A line as it is heard.
+/// A line as the shell reads it.
 #[derive(Drop)]
 pub enum Line {
-    /// Its bytes without the LF: at most 65,536, including a CR at the end.
+    /// The bytes of the line without the LF: at most 65,536, including a CR at the end.
     Short(Vec<u8>),
-    /// It has more bytes than that. None of them are kept.
+    /// The line has more bytes than that. None of them are kept.
     Long,
 }

@@ -4,14 +4,14 @@ use std::fs::{self, File, OpenFile};
 use std::io::{self, Eprint, ErrorKind, Write};
 use std::rt::Files;
 
-/// Writes a text to a file, and waits until it is on the disk.
+/// Writes a text to a file, and waits until it is on disk.
 fn write_whole<R: Files>(mut file: R::File, text: &str) -> io::Result<()> {
     file.write_all(text.as_bytes())?;
     file.flush()?;
     file.sync_all()
 }
 
-/// Writes a text into a new file. If it can't be written whole, the file is removed.
+/// Writes a text to a new file. If the text can't be written completely, the file is removed.
 fn write_new<R: Files>(rt: &R, name: &str, text: &str) -> io::Result<()> {
     let file = File::create_new(rt, name)?;
     let written = write_whole::<R>(file, text);
@@ -21,8 +21,8 @@ fn write_new<R: Files>(rt: &R, name: &str, text: &str) -> io::Result<()> {
     written
 }
 
-/// Gives a draft its final name, if no file has that name. If the file system has no links, the
-/// draft is renamed.
+/// Gives a draft its final name, unless a file with that name exists. If the file system doesn't
+/// support links, the draft is renamed.
 fn settle<R: Files>(rt: &R, draft: &str, name: &str) -> io::Result<()> {
     match fs::hard_link(rt, draft, name) {
         Ok(()) => fs::remove_file(rt, draft),
@@ -31,7 +31,7 @@ fn settle<R: Files>(rt: &R, draft: &str, name: &str) -> io::Result<()> {
     }
 }
 
-/// Writes a text under another name first, so that the file is either whole or not there.
+/// Writes a text under another name first, so that the file is either complete or doesn't exist.
 fn save_as<R: Files>(rt: &R, draft: &str, name: &str, text: &str) -> io::Result<()> {
     if fs::exists(rt, name)? {
         return Err(io::Error::from(ErrorKind::AlreadyExists));
@@ -44,7 +44,8 @@ fn save_as<R: Files>(rt: &R, draft: &str, name: &str, text: &str) -> io::Result<
     settled
 }
 
-/// Saves a script in a file with this name. It reports on standard error that it did, or why not.
+/// Saves a script in a file with this name. Reports success, or the reason for failure, on standard
+/// error.
 pub(crate) fn save<R: Files + Eprint>(rt: &R, alloc: Global, name: &str, script: Option<&str>) {
     let (Some(text), Ok(draft)) = (script, format!(in alloc; "{name}.part")) else {
         let _ = eprintln!(rt; "not saved: out of memory");

@@ -1,4 +1,4 @@
-//! A peer that shows control characters by their codes.
+//! A peer that shows control characters as codes.
 ghost use Rattle.std.specs.Prelude.{◌≡◌, ◌<◌, ◌≤◌, ◌++◌, ℕ, List, length, IfOk, IfErr, OnOk, OnErr};
 ghost use Rattle.std.specs.Prelude.{false};
 ghost use Rattle.be_script_runner.specs.Run.{IsFrontOf};
@@ -12,7 +12,7 @@ use crate::peers::Peer;
 use be_script_runner::RunFault;
 use std::alloc::Global;
 
-/// Says the front of a text as it is shown, and returns the rest.
+/// Writes the first part of a text as it is shown, and returns the rest.
 fn say_front<'a, P: Peer>(peer: &mut P, bytes: &'a [u8]) -> Result<&'a [u8], RunFault>
     requires some { 1 ≤ length bytes.now }
     ensures said { IfOk result (λ rest. (piece : List ℕ) × P.does peer.old (says piece) peer.new
@@ -31,7 +31,7 @@ fn say_front<'a, P: Peer>(peer: &mut P, bytes: &'a [u8]) -> Result<&'a [u8], Run
     Ok(rest)
 }
 
-/// Says a whole text as it is shown.
+/// Writes a whole text as it is shown.
 fn say_shown<P: Peer>(peer: &mut P, bytes: &[u8]) -> Result<(), RunFault>
     ensures said { OnOk result (SaysAll P.does peer.old (shown bytes.now) peer.new) }
     ensures cut { OnErr result ((front : List ℕ) × IsFrontOf (shown bytes.now) front
@@ -48,9 +48,9 @@ fn say_shown<P: Peer>(peer: &mut P, bytes: &[u8]) -> Result<(), RunFault>
     Ok(())
 }
 
-/// A peer that says replies with control characters, except LF, written as `\x` and the two
-/// hexadecimal digits of their code. So a terminal shows them, and no value can control it. It
-/// allocates nothing. After a failed write, a front of what is shown has been said.
+/// A peer that writes replies with each control character except LF as `\x` and the two hexadecimal
+/// digits of its code. The terminal then shows these characters, and no value can control it. No
+/// memory is allocated. After a failed write, the text may have been written only in part.
 #[derive(Drop)]
 pub struct Screen<P> {
     peer: P,
@@ -58,7 +58,7 @@ pub struct Screen<P> {
 }
 
 impl<P: Peer> Screen<P> {
-    /// Wraps a peer. No write has failed yet.
+    /// Wraps a peer to which no write has failed yet.
     pub fn new(peer: P) -> Screen<P>
         ensures { (result.peer ≡ peer) × (result.is_torn ≡ false) }
     {

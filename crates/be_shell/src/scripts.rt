@@ -5,10 +5,10 @@ use std::io::{self, Eprint, Read};
 use std::rt::Files;
 use std::{fs, str};
 
-/// The most bytes of a line that are kept.
+/// The maximum number of bytes of a line that are kept.
 const MAX_LINE: usize = 1 << 16;
 
-/// A file that was read whole, with the place of its next line.
+/// A file that was read completely, with the position of its next line.
 #[derive(Drop)]
 pub(crate) struct Script {
     name: String,
@@ -19,8 +19,8 @@ pub(crate) struct Script {
 }
 
 impl Script {
-    /// The next line without its LF. What follows the last LF counts as a line only if it isn't
-    /// empty.
+    /// Takes the next line, without its LF. Whatever follows the last LF counts as a line only if
+    /// it isn't empty.
     fn take_line(&mut self) -> Option<&[u8]> {
         if self.next >= self.text.len() {
             return None;
@@ -35,7 +35,7 @@ impl Script {
         Some(line)
     }
 
-    /// Writes the file and number of the last line taken to standard error.
+    /// Writes the file's name and the number of the line that was last taken to standard error.
     pub(crate) fn write_place<R: Eprint>(&self, rt: &R) {
         let (name, number) = (self.name.as_str(), self.number);
         let _ = eprint!(rt; "{name}:{number}: ");
@@ -48,7 +48,7 @@ fn owned(alloc: Global, bytes: &[u8]) -> Result<Vec<u8>, AllocError> {
     Ok(copy)
 }
 
-/// The next line of a script, or `None` at its end.
+/// Returns the next line of a script, or `None` at its end.
 pub(crate) fn next_line(alloc: Global, script: &mut Script) -> Result<Option<Line>, AllocError> {
     let Some(line) = script.take_line() else {
         return Ok(None);
@@ -77,7 +77,7 @@ fn script_of<R: Files>(rt: &R, alloc: Global, name: &str) -> io::Result<Script> 
     })
 }
 
-/// Opens the file with this name, or reports on standard error that it can't.
+/// Opens the file with this name, or reports on standard error that it can't be opened.
 pub(crate) fn open_script<R: Files + Eprint>(rt: &R, alloc: Global, name: &[u8]) -> Option<Script> {
     let Ok(name) = str::from_utf8(name) else {
         let _ = eprintln!(rt; "cannot read it: its name isn't UTF-8");

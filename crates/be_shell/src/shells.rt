@@ -1,4 +1,4 @@
-//! The shell: conversations about a store of its own.
+//! The shell, which holds conversations about a store of its own.
 ghost use Rattle.std.specs.Prelude.{◌≡◌, ◌↔◌, IfErr, OnOk, Err};
 ghost use Rattle.be_script_runner.specs.Output.{Session, opening};
 ghost use Rattle.be_script_runner.specs.Store.{start};
@@ -11,12 +11,12 @@ use crate::peers::Peer;
 use be_script_runner::{Client, Limits, PassServer, RunFault, open_for_one};
 use std::alloc::Global;
 
-/// Opens an empty store of its own, with the limits' pages and commits and one pass. It talks with
-/// one peer to its end, such as a file, and then with the other.
+/// Opens an empty store with the pages and commits of the limits and with one pass. Talks with the
+/// first peer, such as a file, until it has no more lines, and then with the second.
 ///
-/// The limits are checked first. Then the store is opened, before anything is heard. The second
-/// conversation continues the session that the first one left: its store, its pin, an open batch
-/// and the live query. Any fault ends both conversations.
+/// The limits are checked first. The store is then opened before anything is read. The second
+/// conversation continues the session of the first, with its store, its pin, any open batch and the
+/// live query. A fault ends both conversations.
 pub fn shell<F: Peer, P: Peer>(
     alloc: Global,
     first: &mut F,

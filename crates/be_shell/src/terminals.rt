@@ -16,7 +16,7 @@ use std::io::Eprint;
 use std::rt::Files;
 use std::str;
 
-/// What a typed line asks of the terminal.
+/// Returns what a typed line asks of the terminal.
 fn typed_in(line: &Line) -> Aside
     ensures { result ≡ spec.asks_of (line_heard line.now) }
 {
@@ -26,7 +26,7 @@ fn typed_in(line: &Line) -> Aside
     }
 }
 
-/// What a line of a file asks of the terminal.
+/// Returns what a line of a file asks of the terminal.
 fn aside_in(line: &Line) -> Aside {
     match line {
         Line::Short(bytes) => aside_of(bytes.as_slice()),
@@ -34,8 +34,8 @@ fn aside_in(line: &Line) -> Aside {
     }
 }
 
-/// A line as the shell hears it: the line itself if it is for the store; otherwise an empty line,
-/// or the end.
+/// Returns a line as the shell sees it. If the line is for the store, this is the line itself.
+/// Otherwise it is an empty line, or the end.
 fn passed_on(alloc: Global, line: Line, aside: Aside) -> Option<Line>
     ensures { hearing result ≡ spec.passed_on (line_heard line) aside }
 {
@@ -46,7 +46,7 @@ fn passed_on(alloc: Global, line: Line, aside: Aside) -> Option<Line>
     }
 }
 
-/// The name after a line's command.
+/// Returns the name after the command of a line.
 fn name_in(line: &[u8]) -> &[u8] {
     let (_, beyond) = split_word(skip(line));
     skip(beyond).trim_ascii_end()
@@ -62,7 +62,7 @@ fn open_named<R: Files + Eprint>(rt: &R, alloc: Global, line: &[u8]) -> Option<S
     open_script(rt, alloc, name)
 }
 
-/// Answers a line that is for the terminal, if a text on standard error is the whole answer.
+/// Answers a line that is for the terminal, if the answer is only a text on standard error.
 fn answer_aside<R: Eprint>(rt: &R, line: &Line, aside: Aside) {
     let _ = match (aside, line) {
         (Aside::Cancelled, _) => eprintln!(rt;),
@@ -96,7 +96,7 @@ fn answer_typed<R: Files + Eprint>(
     }
 }
 
-/// The name of the file that a `save` line names, if the line is one.
+/// Returns the file's name in a `save` line, or `None` for any other line.
 fn saved_name<R: Eprint>(rt: &R, alloc: Global, line: &Line, aside: Aside) -> Option<String> {
     let (Aside::Save, Line::Short(bytes)) = (aside, line) else {
         return None;
@@ -114,7 +114,7 @@ fn saved_name<R: Eprint>(rt: &R, alloc: Global, line: &Line, aside: Aside) -> Op
     }
 }
 
-/// A line of a file as the shell hears it.
+/// Returns a line of a file as the shell sees it.
 fn answer_read<R: Eprint>(rt: &R, alloc: Global, line: Line) -> Option<Line> {
     let aside = aside_in(&line);
     if matches!(aside, Aside::Read | Aside::Save) {
@@ -124,8 +124,8 @@ fn answer_read<R: Eprint>(rt: &R, alloc: Global, line: Line) -> Option<Line> {
     passed_on(alloc, line, aside)
 }
 
-/// The next line of the file that is being read, as the shell hears it. It is `None` once the file
-/// has no more lines; then no file is being read.
+/// Returns the next line of the file that is being read, as the shell sees it. Returns `None` if no
+/// file is being read or if its lines have ended, after which no file is being read.
 fn hear_script<R: Eprint>(
     rt: &R,
     alloc: Global,
@@ -152,7 +152,7 @@ fn hear_script<R: Eprint>(
     }
 }
 
-/// A copy of a line, for hints. It is also `None` if there is no memory for it.
+/// Returns a copy of a line, for hints, or `None` if there is no memory for it.
 fn remembered(alloc: Global, heard: &Option<Line>) -> Option<Vec<u8>> {
     let Some(Line::Short(bytes)) = heard else {
         return None;
@@ -164,7 +164,7 @@ fn remembered(alloc: Global, heard: &Option<Line>) -> Option<Vec<u8>> {
     }
 }
 
-/// Prompts on standard error.
+/// Writes the prompt to standard error.
 fn ask<R: Eprint>(rt: &R, is_batch_open: bool) {
     let prompt = if is_batch_open {
         "batch> "
@@ -174,8 +174,8 @@ fn ask<R: Eprint>(rt: &R, is_batch_open: bool) {
     let _ = eprint!(rt; "{prompt}");
 }
 
-/// Writes to standard error the place of a file's last line, if a hint follows. A query that is
-/// shown with a caret begins a line of its own.
+/// Writes the position of a file's last line to standard error if a hint follows. A query that is
+/// shown with a caret starts on a line of its own.
 fn print_place<R: Eprint>(rt: &R, script: &Script, reply: &[u8]) {
     if !wants_hint(reply) {
         return;
@@ -186,25 +186,26 @@ fn print_place<R: Eprint>(rt: &R, script: &Script, reply: &[u8]) {
     }
 }
 
-/// A peer at a terminal, who is asked for each line by a prompt on standard error: `batch> ` while
-/// a batch is open, otherwise `bestore> `. Lines for the terminal itself ([`Aside`]) are answered
-/// there, and are heard as empty lines; `quit` and `exit` end the lines. The lines of a file that
-/// `read` names are heard in place of typed ones, up to its end. After a reply to a line that is
-/// bad or has a bad query, a hint is written. What can't be written to standard error is left out.
+/// A peer at a terminal, which asks for each line with a prompt on standard error: `batch> ` while
+/// a batch is open, and otherwise `bestore> `. Lines for the terminal itself ([`Aside`]) are
+/// answered by the terminal, and the shell sees them as empty lines. `quit` and `exit` end the
+/// input. The lines of a file that `read` names replace typed lines until the file ends. A hint
+/// follows the reply to a line that is bad or has a bad query. Whatever can't be written to
+/// standard error is omitted.
 #[derive(Drop)]
 pub struct Terminal<'a, R, P> {
     rt: &'a R,
     alloc: Global,
     peer: P,
     script: Option<Script>,
-    /// The last line heard, for hints.
+    /// The last line that was read, for hints.
     heard: Option<Vec<u8>>,
     /// The file in which the last line asks to save the store.
     saves_to: Option<String>,
 }
 
 impl<'a, R: Files + Eprint, P: Peer> Terminal<'a, R, P> {
-    /// Makes a terminal of a peer. It reads no file yet.
+    /// Creates a terminal from a peer. It doesn't read a file yet.
     pub fn new(rt: &'a R, alloc: Global, peer: P) -> Terminal<'a, R, P>
         ensures { (result.peer ≡ peer) × (is_some result.script ≡ false) }
     {
@@ -218,8 +219,8 @@ impl<'a, R: Files + Eprint, P: Peer> Terminal<'a, R, P> {
         }
     }
 
-    /// Writes to standard error what the reply to the last line leaves out. If the line came from a
-    /// file, the line's place comes first.
+    /// Writes to standard error what the reply to the last line doesn't say. If the line came from
+    /// a file, its position is written first.
     fn print_hint(&self, reply: &[u8]) {
         let Some(heard) = &self.heard else {
             return;
@@ -238,9 +239,9 @@ impl<'a, R: Files + Eprint, P: Peer> Peer for Terminal<'a, R, P> {
     ghost does = { λ old event new. asks P.does old.peer (is_some old.script) event new.peer
         (is_some new.script) };
 
-    /// Hears the next line of the file that is being read. Otherwise it prompts, and hears a line
-    /// from the peer below. It answers a line for the terminal itself. The errors are those of the
-    /// peer below.
+    /// Reads the next line of the file that is being read. If no file is being read, prompts and
+    /// reads a line from the underlying peer. Answers a line for the terminal itself. The errors
+    /// are those of the underlying peer.
     fn hear(&mut self, alloc: Global, is_batch_open: bool) -> Result<Option<Line>, RunFault> {
         self.saves_to = None;
         if let Some(heard) = hear_script(self.rt, alloc, &mut self.script) {

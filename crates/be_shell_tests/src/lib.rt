@@ -1,6 +1,6 @@
-//! Conversations with a shell, by public calls.
+//! Conversations with a shell, tested through public calls.
 //!
-//! They have a crate of their own, so that be_shell isn't proved a second time with them.
+//! The tests are in a separate crate, so that checking them doesn't prove be_shell a second time.
 #![tactic(auto)]
 
 #[cfg(test)]

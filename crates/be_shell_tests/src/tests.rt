@@ -1,5 +1,5 @@
-//! Conversations: with a peer that checks the order of calls and fails at each of them, and with a
-//! reader and a writer.
+//! Conversations with a peer that checks the order of calls and fails at each of them in turn, and
+//! with a reader and a writer.
 ghost use Rattle.std.specs.Prelude.{⊤};
 
 use be_script_runner::{Limits, RunFault};
@@ -18,7 +18,7 @@ const LIMITS: Limits = Limits {
 /// The number of rows.
 const ROWS: usize = 8;
 
-/// A line with its reply. The batch stays open between rows.
+/// A line and its reply. The batch stays open between rows.
 fn row(place: usize) -> Option<(&'static str, &'static str)> {
     match place {
         0 => Some(("new", "node 1\n")),
@@ -33,7 +33,7 @@ fn row(place: usize) -> Option<(&'static str, &'static str)> {
     }
 }
 
-/// What a peer waits for.
+/// The call that a peer expects next.
 #[derive(Clone, Copy, PartialEq, Eq)]
 enum Awaits {
     Hear,
@@ -41,8 +41,8 @@ enum Awaits {
     Flush,
 }
 
-/// A peer that has the rows' lines, and checks that calls come in order and each reply is the
-/// row's. It fails at one call, if there are that many.
+/// A peer that returns the rows' lines, and checks that calls come in order and that each reply is
+/// the row's. It fails at one call, if the conversation has that many calls.
 #[derive(Drop)]
 struct Strict {
     row: usize,
@@ -61,7 +61,7 @@ impl Strict {
         }
     }
 
-    /// Counts a call, and returns whether it should fail.
+    /// Counts a call, and returns whether it is the one that fails.
     fn fails_at(&mut self, call: Awaits) -> bool {
         if self.awaits != call {
             self.is_in_order = false;
@@ -83,8 +83,8 @@ fn line_of(alloc: Global, text: &str) -> Result<Line, AllocError> {
 impl Peer for Strict {
     ghost does = { λ _ _ _. ⊤ };
 
-    /// Returns the next row's line, or `None` after the last one. It fails with `Read` if it
-    /// should, or if the call is out of order.
+    /// Returns the next row's line, or `None` after the last row. Returns `Read` if this call is
+    /// the one that fails, or if it is out of order.
     fn hear(&mut self, alloc: Global, _is_batch_open: bool) -> Result<Option<Line>, RunFault> {
         if self.fails_at(Awaits::Hear) {
             return Err(RunFault::Read);
@@ -123,18 +123,18 @@ impl Peer for Strict {
     }
 }
 
-/// A conversation with this peer only.
+/// A conversation with only this peer.
 fn talk(alloc: Global, peer: &mut Strict) -> Result<(), RunFault> {
     let mut written: Vec<u8> = Vec::new(alloc);
     let mut nothing = Ends::new(b"".as_slice(), &mut written);
     shell(alloc, &mut nothing, peer, LIMITS)
 }
 
-/// The number of calls in a whole conversation: three for each line, and one that hears the end.
+/// The number of calls in a whole conversation: three for each line, and one that reaches the end.
 const CALLS: usize = 3 * ROWS + 1;
 
-/// Whether a conversation that fails at this call ends there with the call's error, with all calls
-/// before it in order. If no call fails, whether it reaches its end.
+/// Whether a conversation that fails at this call ends there with the call's error, after all
+/// earlier calls came in order. If no call fails, whether the conversation reaches its end.
 fn ends_at(alloc: Global, call: usize) -> bool {
     let mut peer = Strict::new(call);
     let ended = talk(alloc, &mut peer);
@@ -147,7 +147,7 @@ fn ends_at(alloc: Global, call: usize) -> bool {
     is_right && peer.is_in_order && peer.calls_left == 0 && peer.row == call / 3
 }
 
-/// A peer that fails at each of its calls, and one that never fails.
+/// A peer that fails at each of its calls in turn, and a peer that never fails.
 #[test]
 fn failing_peer(rt: HostRuntime) -> Result<(), Fail> {
     for call in 0..CALLS + 1 {
@@ -158,7 +158,7 @@ fn failing_peer(rt: HostRuntime) -> Result<(), Fail> {
     Ok(())
 }
 
-/// What a shell says to a reader's bytes, after those of a first reader.
+/// What a shell says in reply to the bytes of a reader, after those of a first reader.
 fn said_to(alloc: Global, first: &[u8], bytes: &[u8]) -> Result<Vec<u8>, RunFault> {
     let mut early: Vec<u8> = Vec::new(alloc);
     let mut late: Vec<u8> = Vec::new(alloc);
@@ -174,7 +174,7 @@ fn said_to(alloc: Global, first: &[u8], bytes: &[u8]) -> Result<Vec<u8>, RunFaul
     }
 }
 
-/// Fails unless a shell says this. If memory ran out, it is tried again.
+/// Fails unless a shell says this. If memory ran out, the conversation is repeated.
 fn check(alloc: Global, first: &[u8], bytes: &[u8], replies: &str) -> Result<(), Fail> {
     for _ in 0..2 {
         if let Ok(said) = said_to(alloc, first, bytes) {
@@ -198,7 +198,7 @@ fn ends_of_lines(rt: HostRuntime) -> Result<(), Fail> {
 }
 
 /// The end of the first peer's last line, and a batch that continues from the first peer to the
-/// other.
+/// second.
 #[test]
 fn two_peers(rt: HostRuntime) -> Result<(), Fail> {
     let alloc = rt.alloc();
@@ -207,7 +207,7 @@ fn two_peers(rt: HostRuntime) -> Result<(), Fail> {
     check(alloc, b"begin\nnew\n", b"commit\n", replies)
 }
 
-/// What a screen shows for the bytes of a reader in which Ctrl-C ends a line.
+/// What a screen shows in reply to the bytes of a reader for which Ctrl-C ends a line.
 fn shown_to(alloc: Global, bytes: &[u8]) -> Result<Vec<u8>, RunFault> {
     let mut early: Vec<u8> = Vec::new(alloc);
     let mut late: Vec<u8> = Vec::new(alloc);
@@ -217,7 +217,7 @@ fn shown_to(alloc: Global, bytes: &[u8]) -> Result<Vec<u8>, RunFault> {
     Ok(late)
 }
 
-/// Fails unless this is shown. If memory ran out, it is tried again.
+/// Fails unless the screen shows this. If memory ran out, the conversation is repeated.
 fn check_shown(alloc: Global, bytes: &[u8], replies: &str) -> Result<(), Fail> {
     for _ in 0..2 {
         if let Ok(shown) = shown_to(alloc, bytes) {
@@ -229,7 +229,8 @@ fn check_shown(alloc: Global, bytes: &[u8], replies: &str) -> Result<(), Fail> {
     Err(Fail::new(replies))
 }
 
-/// Control characters of one byte and of two, next to characters that begin with the same byte.
+/// Control characters of one byte and of two bytes, and other characters that begin with the same
+/// byte.
 #[test]
 fn controls(rt: HostRuntime) -> Result<(), Fail> {
     check_shown(
@@ -239,7 +240,7 @@ fn controls(rt: HostRuntime) -> Result<(), Fail> {
     )
 }
 
-/// The byte of Ctrl-C ends a line, and belongs to it.
+/// The byte of Ctrl-C ends a line, and is part of it.
 #[test]
 fn cancelled_lines(rt: HostRuntime) -> Result<(), Fail> {
     check_shown(
@@ -249,21 +250,22 @@ fn cancelled_lines(rt: HostRuntime) -> Result<(), Fail> {
     )
 }
 
-/// A comment of `len` bytes, before a line that has a reply.
+/// A comment of `len` bytes, followed by a line that has a reply.
 fn commented(alloc: Global, len: usize) -> Result<Vec<u8>, AllocError> {
     let mut bytes: Vec<u8> = vec![in alloc; b'#'; len]?;
     bytes.extend_from_slice(b"\nnew\n")?;
     Ok(bytes)
 }
 
-/// A reply is said whole, however long it is.
+/// A reply is said in one piece, however long it is.
 #[test]
 fn longest_replies(rt: HostRuntime) -> Result<(), Fail> {
     let (script, replies) = longest_list(rt.alloc())?;
     check(rt.alloc(), b"", script.as_bytes(), &replies)
 }
 
-/// Fails unless a shell says this to a comment of this many bytes, before a line that has a reply.
+/// Fails unless a shell says this in reply to a comment of this many bytes that is followed by a
+/// line with a reply.
 fn check_comment(alloc: Global, len: usize, replies: &str) -> Result<(), Fail> {
     let bytes = match commented(alloc, len) {
         Ok(bytes) => bytes,
@@ -272,7 +274,7 @@ fn check_comment(alloc: Global, len: usize, replies: &str) -> Result<(), Fail> {
     check(alloc, b"", &bytes, replies)
 }
 
-/// A line of the maximum length, and longer ones.
+/// A line of the maximum length, and longer lines.
 #[test]
 fn long_lines(rt: HostRuntime) -> Result<(), Fail> {
     check_comment(rt.alloc(), 65_536, "node 1\n")?;
@@ -280,8 +282,7 @@ fn long_lines(rt: HostRuntime) -> Result<(), Fail> {
     check_comment(rt.alloc(), 1_100_000, "bad line\nnode 1\n")
 }
 
-/// A writer that holds the bytes until a flush sends them, and fails at each flush after the first
-/// few.
+/// A writer that holds bytes until a flush sends them, and fails at each flush after the first few.
 #[derive(Drop)]
 struct Sending {
     held: u64,
@@ -306,8 +307,8 @@ impl Write for Sending {
     }
 }
 
-/// Whether a conversation of three lines ends with `Write` after `most` replies, if the writer
-/// sends only that many. If it sends each, whether the conversation succeeds.
+/// Whether a conversation of three lines ends with `Write` after `most` replies if the writer sends
+/// only that many, and succeeds if the writer sends all of them.
 fn sends(alloc: Global, most: u64) -> bool {
     let mut early: Vec<u8> = Vec::new(alloc);
     let mut late = Sending {

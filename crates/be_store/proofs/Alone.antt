@@ -1,4 +1,4 @@
--- A store's only pass has written all that it has seen.
+-- A store's only pass has written everything that it has seen.
 use Rattle.std.proofs.Common.{◌≡◌, inl, inr, ℕ, ◌+◌, List, [], ◌∷◌, ◌++◌, length, Ok, Some, append_assoc, refl, sym, ap, ◌∙◌, subst, arith, length-append}
 use Rattle.std.proofs.lemmas.List.{append-nil, length-map}
 use Rattle.be_core.specs.declared.event.Phase.{Phase}
@@ -25,7 +25,7 @@ use Rattle.be_store.specs.History.{Accepts, IsReason, IsRefusedAt, Pins}
 use Rattle.be_store.specs.Passes.{IsBetweenCalls, volume_seen}
 use Rattle.be_store.proofs.Applied.{entries_append, nothing_more}
 
--- if all entries are by passes below 1, they are by the pass 0
+-- If all entries are by passes below 1, they are by the pass 0.
 pub by_one : (log : List Entry) → AreOfPasses 1 log → by_pass 0 log ≡ log
 unfolding AreOfPasses
 by_one [] b = refl
@@ -45,13 +45,13 @@ none_of : (log : List Commit) → entries log ≡ [] → log ≡ []
 none_of [] e = refl
 none_of (c ∷ log) e = absurd (let l : length (entries (c ∷ log)) ≡ 0 = ap length e in omega (arith, l))
 
--- if it has written nothing, it has seen nothing more
+-- If the pass has written nothing, it has seen nothing more.
 pub same_seen : (a c : Knowledge) → IsAlone a → IsAlone c → StartsWith c.seen a.seen → c.mine ≡ a.mine → c.seen ≡ a.seen
 same_seen a c alone state_after more mine =
     let same : entries a.seen ++ entries more.0 ≡ entries a.seen = sym (entries_append a.seen more.0) ∙ (ap entries (sym more.1) ∙ (written c state_after ∙ (mine ∙ sym (written a alone)))) in
     more.1 ∙ (ap (λ l. a.seen ++ l) (none_of more.0 (nothing_more (entries a.seen) (entries more.0) same)) ∙ append-nil a.seen)
 
--- no other pass holds the lock, so a refusal comes from a try that got it
+-- No other pass holds the lock, so a refusal comes from an attempt that got the lock.
 pub refused_alone : (a c : Knowledge) (ops : List Op) (e : Refusal) → IsAlone a → IsReason a c ops e → IsRefusedAt c ops e
 refused_alone a c ops e alone (inl h) =
     let below = alone.pass.number_below in
@@ -76,7 +76,7 @@ settled_pin passes n b p c pass limits limits_then number announced h =
     let same : c.seen ≡ b.seen = same_seen b c (record { pass = pass; one = limits ∙ one }) (record { pass = h.pass; one = limits_then ∙ one }) (subst (StartsWith c.seen) seen h.more) mine in
     found ∙ (number ∙ ap length (sym same)))
 
--- The same steps pin it to what it has then seen.
+-- The same steps pin the pass to what it has then seen.
 pub pins_seen : (n m : ℕ) (a b p c : Knowledge) → SeesMore a b → p ≡ announces (with_history b p.history) m → Moves b (Announce b.number ∷ []) p → PinsCurrent p c → n ≡ length c.seen → Pins a c n
 pins_seen n m a b p c looked announced reported h number =
     let number_b : b.number ≡ a.number = ap (λ (k : Knowledge). k.number) looked.same in
@@ -107,7 +107,7 @@ none_between xs (y ∷ ys) d e same = absurd (
     let l : length ((xs ++ y ∷ ys) ++ d ∷ []) ≡ length (xs ++ e ∷ []) = ap length same in
     let m = length-append (xs ++ y ∷ ys) (d ∷ []) in let n = length-append xs (y ∷ ys) in let o = length-append xs (e ∷ []) in omega arith)
 
--- be_journal's law that one more entry is one more write
+-- By be_journal's law, one more entry is one more write.
 pub writes_next : ((log : List Entry) (entry : Entry) → replay (log ++ entry ∷ []) ≡ state_after (replay log) entry.ops) → (a c : Knowledge) (ops : List Op) (n : ℕ) (dones : List Done) → IsAlone a → IsAlone c → Accepts a c ops n dones → WritesNext a c ops n dones
 writes_next pushed a c ops n dones alone then h =
     let e = entry_by a ops dones in

@@ -26,7 +26,7 @@ among_contains xs n h =
 pub contains_among : (xs : List ℕ) (n : ℕ) → Contains xs n → is_among xs n ≡ true
 contains_among xs n h = list_any_at (λ m. m == n) xs h.0 n h.1 (eq-eqb (get_or xs h.0 n) n h.2)
 
--- ascending lists with the same members are equal
+-- Ascending lists with the same members are equal.
 pub same_members : (xs ys : List ℕ) → IsStrictlyIncreasing xs → IsStrictlyIncreasing ys → ((n : ℕ) → is_among xs n ≡ is_among ys n) → xs ≡ ys
 same_members xs ys up uq same =
     same_rising xs ys (rises_increasing xs up) (rises_increasing ys uq)
@@ -110,7 +110,7 @@ rising_remove xs i up inside k lt =
       ]
     ]
 
--- what is removed is no longer there
+-- A number that was removed is no longer in the list.
 removed_lacks : (xs : List ℕ) (i : ℕ) → IsStrictlyIncreasing xs → i < length xs → is_among (remove xs i) (get_or xs i 0) ≡ false
 removed_lacks xs i up inside =
     let long = length-remove xs i inside in
@@ -150,7 +150,7 @@ among_remove xs i n up inside =
           ∙ ap (λ b. b && not (x == n)) (sym parts))))
     ]
 
--- what a binary search in an ascending list says
+-- What a binary search in an ascending list reports.
 abbrev pub IsFoundAt : List ℕ → ℕ → ℕ → Type 0
 IsFoundAt xs x i = (i < length xs) × (get_or xs i 0 ≡ x)
 
@@ -177,11 +177,11 @@ or_first : (a b : Bool) → a ≡ true → (a || b) ≡ true
 or_first true b h = refl
 or_first false b h = cc
 
--- what was there is still there after an insert
+-- A number that was in the list is still there after an insertion.
 pub kept_insert : (xs : List ℕ) (i y n : ℕ) → is_among xs n ≡ true → is_among (insert xs i y) n ≡ true
 kept_insert xs i y n h = among_insert xs i y n ∙ or_first (is_among xs n) (y == n) h
 
--- whether a search finds the number
+-- Whether a search finds the number.
 pub search_reports : (xs : List ℕ) (x : ℕ) (r : Result ℕ ℕ) → IsBinarySearchResult (λ y. nat_cmp y x) xs r → IsStrictlyIncreasing xs → is_ok r ≡ is_among xs x
 search_reports xs x (Ok i) position up = let at = found_here xs x i (Ok i) position up refl in sym (held_at xs x i at.0 at.1)
 search_reports xs x (Err i) position up = sym (gap_lacks xs x i (lacking_here xs x i (Err i) position up refl))
@@ -191,7 +191,7 @@ both_gone true true c = refl
 both_gone true false c = refl
 both_gone false b c = refl
 
--- whether a number is among the first k + 1 numbers
+-- Whether a number is among the first k + 1 numbers.
 pub among_more : (xs : List ℕ) (k n : ℕ) → k < length xs → is_among (take (k + 1) xs) n ≡ (is_among (take k xs) n || (get_or xs k 0 == n))
 among_more xs k n lt = ap (λ l. is_among l n) (take_more xs k 0 lt) ∙ (among_append (take k xs) (get_or xs k 0 ∷ []) n ∙ ap (λ b. is_among (take k xs) n || b) (or_none (get_or xs k 0 == n)))
   where
@@ -203,11 +203,11 @@ pub both_there : (a b c : Bool) → ((a || b) || c) ≡ (a || (b || c))
 both_there true b c = refl
 both_there false b c = refl
 
--- a filter of the first k + 1 numbers
+-- Filtering the first k + 1 numbers.
 pub filter_more : (p : ℕ → Bool) (xs : List ℕ) (k : ℕ) → k < length xs → filter p (take (k + 1) xs) ≡ filter p (take k xs) ++ (if p (get_or xs k 0) then get_or xs k 0 ∷ [] else [])
 filter_more p xs k lt = ap (filter p) (take_more xs k 0 lt) ∙ filter-append p (take k xs) (get_or xs k 0 ∷ [])
 
--- removing a number that isn't there
+-- Removing a number that isn't in the list.
 pub gone_already : (xs : List ℕ) (x n : ℕ) → is_among xs x ≡ false → is_among xs n ≡ (is_among xs n && not (x == n))
 gone_already xs x n none = elim (cases_eq x n) [
   | inl same ↦ (let out : is_among xs n ≡ false = ap (is_among xs) (sym same) ∙ none in out ∙ sym (ap (λ b. b && not (x == n)) out))
@@ -218,7 +218,7 @@ gone_already xs x n none = elim (cases_eq x n) [
     and_true true = refl
     and_true false = refl
 
--- inserting a number that is there already
+-- Inserting a number that is already in the list.
 pub there_already : (xs : List ℕ) (x n : ℕ) → is_among xs x ≡ true → is_among xs n ≡ (is_among xs n || (x == n))
 there_already xs x n has = elim (cases_eq x n) [
   | inl same ↦ (let in_it : is_among xs n ≡ true = ap (is_among xs) (sym same) ∙ has in in_it ∙ sym (ap (λ b. b || (x == n)) in_it))
@@ -229,6 +229,6 @@ there_already xs x n has = elim (cases_eq x n) [
     or_false true = refl
     or_false false = refl
 
--- a search of a slice of a list
+-- Searching a slice of a list.
 pub of_slice : (xs ys : List ℕ) (x : ℕ) (r : Result ℕ ℕ) → xs ≡ ys → IsBinarySearchResult (λ y. nat_cmp y x) xs r → IsBinarySearchResult (λ y. nat_cmp y x) ys r
 of_slice xs ys x r e h = subst (λ l. IsBinarySearchResult (λ y. nat_cmp y x) l r) e h

@@ -24,7 +24,7 @@ lacks xs n i below above = list_any_none (λ m. m == n) xs (λ k d lt. ne_eqb (g
 pub without_append : (xs ys others : List ℕ) → without (xs ++ ys) others ≡ without xs others ++ without ys others
 without_append xs ys others = filter-append (λ n. not (is_among others n)) xs ys
 
--- an answer by which a live query is updated makes a refresh
+-- Updating a live query with an answer is a refresh.
 pub refreshes : (volume : State) (old new : LiveQuery) (now came went : List ℕ) → scan volume old.query ≡ Ok now → new.query ≡ old.query → new.last ≡ now →
     came ≡ without now old.last → went ≡ without old.last now → Refreshes volume old new came went
 refreshes volume old new now came went answer query is created removed =
@@ -39,7 +39,7 @@ pub if_ok : {T E : Type 0} (r : Result T E) (P Q : T → Type 0) → ((x : T) �
 if_ok (Ok x) P Q f p = f x p
 if_ok (Err e) P Q f p = tt
 
--- with one more number, which stays if the others lack it
+-- With one more number, which is kept if it isn't among the others.
 alone : (others : List ℕ) (n : ℕ) (b : Bool) → is_among others n ≡ b → without (n ∷ []) others ≡ cond (not b) (n ∷ []) []
 alone others n b is = ap (λ (x : Bool). cond (not x) (n ∷ []) []) is
 
@@ -49,14 +49,14 @@ without_more front others n b is = without_append front (n ∷ []) others ∙ ap
 take_short : (n : ℕ) (xs : List ℕ) → length (take n xs) ≤ n
 take_short n xs = subst (λ m. m ≤ n) (sym (length-take n xs)) (omega arith)
 
--- if the others lack every number of a list, the whole list stays
+-- If no number of a list is among the others, the whole list is kept.
 all_kept : (xs others : List ℕ) → ((i : ℕ) → i < length xs → is_among others (get_or xs i 0) ≡ false) → without xs others ≡ xs
 all_kept [] others all = refl
 all_kept (x ∷ xs) others all =
     without_append (x ∷ []) xs others ∙ (ap (λ l. l ++ without xs others) (alone others x false (all zero (omega arith)))
     ∙ ap (λ l. x ∷ l) (all_kept xs others (λ i lt. all (suc i) (omega (arith, lt)))))
 
--- a part that the others lack entirely, added to what is left of the part before it
+-- A part in which no number is among the others is added to what is left of the part before it.
 pub part_kept : (xs others : List ℕ) (from end : ℕ) → from ≤ end → end ≤ length xs → ((i : ℕ) → from ≤ i → i < end → is_among others (get_or xs i 0) ≡ false) →
     (was is : List ℕ) → was ≡ without (take from xs) others → is ≡ was ++ take (end - from) (drop from xs) → is ≡ without (take end xs) others
 part_kept xs others from end le short lacking was is before added =
@@ -72,7 +72,7 @@ part_kept xs others from end le short lacking was is before added =
     added ∙ (ap (λ l. l ++ part) before ∙ (ap (λ l. without (take from xs) others ++ l) (sym kept)
     ∙ (sym (without_append (take from xs) part others) ∙ ap (λ l. without l others) seam)))
 
--- one more number of such a part
+-- One more number of such a part.
 pub part_more : (xs : List ℕ) (from i : ℕ) → from ≤ i → i < length xs → take (i + 1 - from) (drop from xs) ≡ take (i - from) (drop from xs) ++ get_or xs i 0 ∷ []
 part_more xs from i le short =
     let m : ℕ = i - from in
@@ -82,8 +82,8 @@ part_more xs from i le short =
     let inside : m < length rest = subst (λ l. m < l) (sym (length-drop from xs)) (omega (arith, le, short)) in
     ap (λ k. take k rest) next ∙ (take_more rest m 0 inside ∙ ap (λ x. take m rest ++ x ∷ []) (get_or-drop from xs m 0 ∙ ap (λ j. get_or xs j 0) sum))
 
--- Two ascending lists are walked side by side. Before the index `at`, the others are below the next number; from there on they
--- aren't.
+-- Two ascending lists are traversed side by side. The others before the index `at` are less than the next number, and those from
+-- the index on are not.
 module _ (numbers others : List ℕ) (up : IsStrictlyIncreasing numbers) (up_others : IsStrictlyIncreasing others) (k from at : ℕ) (inside : k < length numbers)
     (before : (i j : ℕ) → i < from → k ≤ j → j < length numbers → get_or others i 0 < get_or numbers j 0)
     (between : (i : ℕ) → from ≤ i → i < at → get_or others i 0 < get_or numbers k 0)
@@ -91,13 +91,13 @@ module _ (numbers others : List ℕ) (up : IsStrictlyIncreasing numbers) (up_oth
   below : (i : ℕ) → i < at → get_or others i 0 < get_or numbers k 0
   below i lt = elim (cases_lt i from) [ inl early ↦ before i k early (omega arith) inside | inr late ↦ between i late lt ]
 
-  -- the next number comes after it
+  -- The next number comes after it.
   pub below_next : (i j : ℕ) → i < at → k + 1 ≤ j → j < length numbers → get_or others i 0 < get_or numbers j 0
   below_next i j lt le short =
       let first = below i lt in
       let more = AllPairs-from_increasing numbers up k j 0 (omega (arith, le)) short in omega (arith, first, more)
 
-  -- from the index on, the others are above the number, unless it is there
+  -- From the index on, the others are greater than the number, unless it is there.
   pub beyond : (at < length others → get_or others at 0 ≢ get_or numbers k 0) → (i : ℕ) → at ≤ i → i < length others → get_or numbers k 0 < get_or others i 0
   beyond other i le short =
       let here = from_there (omega (arith, le, short)) in
@@ -112,7 +112,7 @@ module _ (numbers others : List ℕ) (up : IsStrictlyIncreasing numbers) (up_oth
   pub lacks_this : (at < length others → get_or others at 0 ≢ get_or numbers k 0) → is_among others (get_or numbers k 0) ≡ false
   lacks_this other = lacks others (get_or numbers k 0) at below (beyond other)
 
-  -- if the number is there, the next number comes after it, and the others after it are above the number
+  -- If the number is there, the next number comes after it, and the others after it are greater than the number.
   pub below_next_held : get_or others at 0 ≡ get_or numbers k 0 → (i j : ℕ) → i < at + 1 → k + 1 ≤ j → j < length numbers → get_or others i 0 < get_or numbers j 0
   below_next_held same i j lt le short =
       let more = AllPairs-from_increasing numbers up k j 0 (omega (arith, le)) short in
@@ -125,7 +125,7 @@ module _ (numbers others : List ℕ) (up : IsStrictlyIncreasing numbers) (up_oth
   beyond_held same i le short = let more = AllPairs-from_increasing others up_others at i 0 (omega (arith, le)) short in omega (arith, same, more)
 
   module _ (after : (i j : ℕ) → from ≤ i → i < length others → j < k → get_or numbers j 0 < get_or others i 0) where
-    -- the others between the indices are not among the numbers
+    -- The others between the indices are not among the numbers.
     pub between_lack : at ≤ length others → (i : ℕ) → from ≤ i → i < at → is_among numbers (get_or others i 0) ≡ false
     between_lack short i le lt = lacks numbers (get_or others i 0) k (λ j early. after i j le (omega (arith, lt, short)) early) (λ j late inner.
         let first = between i le lt in
@@ -134,7 +134,7 @@ module _ (numbers others : List ℕ) (up : IsStrictlyIncreasing numbers) (up_oth
           | inr reached ↦ (let same : k ≡ j = omega (arith, late, reached) in subst (λ n. get_or others i 0 < get_or numbers n 0) same first)
         ])
 
-    -- from an index on, the others are above one more number
+    -- From an index on, the others are greater than one more number.
     pub after_next : (next : ℕ) → from ≤ next → ((i : ℕ) → next ≤ i → i < length others → get_or numbers k 0 < get_or others i 0) →
         (i j : ℕ) → next ≤ i → i < length others → j < k + 1 → get_or numbers j 0 < get_or others i 0
     after_next next le past i j late short lt =
@@ -143,7 +143,7 @@ module _ (numbers others : List ℕ) (up : IsStrictlyIncreasing numbers) (up_oth
           | inr reached ↦ (let same : k ≡ j = omega (arith, lt, reached) in subst (λ n. get_or numbers n 0 < get_or others i 0) same (past i late short))
         ]
 
--- when the numbers end, those of the others that are above all of them aren't among them
+-- When the numbers end, the others that are greater than all of them are not among them.
 pub rest_lack : (numbers others : List ℕ) (k from : ℕ) → length numbers ≤ k → ((i j : ℕ) → from ≤ i → i < length others → j < k → get_or numbers j 0 < get_or others i 0) →
     (i : ℕ) → from ≤ i → i < length others → is_among numbers (get_or others i 0) ≡ false
 rest_lack numbers others k from all after i le lt =

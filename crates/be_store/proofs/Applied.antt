@@ -1,4 +1,5 @@
--- A whole write: the lock is taken, the write is published or not, and the lock is given back.
+-- A whole write, in which the lock is taken, the write is published or not, and the lock is
+-- released.
 use Rattle.std.proofs.Common.{◌≡◌, ◌<◌, false, inl, inr, ℕ, List, [], ◌∷◌, ◌++◌, length, refl, sym, ap, ◌∙◌, subst, arith, length-append}
 use Rattle.std.specs.Prelude.{Result, Ok, Err, MatchResult, IfOk, IfErr, IsOk}
 use Rattle.std.proofs.lemmas.List.{map-append}
@@ -46,11 +47,11 @@ module _ (a w : Knowledge) (t : TakesLock a w) where
   same_phase : w.phase ≡ a.phase
   same_phase = ap (λ (k : Knowledge). k.phase) t.same
 
-  -- its own entries, among those that it has seen with the lock
+  -- The pass's own entries, among those that it has seen while holding the lock.
   own : by_pass a.number (entries w.seen) ≡ a.mine
   own = ap (λ k. by_pass k (entries w.seen)) (sym same_number) ∙ (t.pass.mine ∙ same_mine)
 
-  -- the entries that it sees in addition are by others
+  -- The additional entries that the pass sees are by other passes.
   others_apart : by_pass a.number (entries t.more.0) ≡ []
   others_apart = nothing_more a.mine (by_pass a.number (entries t.more.0))
       (ap (λ l. l ++ by_pass a.number (entries t.more.0)) (sym t.before.mine)
@@ -58,17 +59,17 @@ module _ (a w : Knowledge) (t : TakesLock a w) where
       ∙ (ap (by_pass a.number) (sym (entries_append a.seen t.more.0))
       ∙ (ap (λ l. by_pass a.number (entries l)) (sym t.more.1) ∙ own))))
 
-  -- the history up to the lock is the whole history at the time when the lock was taken
+  -- When the lock was taken, the history up to the lock is the whole history.
   pub upto_here : upto_lock w.number w.history ≡ w.history
   upto_here = ap (λ k. upto_lock k w.history) same_number ∙ upto_now a.number a.history w.history t.moves.made
 
-  -- the lock is given back at once
+  -- The lock is released immediately.
   pub locks_and_unlocks : (c : Knowledge) → Moves w (Unlock w.number ∷ []) c → LocksAndUnlocks a c
   locks_and_unlocks c unlocked =
       makes_more a.number a.history (Lock a.number ∷ []) w.history (Unlock a.number ∷ []) c.history t.moves.made
       (subst (λ k. Makes k w.history (Unlock k ∷ []) c.history) same_number unlocked.made)
 
-  -- from the lock to the unlock
+  -- From the lock to the unlock.
   locks_only : (v c : Knowledge) → v.number ≡ w.number → WorksOn w.limits w.number w.history v.history → Moves v (Unlock v.number ∷ []) c → LocksOnly a c
   locks_only v c same work unlocked = record {
     locked = w.history;
@@ -111,7 +112,7 @@ module _ (a w : Knowledge) (t : TakesLock a w) where
         };
       }
 
-  -- the lock is given back as it was taken, and the pass learns
+  -- The lock is released as it was taken, and the pass learns.
   pub learns_only : (c : Knowledge) → c ≡ without_lock (with_history w c.history) → IsPass c → Moves w (Unlock w.number ∷ []) c → Learns a c
   learns_only c is pass unlocked =
       let seen : c.seen ≡ w.seen = ap (λ (k : Knowledge). k.seen) is in
@@ -123,7 +124,7 @@ module _ (a w : Knowledge) (t : TakesLock a w) where
         moves = inr (locks_only w c refl (works_none w.limits w.number w.history) unlocked);
       }
 
-  -- so does a pass that has only worked
+  -- A pass that has only worked also learns.
   pub learns_same : (v c : Knowledge) → v.seen ≡ w.seen → IsSame w v → c ≡ without_lock (with_history v c.history) → IsPass c
       → WorksOn w.limits w.number w.history v.history → Moves v (Unlock v.number ∷ []) c → Learns a c
   learns_same v c unseen same is pass work unlocked =
@@ -136,7 +137,7 @@ module _ (a w : Knowledge) (t : TakesLock a w) where
         moves = inr (locks_only v c same.pass work unlocked);
       }
 
-  -- the work of a refused write
+  -- The work of a refused write.
   works : (v : Knowledge) (ops : List Op) (e : Refusal) → IsHeldBack w v ops e → (v.published ≡ false → HasWorked v.limits v.number v.history) → WorksOn w.limits w.number w.history v.history
   works v ops e p worked =
       subst (λ (x : Limits × ℕ × List Move). WorksOn x.0 x.1 x.2 v.history) (λ i. (p.same.limits i, p.same.pass i, (p.begun ∙ upto_here) i)) (worked p.unpublished)
@@ -148,7 +149,7 @@ module _ (a w : Knowledge) (t : TakesLock a w) where
   pub held_locks : (v c : Knowledge) (ops : List Op) (e : Refusal) → IsHeldBack w v ops e → (v.published ≡ false → HasWorked v.limits v.number v.history) → Moves v (Unlock v.number ∷ []) c → LocksOnly a c
   held_locks v c ops e p worked unlocked = locks_only v c p.same.pass (works v ops e p worked) unlocked
 
--- a refusal's reason still holds after the unlock
+-- The reason of a refusal still holds after the unlock.
 pub refused_unlocked : (v c : Knowledge) (ops : List Op) (e : Refusal) → c ≡ without_lock (with_history v c.history) → Moves v (Unlock v.number ∷ []) c → IsRefusedAt v ops e → IsRefusedAt c ops e
 refused_unlocked v c ops e is unlocked (inl h) = inl (subst (λ (k : Knowledge). steps (volume_seen k) ops ≡ Err e) (sym is) h)
 refused_unlocked v c ops e is unlocked (inr (inl h)) = inr (inl (subst (λ (k : Knowledge). IsOk (steps (volume_seen k) ops) × HasNoRoom e k) (sym is) h))
@@ -170,11 +171,11 @@ pub refused_if : {T E : Type 0} (r : Result T E) (P : T → Type 0) (Q R : E →
 refused_if (Ok x) P Q R m f = tt
 refused_if (Err e) P Q R m f = f e m
 
--- the text of an Ok
+-- The text of an Ok.
 abbrev text_or : List ℕ → Result (List ℕ) Refusal → List ℕ
 text_or d (Ok x) = x
 text_or d (Err e) = d
 
--- the text that was made under the lock is the text of what the pass has seen after it
+-- The text that was written under the lock is the text of what the pass has seen after it.
 pub reported : (w c : Knowledge) (text : List ℕ) (made : Result (List ℕ) Refusal) → c ≡ without_lock (with_history w c.history) → made ≡ Ok (text_seen w) → made ≡ Ok text → text ≡ text_seen c
 reported w c text made is all one = ap (text_or text) (sym one ∙ all) ∙ ap text_seen (sym is)

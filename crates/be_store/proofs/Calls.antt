@@ -51,7 +51,7 @@ pub calls_seen : (a : Knowledge) (steps : List (Step volume)) (z : Knowledge) �
 calls_seen a [] z h = same_starts a z (ap (λ (k : Knowledge). k.seen) (sym h))
 calls_seen a (s ∷ steps) z (c, h, more) = starts_trans a.seen c.seen z.seen (calls_seen c steps z more) (call_seen a s c h)
 
--- one more call, and the calls after it
+-- One more call, and the calls after it.
 pub calls_more : (a : Knowledge) (steps : List (Step volume)) (b : Knowledge) (s : Step volume) (c : Knowledge) → Calls a steps b → Call b s c → Calls a (steps ++ s ∷ []) c
 calls_more a [] b s c h k = (c, subst (λ (x : Knowledge). Call x s c) (sym h) k, refl)
 calls_more a (t ∷ steps) b s c (d, h, more) k = (d, h, calls_more d steps b s c more k)
@@ -60,7 +60,7 @@ pub calls_both : (a : Knowledge) (steps : List (Step volume)) (b : Knowledge) (l
 calls_both a [] b later c h k = subst (λ (x : Knowledge). Calls x later c) (sym h) k
 calls_both a (s ∷ steps) b later c (d, h, more) k = (d, h, calls_both d steps b later c more k)
 
--- a read can be listed as a call that learns nothing, and so can making a witness
+-- A read can be listed as a call that learns nothing, and so can making a witness.
 pub read_learns : (a c : Knowledge) → HasRead a c → Call a (Learn (entries c.seen)) c
 read_learns a c read = (
   subst (Learns a) (sym read) (record { more = starts_refl a.seen; mine = refl; pass = refl; pin = refl; moves = inl refl }),
@@ -70,7 +70,7 @@ read_learns a c read = (
 entries_start : (log seen : List Commit) → StartsWith log seen → StartsWith (entries log) (entries seen)
 entries_start log seen h = (entries h.0, ap entries h.1 ∙ entries_append seen h.0)
 
--- the journal begins with what the pass had seen after any of its calls
+-- The journal begins with what the pass had seen after any of its calls.
 reaches : (log : List Entry) (a : Knowledge) (steps : List (Step volume)) (z : Knowledge) → StartsWith log (entries z.seen) → Calls a steps z → StartsWith log (entries a.seen)
 reaches log a steps z more h = starts_trans (entries a.seen) (entries z.seen) log more (entries_start z.seen a.seen (calls_seen a steps z h))
 
@@ -117,7 +117,7 @@ all_fronts log (a ∷ passes) kept = All-cons (ReadsFronts log) a passes (reads_
 same_history : (a c : Knowledge) → c.history ≡ a.history → StartsWith c.history a.history
 same_history a c same = subst (λ (l : List Move). StartsWith l a.history) (sym same) (starts_refl a.history)
 
--- from the lock on
+-- From the lock on.
 worked_start : (a c : Knowledge) (locked worked own : List Move) → Makes a.number a.history (Lock a.number ∷ []) locked → StartsWith worked locked → Makes a.number worked own c.history → StartsWith c.history a.history
 worked_start a c locked worked own lock work made =
     starts_trans a.history locked c.history (starts_trans locked worked c.history (makes_starts a.number worked own c.history made) work)

@@ -36,7 +36,7 @@ use Rattle.be_store.specs.Passes.{IsBetweenCalls, IsPinnedTo, volume_seen}
 use Rattle.be_store.specs.Writing.{Begins, IsHeldBack}
 use Rattle.be_store.proofs.Refusals.{steps_refuse}
 
--- a write that begins holds no page
+-- A write that is just beginning holds no page.
 none_taken : (b : Bool) → is_taken (at_start b) ≡ true → ⊥
 none_taken true h = cc
 none_taken false h = cc
@@ -44,7 +44,7 @@ none_taken false h = cc
 pub none_in_hand : (k : Knowledge) → Begins k → HasInHand (page_state_among k.places) []
 none_in_hand k b q h = absurd (none_taken (has (reach_at k.seen (length k.seen)) q) (ap is_taken (sym (b.begun q)) ∙ h))
 
--- the current version has few pages
+-- The number of pages of the current version is bounded.
 few_current : (k : Knowledge) → Begins k → AreFewFor (volume_seen k) (current_pages k)
 few_current k b =
     let pages = reach_at k.seen (length k.seen) in
@@ -53,13 +53,13 @@ few_current k b =
     let volume = volume_seen k in
     encoded_counted pages words page k.limits.pages _ volume b.encoded (version_size (λ q. at_start (has pages q)) words page volume b.encoded.version)
 
--- what a write holds, carried from before a call that changes nothing to after another such call
+-- What a write holds, carried from before a call that changes nothing to after another such call.
 pub few_between : {T E : Type 0} (r : Result T E) (volume : State) (ops : List Op) (w v : Work) (old new : Work) → v ≡ w → new ≡ old
     → OnErr r (TakesFew volume ops (page_state_in_work v) (page_state_in_work old)) → OnErr r (TakesFew volume ops (page_state_in_work w) (page_state_in_work new))
 few_between r volume ops w v old new before after few =
     subst (λ (x : Work × Work). OnErr r (TakesFew volume ops (page_state_in_work x.0) (page_state_in_work x.1))) (λ i. (before i, sym after i)) few
 
--- why a write that began finds no page
+-- Why a write that has begun finds no page.
 pub is_short : (w v : Work) (ops : List Op) (least : ℕ) → Begins w.knows → open_of v ≡ open_of w → IsFull v least
     → TakesFew (volume_seen w.knows) ops (page_state_in_work w) (page_state_in_work v) → IsShort v.knows ops least
 is_short w v ops least b kept full few =
@@ -74,7 +74,7 @@ is_short w v ops least b kept full few =
           omega (arith, held, taken);
     }
 
--- a write that finds no page although the journal has room
+-- A write that finds no page although the journal has room.
 pub full_held_back : (w v r : Work) (ops : List Op) (least : ℕ) (f : Refusal) → Begins w.knows → f ≡ Full least
     → IsRefusedList open_of page_state_in_work words_of IsFull (volume_seen w.knows) ops f w v → TakesFew (volume_seen w.knows) ops (page_state_in_work w) (page_state_in_work v)
     → r.knows ≡ v.knows → length v.knows.seen < v.knows.limits.commits → IsHeldBack w.knows r.knows ops (Full least)
@@ -90,7 +90,7 @@ full_held_back w v r ops least f b is (inr h) few same room =
       begun = ap (λ (o : StaysOpen). o.begun) kept;
     })
 
--- that still holds after the unlock
+-- The same still holds after the unlock.
 pub short_unlocked : (v c : Knowledge) (ops : List Op) (least : ℕ) → c ≡ without_lock (with_history v c.history) → Moves v (Unlock v.number ∷ []) c → IsShort v ops least → IsShort c ops least
 short_unlocked v c ops least is unlocked s = record {
   spent = spent_unlocked v c least is unlocked.made s.spent;
@@ -98,7 +98,7 @@ short_unlocked v c ops least is unlocked s = record {
   few = subst (λ (k : Knowledge). AreFewToHold (volume_seen k) ops (held_pages k)) (sym is) s.few;
 }
 
--- the current version and the write can't fill a large pool by themselves
+-- The current version and the write can't fill a large pool by themselves.
 never_short : (c : Knowledge) (ops : List Op) (least : ℕ) → IsShort c ops least → least ≡ length c.seen → HasLargePool c ops → ⊥
 never_short c ops least s now p =
     let whole = shared_now c (subst (IsSpent c) now s.spent) in
@@ -119,7 +119,7 @@ lowest_below : (most word : ℕ) → lowest_found most word ≤ most
 lowest_below most zero = omega arith
 lowest_below most (suc n) = omega arith
 
--- the reported number is the current one, if no pass had published an earlier one
+-- The reported number is the current one if no pass had published an earlier one.
 reported_current : (c : Knowledge) (least : ℕ) → NoneIsEarlier c → IsSpent c least → least ≡ length c.seen
 reported_current c least none s =
     let below = s.2.0 in

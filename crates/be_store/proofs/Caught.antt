@@ -1,4 +1,4 @@
--- A list that was the answer, and is changed at a few nodes to match the query as it is now, is the new answer.
+-- A list that was the answer and is changed at a few nodes, so that it matches the query as it is now, is the new answer.
 use Rattle.std.proofs.Common.{◌≡◌, ◌≤◌, ◌<◌, ◌+◌, ◌-◌, ◌&&◌, ◌||◌, not, ℕ, Bool, true, false, if◌then◌else◌, List, [], filter, get_or, length, refl, sym, ap, subst, take, ◌∙◌, inl, inr, arith, Some, None, Ok, Err, is_some}
 use Rattle.std.proofs.lemmas.Bool.{cases_lt}
 use Rattle.std.proofs.lemmas.List.{append-nil, get_or_append_left, get_or_default, length-map, take-append-le}
@@ -51,7 +51,7 @@ pub answer_is_scan : (s : State) (f : Formula) (list : List ℕ) → IsSound s �
 answer_is_scan s f list sound up a =
     found_all s f list sound a.0 up (λ n h. sym (a.1 n) ∙ contains_among list n h) (λ n h. among_contains list n (a.1 n ∙ h))
 
--- a node with an attribute exists
+-- A node with an attribute exists.
 has_attribute : (s : State) (node : ℕ) (name : List ℕ) (value : Value) → attribute s node name ≡ Some value → fin.contains_key s.nodes node ≡ true
 has_attribute s node name value h = by (fin.get s.nodes node) h
   where
@@ -59,7 +59,7 @@ has_attribute s node name value h = by (fin.get s.nodes node) h
     by None e = cc
     by (Some a) e = refl
 
--- so does a node at which an indexed name has a value
+-- A node at which an indexed name has a value exists.
 is_node : (s : State) → IsSound s → (node : ℕ) (name : List ℕ) (value : Value) → has_index s name ≡ true → sees s node name ≡ Some value → fin.contains_key s.nodes node ≡ true
 is_node s sound node name value indexed seen = by (fin.get s.indices name) refl
   where
@@ -70,7 +70,7 @@ is_node s sound node name value indexed seen = by (fin.get s.indices name) refl
         let p : IsPaired s name index.kind node value = sound.pairs name index node value e paired in
         has_attribute s node name value p.attribute_is
 
--- a node that matches a covered query exists
+-- A node that matches a covered query exists.
 there : (s : State) → IsSound s → (f : Formula) → covered s f ≡ true → (n : ℕ) → sat s f n ≡ true → fin.contains_key s.nodes n ≡ true
 there s sound (Leaf name op literal) rests n h = by (sees s n name) refl h
   where
@@ -82,7 +82,7 @@ there s sound (And a b) rests n h =
 there s sound (Or a b) rests n h =
     or_cases (sat s a n) (sat s b n) h (fin.contains_key s.nodes n ≡ true) (there s sound a (and_first (covered s a) (covered s b) rests) n) (there s sound b (and_second (covered s a) (covered s b) rests) n)
 
--- the list of a scan is an answer
+-- The list of a scan is an answer.
 pub scan_is_answer : (s : State) (f : Formula) (list : List ℕ) → IsSound s → scan s f ≡ Ok list → IsAnswer s f list
 scan_is_answer s f list sound h = by (covered s f) refl h
   where
@@ -104,8 +104,8 @@ scan_is_answer s f list sound h = by (covered s f) refl h
         )
     by false e g = cc
 
--- What an edit leaves in a list that is right except at some numbers. For one number: l, whether the list had it; m, whether it
--- is one of these; s, whether the list should have it.
+-- What an edit leaves in a list that is right except at some numbers. For a single number, l says whether the list had it, m
+-- whether it is one of these numbers, and s whether the list should have it.
 edited : (l m s : Bool) → (m ≡ false → l ≡ s) → ((l && not ((l && not s) && m)) || ((s && not l) && m)) ≡ s
 edited true true true h = refl
 edited true true false h = refl
@@ -174,7 +174,7 @@ module _ (s : State) (f : Formula) (nodes last new came went : List ℕ) (sound 
       (λ n. among_went n ∙ (went_so (is_among last n) (is_among nodes n) (sat s f n) (but.1 n)
       ∙ sym (among_filter (λ m. not (is_among new m)) last n ∙ ap (λ b. not b && is_among last n) (is_answer.1 n))))
 
--- ## What the pass has learned meanwhile
+-- ## What the pass has learned in the meantime
 
 pub learns_met : (a c : Knowledge) (log : List Commit) → StartsWith log a.seen → c ≡ met a log → Learns a c
 learns_met a c log more is = subst (Learns a) (sym is) (record { more = more; mine = refl; pass = refl; pin = refl; moves = inl refl })
@@ -204,7 +204,7 @@ learns_read a b c h read = subst (Learns a) (sym read) (record {
   ];
 })
 
--- a pin's number is that of a version which the pass has seen
+-- The number of a pin is that of a version which the pass has seen.
 pub pin_seen : (a : Knowledge) (n : ℕ) → IsPass a → IsPinnedTo a n → n ≤ length a.seen
 pin_seen a n pass pin =
     let p = pinned_phase a.phase n pin in
@@ -215,7 +215,7 @@ front_same log seen n more le =
     ap (λ l. take n (entries l)) more.1 ∙ (ap (take n) (entries_append seen more.0)
     ∙ take-append-le n (entries seen) (entries more.0) (let long = length-map seen (λ (c : Commit). c.entry) in omega (arith, long, le)))
 
--- a pin stays at its volume
+-- A pin keeps its volume.
 pub same_volume : (a c : Knowledge) (n : ℕ) → IsPass a → IsPinnedTo a n → Learns a c → volume_pinned c ≡ volume_pinned a
 same_volume a c n pass pin h =
     volume_is c n (ap pinned_number h.pin ∙ pin)
@@ -225,7 +225,7 @@ pub is_legal : (a : Knowledge) → IsPass a → IsLegal (entries a.seen)
 unfolding IsHistory
 is_legal a pass = pass.legal.0
 
--- a mark that was made at an earlier number, with what the entries since then name
+-- A mark that was made at an earlier number, with what the entries since then name.
 pub found_changes : (a b : Knowledge) (front : List Commit) (nodes last : List ℕ) (f : Formula) (m n : ℕ) → IsPass a → IsPass b → IsPinnedTo a n → StartsWith b.seen a.seen → StartsWith b.seen front →
     m ≤ length front → m ≤ n → IsAnswer (replay (take m (entries front))) f last → ((i : ℕ) (d : Entry) → m ≤ i → i < n → NamesAmong nodes (get_or (entries b.seen) i d)) →
     IsAnswerBut nodes (volume_pinned a) f last
@@ -243,22 +243,22 @@ found_changes a b front nodes last f m n pass_a pass_b pin more_a more_front sho
     (same_answer nodes (replay (take m (entries b.seen))) (replay (take (m + more) (entries b.seen))) f last same
     (subst (λ t. IsAnswer t f last) (sym before) answer))
 
--- the pinned volume is sound
+-- The pinned volume is sound.
 pub pinned_sound : (a : Knowledge) (n : ℕ) → IsPass a → IsPinnedTo a n → IsSound (volume_pinned a)
 pinned_sound a n pass pin = subst IsSound (sym (volume_is a n pin)) (front_sound a n pass)
 
--- the entry that the pass has seen at an index
+-- The entry that the pass has seen at an index.
 pub same_entry_at : (log seen : List Commit) (i : ℕ) (d : Entry) → StartsWith log seen → i < length seen → get_or (entries log) i d ≡ get_or (entries seen) i d
 same_entry_at log seen i d more inside =
     let long = length-map seen (λ (c : Commit). c.entry) in
     ap (λ l. get_or (entries l) i d) more.1 ∙ (ap (λ l. get_or l i d) (entries_append seen more.0)
     ∙ get_or_append_left (entries seen) (entries more.0) d i (omega (arith, long, inside)))
 
--- a pass that stays as it is
+-- A pass that is unchanged learns nothing.
 pub learns_nothing : (a : Knowledge) → Learns a a
 learns_nothing a = record { more = ([], sym (append-nil a.seen)); mine = refl; pass = refl; pin = refl; moves = inl refl }
 
--- what is named among some nodes is named among more nodes
+-- A node that is named among some nodes is also named among more nodes.
 pub named_more : (old new : List ℕ) (named : Option ℕ) → ((n : ℕ) → is_among old n ≡ true → is_among new n ≡ true) → option_map_or (is_among old) named false ≡ true → option_map_or (is_among new) named false ≡ true
 named_more old new None more h = h
 named_more old new (Some n) more h = more n h
@@ -266,7 +266,7 @@ named_more old new (Some n) more h = more n h
 pub names_more : (old new : List ℕ) (entry : Entry) → ((n : ℕ) → is_among old n ≡ true → is_among new n ≡ true) → NamesAmong old entry → NamesAmong new entry
 names_more old new entry more named k op done lt this its = named_more old new (node_named op done) more (named k op done lt this its)
 
--- one more operation whose node is in a list
+-- One more operation whose node is in a list.
 pub step_named : (ops : List Op) (dones : List Done) (old new : List ℕ) (op : Op) (done : Done) (k : ℕ) → k < length ops → op ≡ get_or ops k op → done ≡ get_or dones k done → ((n : ℕ) → is_among old n ≡ true → is_among new n ≡ true) → IsNamedAmong new op done →
     ((i : ℕ) (o : Op) (d : Done) → i < k → o ≡ get_or ops i o → d ≡ get_or dones i d → IsNamedAmong old o d) → k < length dones → (i : ℕ) (o : Op) (d : Done) → i < k + 1 → o ≡ get_or ops i o → d ≡ get_or dones i d → IsNamedAmong new o d
 step_named ops dones old new op done k inside this its keeps one before short i o d lt so its_so = elim (cases_lt i k) [
@@ -278,7 +278,7 @@ step_named ops dones old new op done k inside this its keeps one before short i 
       subst (λ x. IsNamedAmong new o x) done_is (subst (λ x. IsNamedAmong new x done) op_is one))
 ]
 
--- one more entry whose nodes are in a list
+-- One more entry whose nodes are in a list.
 pub named_so_far : (log : List Entry) (old new : List ℕ) (from k : ℕ) → ((n : ℕ) → is_among old n ≡ true → is_among new n ≡ true) → ((d : Entry) → NamesAmong new (get_or log k d)) →
     ((i : ℕ) (d : Entry) → from ≤ i → i < k → NamesAmong old (get_or log i d)) → (i : ℕ) (d : Entry) → from ≤ i → i < k + 1 → NamesAmong new (get_or log i d)
 named_so_far log old new from k keeps one before i d low high = elim (cases_lt i k) [
@@ -286,13 +286,13 @@ named_so_far log old new from k keeps one before i d low high = elim (cases_lt i
   | inr late ↦ (let same : k ≡ i = omega (arith, high, late) in subst (λ j. NamesAmong new (get_or log j d)) same (one d))
 ]
 
--- a mark whose witness has seen more
+-- A mark whose witness has seen more.
 pub mark_joined : (f : Formula) (last : List ℕ) (old new : WitnessFacts) (n : ℕ) → IsMarkOf f last (record { witness = old; number = n }) → new.blank ≡ false → StartsWith new.seen old.seen → IsMarkOf f last (record { witness = new; number = n })
 mark_joined f last old new n mark fresh more =
     let long = longer_seen new.seen old.seen more in
     (fresh, omega (arith, mark.1, long), subst (λ l. IsAnswer (replay l) f last) (sym (front_same new.seen old.seen n more mark.1)) mark.2)
 
--- a mark that is made at a pin
+-- A mark that is made at a pin.
 pub mark_at : (f : Formula) (last : List ℕ) (a : Knowledge) (w : WitnessFacts) (n : ℕ) → IsPass a → IsPinnedTo a n → w.blank ≡ false → w.seen ≡ a.seen → IsAnswer (volume_pinned a) f last → IsMarkOf f last (record { witness = w; number = n })
 mark_at f last a w n pass pin fresh seen answer = (
   fresh,
@@ -300,7 +300,7 @@ mark_at f last a w n pass pin fresh seen answer = (
   subst (λ s. IsAnswer s f last) (volume_is a n pin ∙ ap (λ l. replay (take n (entries l))) (sym seen)) answer,
 )
 
--- a list that was updated at some nodes, whatever the read values are called
+-- A list that was updated at some nodes, whatever the values that were read are called.
 pub changed_so : (v w : State) (f g : Formula) (nodes last list new came went gone put mid grown : List ℕ) → IsSound v → IsStrictlyIncreasing nodes → IsStrictlyIncreasing last → IsStrictlyIncreasing new → IsAnswerBut nodes v f last →
     w ≡ v → g ≡ f → list ≡ last → came ≡ filter (λ n. sat w g n && not (is_among list n)) nodes → went ≡ filter (λ n. is_among list n && not (sat w g n)) nodes → grown ≡ last → gone ≡ went → put ≡ came →
     ((n : ℕ) → is_among mid n ≡ (is_among grown n && not (is_among gone n))) → ((n : ℕ) → is_among new n ≡ (is_among mid n || is_among put n)) →
@@ -330,7 +330,7 @@ pin_kept a b n h pin = ap pinned_number h.pin ∙ pin
 pub volume_read : (a b c : Knowledge) → volume_pinned b ≡ volume_pinned a → HasRead b c → volume_pinned c ≡ volume_pinned a
 volume_read a b c same read = ap volume_pinned read ∙ same
 
--- what was found for the live query and the volume as they are then also holds for those before
+-- What was found for the later live query and volume also holds for the earlier ones.
 pub refreshed_so : (v w : State) (old mid new : LiveQuery) (came went : List ℕ) → w ≡ v → mid ≡ old → Refreshes w mid new came went → Refreshes v old new came went
 refreshed_so v w old mid new came went volume same h =
     subst (λ l. Refreshes v l new came went) same (subst (λ s. Refreshes s mid new came went) volume h)
@@ -339,25 +339,25 @@ pub if_err : {T E : Type 0} (r : Result T E) (P Q : E → Type 0) → ((e : E) �
 if_err (Ok x) P Q f p = tt
 if_err (Err e) P Q f p = f e p
 
--- and so does a refusal
+-- A refusal for the later live query and volume also holds for the earlier ones.
 pub refused_so : (v w : State) (old mid new : LiveQuery) (e : Refusal) → w ≡ v → mid ≡ old → (new ≡ mid) × ((e ≡ OutOfMemory) ⊎ (scan w mid.query ≡ Err e)) → (new ≡ old) × ((e ≡ OutOfMemory) ⊎ (scan v old.query ≡ Err e))
 refused_so v w old mid new e volume same h =
     subst (λ l. (new ≡ l) × ((e ≡ OutOfMemory) ⊎ (scan v l.query ≡ Err e))) same
     (subst (λ s. (new ≡ mid) × ((e ≡ OutOfMemory) ⊎ (scan s mid.query ≡ Err e))) volume h)
 
--- the nodes at which the answer may differ, for the query and the volume as they are now
+-- The nodes at which the answer can differ, for the query and the volume as they are now.
 pub but_now : (ns ms : List ℕ) (v w : State) (old new : LiveQuery) → ms ≡ ns → w ≡ v → new ≡ old → IsAnswerBut ns v old.query old.last → IsAnswerBut ms w new.query new.last
 but_now ns ms v w old new list volume same h =
     subst (λ l. IsAnswerBut l w new.query new.last) (sym list)
     (subst (λ s. IsAnswerBut ns s new.query new.last) (sym volume)
     (subst (λ l. IsAnswerBut ns v l.query l.last) (sym same) h))
 
--- the query belongs to the store, whether it was refreshed or stays as it was
+-- The query belongs to the store, whether it was refreshed or is unchanged.
 pub own_after : {T E : Type 0} (r : Result T E) (store : Opened) (old mid new : LiveQuery) (Q : E → Type 0) → IfOk r (λ _. IsLiveOf store new) → IfErr r (λ e. (new ≡ mid) × Q e) → mid ≡ old → IsLiveOf store old → IsLiveOf store new
 own_after (Ok x) store old mid new Q ok err same own = ok
 own_after (Err e) store old mid new Q ok err same own = subst (IsLiveOf store) (sym (err.0 ∙ same)) own
 
--- an entry's operations and outcomes, as slices
+-- The operations and outcomes of an entry, as slices.
 pub named_entry : (new : List ℕ) (ops : List Op) (dones : List Done) (entry : Entry) (log : List Entry) (i : ℕ) → ops ≡ entry.ops → dones ≡ entry.dones → entry ≡ get_or log i entry → i < length log →
     AreNamedAmong new ops dones → (d : Entry) → NamesAmong new (get_or log i d)
 named_entry new ops dones entry log i ops_is outcomes_is its inside named d =

@@ -1,4 +1,4 @@
--- Conditional writes: from the lock to its return, and tried again.
+-- Conditional writes, from the lock to the return of the call, and when they are retried.
 use Rattle.std.proofs.Common.{◌≡◌, ◌≢◌, ◌≤◌, ◌+◌, ◌⊎◌, ℕ, true, false, inl, inr, List, [], ◌∷◌, ◌++◌, length, take, sym, ap, ◌∙◌, subst, arith, length-append}
 use Rattle.std.specs.Option.{option_map_or}
 use Rattle.std.specs.Prelude.{Result, Ok, Err, IfOk, IfErr}
@@ -29,9 +29,9 @@ use Rattle.be_store.proofs.Applied.{accepts, entries_append, held_locks, learns,
 use Rattle.be_store.proofs.Passes.{pinned_phase}
 use Rattle.be_store.proofs.Retries.{accepts_at_last, held_at_last, held_by, learns_at_last, locks_at_last}
 
--- a write that has taken the lock, and whether the journal's length is the number or not
+-- A write that has taken the lock, and whether or not the length of the journal is the number.
 module _ (a w : Knowledge) (t : TakesLock a w) (number : ℕ) where
-  -- a pass that was pinned to the whole journal has read the current volume
+  -- A pass that was pinned to the whole journal has read the current volume.
   read_is_current : length w.seen ≡ number → IsPinnedTo a number → volume_pinned a ≡ replay (entries w.seen)
   read_is_current long pin =
       let at = pinned_phase a.phase number pin in
@@ -78,7 +78,7 @@ module _ (a w : Knowledge) (t : TakesLock a w) (number : ℕ) where
     ),
   )
 
--- the state after a number of failed tries, the last of which led from m to c
+-- The state after a number of failed attempts, the last of which led from m to c.
 module _ (a : Knowledge) (writers : List ℕ) (m c : Knowledge) (is : m ≡ tried a writers) (number : ℕ) (ops : List Op) where
   accepts_then : (n : ℕ) (dones : List Done) → AcceptsAt m c number ops n dones → AcceptsAt a c number ops n dones
   accepts_then n dones h = by (subst (λ (k : Knowledge). AcceptsAt k c number ops n dones) is h)
@@ -103,7 +103,7 @@ module _ (a : Knowledge) (writers : List ℕ) (m c : Knowledge) (is : m ≡ trie
   plain_reason e (inl h) = inl h
   plain_reason e (inr h) = inr (h.0, h.2)
 
-  -- the last try
+  -- The last attempt.
   last_unapplied : (tries : ℕ) (e : ApplyIfError) → length writers + 1 ≡ tries → IsUnapplied m c number ops e → IsLastUnapplied tries a c number ops e
   last_unapplied tries (Conflict found) count h = conflict_then found h
   last_unapplied tries (Refused e) count h = (learns_at_last a writers m c is h.0, by h.1)
@@ -112,7 +112,7 @@ module _ (a : Knowledge) (writers : List ℕ) (m c : Knowledge) (is : m ≡ trie
       by (inl held) = inl (subst (λ n. IsHeldThrough n a c e) count (held_at_last a writers m c is e held.0))
       by (inr at) = inr (at.0, at.1, locks_at_last a writers m c is at.2)
 
-  -- a try that wasn't the last
+  -- An attempt that wasn't the last.
   free_unapplied : (tries : ℕ) (e : ApplyIfError) → was_held {X = ℕ} (Err e) ≡ false → IsUnapplied m c number ops e → IsLastUnapplied tries a c number ops e
   free_unapplied tries (Conflict found) free h = conflict_then found h
   free_unapplied tries (Refused e) free h = (learns_at_last a writers m c is h.0, by h.1)
@@ -121,7 +121,7 @@ module _ (a : Knowledge) (writers : List ℕ) (m c : Knowledge) (is : m ≡ trie
       by (inl held) = absurd (false≢true (sym free ∙ ap is_busy held.0.1))
       by (inr at) = inr (at.0, at.1, locks_at_last a writers m c is at.2)
 
-  -- the try found the lock held
+  -- The attempt found that another pass held the lock.
   pub held_again_if : {X : Type 0} (r : Result X ApplyIfError) → was_held r ≡ true → IfErr r (IsUnapplied m c number ops) → (b : ℕ) × (c ≡ tried a (b ∷ writers))
   held_again_if (Ok x) held h = absurd (false≢true held)
   held_again_if (Err (Conflict found)) held h = absurd (false≢true held)

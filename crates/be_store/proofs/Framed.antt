@@ -1,4 +1,4 @@
--- An operation that makes or removes no index changes what a query sees only at one node.
+-- An operation that creates or removes no index changes what a query sees at only one node.
 use Rattle.std.proofs.Common.{◌≡◌, ◌<◌, ◌≤◌, ◌+◌, ◌-◌, ◌&&◌, ◌||◌, ℕ, zero, suc, Bool, true, false, if◌then◌else◌, List, [], ◌∷◌, ◌++◌, fold, get_or, length, map, refl, sym, ap, subst, take, ◌∙◌, inl, inr, arith, Some, None, Ok, Err, is_some, is_ok, option_map, append_assoc}
 use Rattle.std.proofs.lemmas.Grind.{fold-append}
 use Rattle.std.proofs.lemmas.List.{append-nil, append_cancel_left, get_or_default, take_more}
@@ -34,7 +34,7 @@ use Rattle.be_volume.specs.declared.ops.Op.TheVariants.{New, Drop, Set, Unset, M
 use Rattle.be_store.specs.Live.{IsAnswer, IsAnswerBut, is_among}
 use Rattle.be_store.specs.Named.{AreNamedAmong, IsNamedAmong, NamesAmong, node_made}
 
--- two volumes have indices of the same names, and comparisons see the same in both, except at these nodes
+-- The indices of two volumes have the same names, and comparisons see the same in both volumes, except at these nodes.
 pub record AreSame (nodes : List ℕ) (s t : State) : Type 0 where
   pub indexed : (name : List ℕ) → has_index t name ≡ has_index s name
   pub seen : (n : ℕ) (name : List ℕ) → is_among nodes n ≡ false → sees t n name ≡ sees s n name
@@ -58,15 +58,15 @@ same_sat nodes s t a n other (Leaf name op literal) = ap (λ o. option_map_or (�
 same_sat nodes s t a n other (And f g) = ap (λ b. b && sat t g n) (same_sat nodes s t a n other f) ∙ ap (λ b. sat s f n && b) (same_sat nodes s t a n other g)
 same_sat nodes s t a n other (Or f g) = ap (λ b. b || sat t g n) (same_sat nodes s t a n other f) ∙ ap (λ b. sat s f n || b) (same_sat nodes s t a n other g)
 
--- an answer for one volume is an answer for the other, except at these nodes
+-- An answer for one volume is an answer for the other, except at these nodes.
 pub same_answer : (nodes : List ℕ) (s t : State) (f : Formula) (list : List ℕ) → AreSame nodes s t → IsAnswer s f list → IsAnswerBut nodes t f list
 same_answer nodes s t f list a answer = (same_covered nodes s t a f ∙ answer.0, λ n other. answer.1 n ∙ sym (same_sat nodes s t a n other f))
 
--- a node that isn't among these differs from each of them
+-- A node that isn't among these nodes differs from each of them.
 apart : (nodes : List ℕ) (n k : ℕ) → is_among nodes n ≡ false → is_among nodes k ≡ true → n ≡ k → ⊥
 apart nodes n k other this same = let no : false ≡ true = sym other ∙ ap (is_among nodes) same ∙ this in cc
 
--- a node's attribute, from the node's attributes
+-- An attribute of a node, given the attributes of the node.
 abbrev attribute_in : List ℕ → Option Attributes → Option Value
 attribute_in name found = option_and_then (λ attributes. fin.get attributes name) found
 
@@ -83,7 +83,7 @@ get_without indices node q =
     get-from_entries names_total (map (λ e. (e.0, unpaired e.1 node)) (fin.entries indices)) q
     ∙ (find_unpaired node q (fin.entries indices) ∙ ap (option_map (λ (i : Index). unpaired i node)) (sym (get-entries indices q)))
 
--- an index that loses another node's pair
+-- An index that loses the pair of another node.
 unpaired_other : (index : Index) (k n : ℕ) → (n ≡ k → ⊥) → fin.get (unpaired index k).pairs n ≡ fin.get index.pairs n
 unpaired_other index k n ne = gone_other nat_cmp_total nat_cmp-IsAntisymmetric index.pairs k n ne
 
@@ -91,13 +91,13 @@ one_of_two : (b : Bool) (index i j k : Index) (n : ℕ) → i ≡ (if b then j e
 one_of_two true index i j k n e f g = ap (λ (x : Index). fin.get x.pairs n) e ∙ f
 one_of_two false index i j k n e f g = ap (λ (x : Index). fin.get x.pairs n) e ∙ g
 
--- and one that gains another node's pair
+-- An index that gains the pair of another node.
 paired_other : (index : Index) (k : ℕ) (value : Value) (n : ℕ) → (n ≡ k → ⊥) → fin.get (paired index k value).pairs n ≡ fin.get index.pairs n
 paired_other index k value n ne =
     one_of_two (same_kind index.kind (kind_of value)) index (paired index k value) (record { kind = index.kind; pairs = fin.insert index.pairs k value }) (record { kind = index.kind; pairs = fin.remove index.pairs k }) n refl
     (get_other nat_cmp_total nat_cmp-IsAntisymmetric index.pairs k value n ne) (gone_other nat_cmp_total nat_cmp-IsAntisymmetric index.pairs k n ne)
 
--- an index of one name is changed, but not at this node
+-- The index of one name is changed, but not at this node.
 module _ (indices : Indices) (at : List ℕ) (old new : Index) (n : ℕ) (was : fin.get indices at ≡ Some old) (same : fin.get new.pairs n ≡ fin.get old.pairs n) where
   changed_has : (name : List ℕ) → fin.contains_key (fin.insert indices at new) name ≡ fin.contains_key indices name
   changed_has name = elim (keys_decided name at) [
@@ -163,7 +163,7 @@ dropped_seen indices name k n v ne = ap (λ o. seen_in o v n) (get_without indic
     by None = refl
     by (Some index) = unpaired_other index k n ne
 
--- the volume after an operation, given the node that it names
+-- The volume after an operation, given the node that it names.
 made_same : (nodes : List ℕ) (s : State) (op : Op) (done : Done) → (op ≡ New → done ≡ Node s.next) → IsNamedAmong nodes op done → AreSame nodes s (made s op)
 made_same nodes s New done by_new named =
     let this : is_among nodes s.next ≡ true = sym (ap (λ d. option_map_or (is_among nodes) (node_made d) false) (by_new refl)) ∙ named in record {
@@ -196,7 +196,7 @@ made_same nodes s (Unset k at) done by_new named =
 made_same nodes s (MkIndex at kind) done by_new named = let no : false ≡ true = named in cc
 made_same nodes s (RmIndex at) done by_new named = let no : false ≡ true = named in cc
 
--- the outcome of an operation that makes a node is the node's number
+-- The outcome of an operation that creates a node is the number of the node.
 answers_new : (s t : State) (op : Op) (done : Done) → step s op ≡ Ok (t, done) → op ≡ New → done ≡ Node s.next
 answers_new s t op done e is =
     let both : step s New ≡ Ok (t, done) = ap (step s) (sym is) ∙ e in
@@ -211,7 +211,7 @@ step_same nodes s t op done e named =
     let is : made s op ≡ t = sym (accepted s op (ap is_ok e)).is ∙ ap (reached s) e in
     subst (AreSame nodes s) is (made_same nodes s op done (answers_new s t op done e) named)
 
--- operations append their outcomes to those before
+-- Operations append their outcomes to the earlier ones.
 answered_after : (ops : List Op) (u t : State) (es fs : List Done) → fold advance (Ok (u, es)) ops ≡ Ok (t, fs) → (rest : List Done) × (fs ≡ es ++ rest)
 answered_after [] u t es fs h = ([], sym (ap (outcomes_in es) h) ∙ sym (append-nil es))
   where
@@ -243,7 +243,7 @@ fold_same nodes (op ∷ ops) s t ds es h named = by (λ v fs gs g. fold_same nod
         (step_same nodes s x.0 op x.1 e (each 0 op x.1 (omega arith) refl refl))
         (again x.0 (ds ++ x.1 ∷ []) more.0 there (λ k o d lt this its. each (suc k) o d (omega (arith, lt)) this its))
 
--- the volume after an entry that agrees with it
+-- The volume after an entry that agrees with it.
 entry_same : (nodes : List ℕ) (s : State) (entry : Entry) → Agrees s entry → NamesAmong nodes entry → AreSame nodes s (state_after s entry.ops)
 entry_same nodes s entry agrees named =
     let is : state_after s entry.ops ≡ agrees.0 = ap (reached s) agrees.1 in
@@ -252,7 +252,7 @@ entry_same nodes s entry agrees named =
 replay_more : (log : List Entry) (i : ℕ) (d : Entry) → i < length log → replay (take (i + 1) log) ≡ state_after (replay (take i log)) (get_or log i d).ops
 replay_more log i d lt = ap replay (take_more log i d lt) ∙ fold-append (λ s (entry : Entry). state_after s entry.ops) (replay []) (take i log) (get_or log i d ∷ [])
 
--- the volumes after two prefixes of a legal journal, if the entries in between name no other nodes
+-- The volumes after two prefixes of a legal journal, if the entries between them name no other nodes.
 pub replay_same : (nodes : List ℕ) (log : List Entry) (from more : ℕ) → IsLegal log → from + more ≤ length log →
     ((i : ℕ) (d : Entry) → from ≤ i → i < from + more → NamesAmong nodes (get_or log i d)) → AreSame nodes (replay (take from log)) (replay (take (from + more) log))
 replay_same nodes log from zero legal short named =

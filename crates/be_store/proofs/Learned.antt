@@ -1,4 +1,4 @@
--- What a pass does after it has learned of commits; and pins, in the order of the moves.
+-- What a pass does after it has learned of commits, and how pins are ordered by the moves.
 use Rattle.std.proofs.Common.{◌≡◌, ℕ, suc, ◌+◌, ◌≤◌, ◌==◌, if◌then◌else◌, Bool, true, false, List, [], ◌∷◌, ◌++◌, length, Option, Some, None, refl, ap, ◌∙◌, arith, length-append, append_assoc}
 use Rattle.be_core.specs.Machine.{World, Writer, first_state, scanned_by, scanned_out, scanned_on}
 use Rattle.be_table.specs.declared.pass.Move.{Move}
@@ -87,7 +87,7 @@ published_append (m ∷ ms) ns = one_before_all (published_by m) (published ms) 
 no_later : (seen first last early all more : ℕ) → seen ≤ first → first ≡ early + 0 → last ≡ all + 0 → all ≡ early + more → seen ≤ last
 no_later seen first last early all more le f l e = omega (arith, le, f, l, e)
 
--- the machine has published everything that the pass with the shorter history had seen
+-- The machine has published everything that the pass with the shorter history had seen.
 pub current_later : (c d : Knowledge) (P Q : World → Type 0) (r : Reaches c P) (s : Reaches d Q) → StartsWith d.history c.history → length c.seen ≤ s.world.current
 current_later c d P Q r s front =
     no_later (length c.seen) r.world.current s.world.current (published c.history) (published d.history) (published front.0) r.known.seen

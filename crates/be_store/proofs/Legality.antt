@@ -1,4 +1,4 @@
--- The journal is legal, because each pass got the object's answers and has all its own entries.
+-- The journal is legal because each pass got the answers of the object and has all its own entries.
 use Rattle.std.proofs.Common.{◌≡◌, ◌≤◌, ◌<◌, ◌-◌, ◌+◌, ℕ, zero, suc, inl, inr, Bool, cond, eq-eqb, List, [], ◌∷◌, ◌++◌, length, take, get_or, refl, sym, ap, ◌∙◌, subst, arith, length-append}
 use Rattle.std.specs.Prelude.{All, map, nat_eq}
 use Rattle.std.proofs.Math.Seq.{get_or-append_right, get_or-append_seam}
@@ -69,11 +69,11 @@ module _ (o : Object) where
   run_number a [] z h = ap (λ (v : PassView o). v.number) (sym h)
   run_number a (x ∷ rest) z h = run_number x.1 rest z h.1 ∙ step_number a x.0 x.1 h.0
 
-  -- how many entries are by the pass k
+  -- How many entries are by the pass k.
   abbrev own : ℕ → List o.Entry → ℕ
   own k log = length (entries_by o k log)
 
-  -- the object accepts each entry by the pass k, in the state after the entries before it
+  -- The object accepts each entry by the pass k in the state after the entries before it.
   abbrev IsOwnLegal : ℕ → List o.Entry → Type 0
   IsOwnLegal k log = (i : ℕ) (e : o.Entry) → i < length log → e ≡ get_or log i e → o.by e ≡ k → o.Accepts (state_of o (take i log)) e
 

@@ -14,7 +14,7 @@ number_or d None = d
 number_or d (Some n) = n
 
 module _ (o : Object) where
-  -- a pass is pinned to entries that it has seen
+  -- A pass is pinned to entries that it has seen.
   abbrev IsInTime : PassView o → Type 0
   IsInTime a = (n : ℕ) → a.pin ≡ Some n → n ≤ length a.seen
 
@@ -93,7 +93,7 @@ module _ (o : Object) where
       run_mine x.1 rest z h.1
       ∙ (ap (λ k. k ++ written o rest) (step_mine a x.0 x.1 h.0) ∙ append_assoc a.mine (written_by o x.0) (written o rest))
 
-  -- the runs are of different passes, because their last views are
+  -- The runs belong to different passes, because their last views do.
   run_numbers : (runs : List (PassRun o)) → map (λ (z : PassView o). z.number) (map (λ (r : PassRun o). r.last) runs) ≡ map (λ (r : PassRun o). r.number) runs
   run_numbers [] = refl
   run_numbers (r ∷ runs) = λ j. run_number o (first_view o r.number) r.steps r.last r.run j ∷ run_numbers runs j

@@ -17,14 +17,14 @@ abbrev number_in : ℕ → Option ℕ → ℕ
 number_in d None = d
 number_in d (Some n) = n
 
--- if a pin's number is n, the phase is that of a pin at n
+-- If the number of a pin is n, the phase is that of a pin at n.
 pub pinned_phase : (p : Phase) (n : ℕ) → pinned_number p ≡ Some n → (x : ℕ) × (p ≡ Pinned x n)
 pinned_phase Idle n e = absurd cc
 pinned_phase (Looked a) n e = absurd cc
 pinned_phase (Announced a) n e = absurd cc
 pinned_phase (Pinned a m) n e = (a, ap (λ k. Pinned a k) (ap (number_in m) e))
 
--- what a look at the pinned version reads, starting from the page that the pass reported before
+-- What a look at the pinned version reads, starting from the page that the pass reported before.
 pub looked_volume : (a c : Knowledge) (n page : ℕ) → IsPinnedTo a n → c ≡ a → page ≡ page_at a.seen n → IsVersion (pinned_page_state c) (word_of_page c.image) (page_at c.seen n) (replay (take n (entries c.seen)))
     → IsVersion (pinned_page_state c) (word_of_page c.image) page (volume_pinned a)
 looked_volume a c n page pin same is h =

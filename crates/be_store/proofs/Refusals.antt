@@ -10,7 +10,7 @@ use Rattle.be_volume.specs.declared.ops.Done.{Done}
 use Rattle.be_volume.specs.declared.ops.Op.{Op}
 use Rattle.be_volume.specs.declared.ops.Op.TheVariants.{New, Set, MkIndex, Drop, Unset, RmIndex}
 
--- the refusal's number is from 2 to 8
+-- The number of the refusal is from 2 to 8.
 abbrev pub IsOfVolume : Refusal → Type 0
 IsOfVolume e = (2 ≤ refusal_number e) × (refusal_number e ≤ 8)
 
@@ -22,7 +22,7 @@ one_refusal : {A : Type 0} (r e : Refusal) → ◌≡◌ {A = Result A Refusal} 
 unfolding refusal_of
 one_refusal r e h = ap (refusal_of r) h
 
--- either the first test refuses, or something after it
+-- Either the first test refuses, or something after it does.
 first : {A : Type 0} (b : Bool) (r e : Refusal) (rest : Result A Refusal) → IsOfVolume r → (rest ≡ Err e → IsOfVolume e) → (if b then Err r else rest) ≡ Err e → IsOfVolume e
 first true r e rest is after h = subst IsOfVolume (one_refusal r e h) is
 first false r e rest is after h = after h
@@ -50,6 +50,6 @@ folds : (r : Result (State × List Done) Refusal) (ops : List Op) → ((e : Refu
 folds r [] is e h = is e h
 folds r (op ∷ ops) is e h = folds (advance r op) ops (advances r op is) e h
 
--- if the volume refuses a list, the refusal's number is from 2 to 8
+-- If the volume refuses a list, the number of the refusal is from 2 to 8.
 pub steps_refuse : (s : State) (ops : List Op) (e : Refusal) → steps s ops ≡ Err e → IsOfVolume e
 steps_refuse s ops e h = folds (Ok (s, [])) ops (λ f g. accepted _ f g) e h

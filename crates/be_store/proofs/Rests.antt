@@ -1,4 +1,4 @@
--- A pass that is unpinned stays unpinned until it looks, and so does one that rests through a write.
+-- A pass that is unpinned stays unpinned until it looks, and so does a pass that rests during a write.
 use Rattle.std.proofs.Common.{◌≡◌, ◌≢◌, ◌⊎◌, ℕ, suc, Bool, true, false, inl, inr, List, [], ◌∷◌, ◌++◌, length, refl, sym, ap, ◌∙◌, subst, append_assoc, arith}
 use Rattle.std.proofs.lemmas.Bool.Decides.{eqb_tells}
 use Rattle.std.proofs.lemmas.List.{append_cancel_left, append-nil}
@@ -30,7 +30,7 @@ use Rattle.be_store.proofs.Capacity.{large}
 
 -- ## A pass that doesn't look stays unpinned
 
--- the move isn't a look by the pass k
+-- The move isn't a look by the pass k.
 abbrev pub IsQuiet : ℕ → Move → Type 0
 IsQuiet k (Look j) = j ≢ k
 IsQuiet k (Announce j) = Unit {0}
@@ -90,7 +90,7 @@ quiet_front k (m ∷ ms) ns h = (h.0, quiet_front k ms ns h.1)
 abbrev IsIdleAt : ℕ → World → Type 0
 IsIdleAt k w = w.phases k ≡ Idle
 
--- a pass gets the phase p, which is Idle if the pass is k
+-- A pass gets the phase p, which is Idle if the pass is k.
 idle_to : (k j : ℕ) (w : World) (p : Phase) → (j ≡ k → p ≡ Idle) → IsIdleAt k w → IsIdleAt k (to w j p)
 idle_to k j w p mine idle = elim (eqb_tells k j) [ inl y ↦ rw y.0 (mine (sym y.1)) | inr n ↦ rw n.0 idle ]
 
@@ -120,7 +120,7 @@ idle_through : (k : ℕ) (w : World) (ms : List Move) (v : World) → AreQuiet k
 idle_through k w [] v quiet run idle = subst (IsIdleAt k) (sym run) idle
 idle_through k w (m ∷ ms) v quiet run idle = idle_through k (after_move w m) ms v quiet.1 run.1 (idle_after k w m quiet.0 idle)
 
--- ## Extending a history without a look of the pass
+-- ## Extending a history without a look by the pass
 
 abbrev pub GoesQuietly : ℕ → List Move → List Move → Type 0
 GoesQuietly k old new = (rest : List Move) × AreQuiet k rest × (new ≡ old ++ rest)
@@ -163,7 +163,7 @@ publishes_quietly w c page l =
 
 -- ## Passes that are unpinned
 
--- if the machine has the pass idle, it still does after more moves without a look
+-- If the pass is idle in the machine, it is still idle after more moves without a look.
 idle_later : (limits : Limits) (b : Knowledge) (rest : List Move) (words : ℕ → ℕ → ℕ) (world : World) → IsOut limits b → AreQuiet b.number rest
     → RunsTo limits words (b.history ++ rest) world → IsIdleAt b.number world
 idle_later limits b rest words world out quiet runs =
@@ -198,7 +198,7 @@ learns_out l a c out h = out_later l a c out h.pass (by h.moves)
     by (inl none) = quietly_same a.number a.history c.history none
     by (inr locks) = locks_quietly a c locks
 
--- ## A write through which all other passes rest
+-- ## A write during which all other passes rest
 
 abbrev first_or : Move → List Move → Move
 first_or d [] = d
@@ -208,7 +208,7 @@ abbrev but_first : List Move → List Move
 but_first [] = []
 but_first (m ∷ ms) = ms
 
--- of two prefixes of one list, one begins with the other
+-- Of two prefixes of one list, one begins with the other.
 either_first : (t xs ys : List Move) → StartsWith t xs → StartsWith t ys → StartsWith ys xs ⊎ StartsWith xs ys
 either_first t [] ys hx hy = inl (ys, refl)
 either_first t (x ∷ xs) [] hx hy = inr (x ∷ xs, refl)
@@ -223,13 +223,13 @@ either_first (m ∷ t) (x ∷ xs) (y ∷ ys) hx hy =
     by same (inl h) = inl (h.0, λ j. sym same j ∷ h.1 j)
     by same (inr h) = inr (h.0, λ j. same j ∷ h.1 j)
 
--- a list without moves of the pass k doesn't contain its lock
+-- A list without moves of the pass k doesn't contain its lock.
 no_lock_among : (k : ℕ) (xs ys : List Move) → NoneBy k (xs ++ Lock k ∷ ys) → ⊥
 no_lock_among k [] ys h = h.0 refl
 no_lock_among k (x ∷ xs) ys h = no_lock_among k xs ys h.1
 
--- The other pass was at rest before the lock. If its history went on beyond the lock, the first of the two lists of moves would
--- have the lock.
+-- The other pass was at rest before the lock. If its history continued past the lock, the first of the two lists of moves would
+-- contain the lock.
 before_lock : (a b : Knowledge) (limits : Limits) (more locked : List Move) → HasTrace limits (a ∷ b ∷ []) → locked ≡ (a.history ++ more) ++ Lock a.number ∷ []
     → StartsWith b.history locked → ⊥
 before_lock a b limits more locked h is (rest, e) =
@@ -245,7 +245,7 @@ before_lock a b limits more locked h is (rest, e) =
     regroup xs ys m zs ws =
         append_assoc ((xs ++ ys) ++ m ∷ []) zs ws ∙ (append_assoc (xs ++ ys) (m ∷ []) (zs ++ ws) ∙ append_assoc xs ys (m ∷ (zs ++ ws)))
 
--- the lock lies between what the pass knew before and after the write, and is its last lock
+-- The lock lies between what the pass knew before and after the write, and it is the last lock of the pass.
 lock_last : (w c : Knowledge) (l : LocksOnly w c) → upto_lock w.number c.history ≡ l.locked
 lock_last w c l =
     let k = w.number in
@@ -263,7 +263,7 @@ locked_front w c l =
     starts_trans l.locked l.worked c.history (makes_starts w.number l.worked (Unlock w.number ∷ []) c.history l.unlock)
     (works_start w.limits w.number l.locked l.worked l.work)
 
--- at a point of a run within the moves that an unpinned pass has seen, that pass has announced nothing
+-- At a point of a run within the moves that an unpinned pass has seen, that pass has announced nothing.
 no_word : (limits : Limits) (k n : ℕ) (b : Knowledge) (rest upto : List Move) (words : ℕ → ℕ → ℕ) (world : World) → IsOut limits b → b.number ≡ k → upto ≡ b.history ++ rest → AreQuiet k rest
     → RunsTo limits words upto world → announce_word (world.phases k) ≡ suc n → ⊥
 no_word limits k n b rest upto words world out is same quiet runs reported =
@@ -272,7 +272,7 @@ no_word limits k n b rest upto words world out is same quiet runs reported =
     let none : 0 ≡ suc n = sym (ap announce_word idle) ∙ (ap (λ (m : ℕ). announce_word (world.phases m)) is ∙ reported) in
     absurd (omega (arith, none))
 
--- the writer itself is unpinned
+-- The writer itself is unpinned.
 module _ (limits : Limits) (w c : Knowledge) (l : LocksOnly w c) (number : c.number ≡ w.number) (same : c.limits ≡ limits) where
   upto_locked_front : (j n : ℕ) (h : HadAnnounced c j n) → StartsWith h.upto l.locked
   upto_locked_front j n h = subst (StartsWith h.upto) (ap (λ (k : ℕ). upto_lock k c.history) number ∙ lock_last w c l) h.since
@@ -290,7 +290,7 @@ module _ (limits : Limits) (w c : Knowledge) (l : LocksOnly w c) (number : c.num
       let rest : quiet.0 ≡ from.0 ++ h.front.0 = append_cancel_left w.history quiet.0 (from.0 ++ h.front.0) whole in
       no_word limits k n w from.0 h.upto h.words h.world out refl from.1 (quiet_front k from.0 h.front.0 (subst (AreQuiet k) rest quiet.1)) (runs_here k n h) h.reported
 
-  -- the other pass's history ends before the lock
+  -- The history of the other pass ends before the lock.
   rests_before : (b : Knowledge) → RestsThrough limits w c b → StartsWith l.locked b.history
   rests_before b r =
       let a = r.met in

@@ -1,4 +1,4 @@
--- A write is tried again while another pass holds the lock.
+-- A write is retried while another pass holds the lock.
 use Rattle.std.proofs.Common.{◌≡◌, ◌≢◌, ◌<◌, ◌+◌, ◌⊎◌, ℕ, true, false, inl, inr, List, [], ◌∷◌, ◌++◌, length, refl, sym, ap, ◌∙◌, subst, arith}
 use Rattle.std.specs.Prelude.{Result, Ok, Err, IfOk, IfErr}
 use Rattle.std.proofs.lemmas.Bool.{false≢true}
@@ -13,17 +13,17 @@ use Rattle.be_store.specs.History.{Accepts, IsHeldThrough, Learns, LocksOnly, Is
 use Rattle.be_store.specs.Passes.{volume_seen}
 use Rattle.be_store.proofs.Refusals.{steps_refuse}
 
--- a refusal that isn't Busy
+-- A refusal that isn't Busy.
 pub no_busy : (e : Refusal) → ((b : ℕ) → e ≡ Busy b → ⊥) → is_busy e ≡ false
 no_busy (Busy b) other = absurd (other b refl)
 no_busy e other = refl
 
--- the pass that the refusal names
+-- The pass that the refusal names.
 busy_with : (e : Refusal) → is_busy e ≡ true → (b : ℕ) × (e ≡ Busy b)
 busy_with (Busy b) h = (b, refl)
 busy_with e h = absurd (false≢true h)
 
--- Busy comes only from the lock
+-- Busy comes only from the lock.
 busy_by_lock : (a c : Knowledge) (ops : List Op) (b : ℕ) → IsReason a c ops (Busy b) → FoundHeld (Busy b) a c
 busy_by_lock a c ops b (inl h) = h.0
 busy_by_lock a c ops b (inr (inl h, locks)) = absurd (let few = (steps_refuse (volume_seen c) ops (Busy b) h).0 in omega (arith, few))
@@ -34,13 +34,13 @@ busy_by_lock a c ops b (inr (inr (inl h), locks)) = absurd (unroomed h.1)
     unroomed (inr none) = absurd (let e = none.0 in cc)
 busy_by_lock a c ops b (inr (inr (inr h), locks)) = absurd (let e = h.2.1 in cc)
 
--- before the first try
+-- Before the first attempt.
 pub untried : (a : Knowledge) → a ≡ tried a []
 untried a = let same : a.steps ≡ a.steps + 0 = omega arith in ap (λ (n : ℕ). record a { steps = n }) same
 
--- the state after a number of failed tries, the last of which led from m to c
+-- The state after a number of failed attempts, the last of which led from m to c.
 module _ (a : Knowledge) (writers : List ℕ) (m c : Knowledge) (is : m ≡ tried a writers) where
-  -- one more try
+  -- One more attempt.
   tried_again : (b : ℕ) → c ≡ finds_held m b → c ≡ tried a (b ∷ writers)
   tried_again b next =
       let steps : a.steps + length writers + 1 ≡ a.steps + length (b ∷ writers) = omega arith in
@@ -80,29 +80,29 @@ module _ (a : Knowledge) (writers : List ℕ) (m c : Knowledge) (is : m ≡ trie
           moved (inl none) = inl none
           moved (inr l) = inr (record { locked = l.locked; lock = l.lock; worked = l.worked; work = l.work; unlock = l.unlock })
 
-  -- the last try also found the lock held
+  -- The last attempt also found that another pass held the lock.
   pub held_at_last : (e : Refusal) → FoundHeld e m c → IsHeldThrough (length writers + 1) a c e
   held_at_last e late =
       (late.0, writers, late.1, subst (λ (k : Knowledge). late.0 < k.limits.passes) is late.2, subst (λ (k : Knowledge). late.0 ≢ k.number) is late.3, refl, tried_again late.0 late.4)
 
-  -- the reason of the last try
+  -- The reason of the last attempt.
   reason_at_last : (ops : List Op) (e : Refusal) → IsReason m c ops e → IsLastReason (length writers + 1) a c ops e
   reason_at_last ops e (inl h) = inl (held_at_last e h.0)
   reason_at_last ops e (inr h) = inr (h.0, locks_at_last h.1)
 
-  -- the reason of a try that wasn't the last
+  -- The reason of an attempt that wasn't the last.
   reason_else : (tries : ℕ) (ops : List Op) (e : Refusal) → is_busy e ≡ false → IsReason m c ops e → IsLastReason tries a c ops e
   reason_else tries ops e free (inl h) = absurd (false≢true (sym free ∙ ap is_busy h.0.1))
   reason_else tries ops e free (inr h) = inr (h.0, locks_at_last h.1)
 
-  -- a try that is refused with Busy found the lock held
+  -- An attempt that is refused with Busy found that another pass held the lock.
   pub held_by : (ops : List Op) (e : Refusal) → is_busy e ≡ true → IsReason m c ops e → (b : ℕ) × (c ≡ tried a (b ∷ writers))
   held_by ops e held h =
       let busy = busy_with e held in
       let late = busy_by_lock m c ops busy.0 (subst (λ (x : Refusal). IsReason m c ops x) busy.1 h) in
       (late.0, tried_again late.0 late.4)
 
-  -- the try found the lock held
+  -- The attempt found that another pass held the lock.
   pub held_again : {X : Type 0} (ops : List Op) (r : Result X Refusal) → was_busy r ≡ true → IfErr r (λ e. Learns m c × IsReason m c ops e) → (b : ℕ) × (c ≡ tried a (b ∷ writers))
   held_again ops (Ok x) held h = absurd (false≢true held)
   held_again ops (Err e) held h = held_by ops e held h.1

@@ -1,4 +1,4 @@
--- A pass's steps have everything that its moves show.
+-- The steps of a pass include everything that its moves show.
 use Rattle.std.proofs.Common.{◌≡◌, ◌≢◌, ◌⊎◌, ℕ, Bool, inl, inr, List, [], ◌∷◌, ◌++◌, refl, sym, ap, ◌∙◌, subst, append_assoc}
 use Rattle.std.specs.Prelude.{◌==◌, if◌then◌else◌}
 use Rattle.std.proofs.lemmas.Bool.{eq-eqb, ne_eqb}
@@ -62,7 +62,7 @@ shown_append : (k : ℕ) (xs ys : List Move) → shown_by k (xs ++ ys) ≡ shown
 shown_append k [] ys = refl
 shown_append k (x ∷ xs) ys = ap (λ (l : List Shown). shown k x ++ l) (shown_append k xs ys) ∙ sym (append_assoc (shown k x) (shown_by k xs) (shown_by k ys))
 
--- what the pass shows by its own moves; other passes' moves show nothing about it
+-- What the pass shows with its own moves. Moves of other passes show nothing about it.
 makes_shown : (k : ℕ) (old own new : List Move) → Makes k old own new → shown_by k new ≡ shown_by k old ++ shown_by k own
 makes_shown k old [] new m = ap (shown_by k) m ∙ sym (append-nil (shown_by k old))
 makes_shown k old (x ∷ own) new m =
@@ -72,7 +72,7 @@ makes_shown k old (x ∷ own) new m =
     makes_shown k ((old ++ m.0) ++ x ∷ []) own new m.2
     ∙ (ap (λ (l : List Shown). l ++ shown_by k own) here ∙ append_assoc (shown_by k old) (shown k x) (shown_by k own))
 
--- moves that show nothing
+-- Moves that show nothing.
 still_shown : (k : ℕ) (old own new : List Move) → Makes k old own new → shown_by k own ≡ [] → shown_by k new ≡ shown_by k old
 still_shown k old own new m none = makes_shown k old own new m ∙ (ap (λ (l : List Shown). shown_by k old ++ l) none ∙ append-nil (shown_by k old))
 
@@ -80,7 +80,7 @@ first_shown : (limits : Limits) (k : ℕ) (first : List Move) → (first ≡ [])
 first_shown limits k first (inl none) = ap (shown_by k) none
 first_shown limits k first (inr scans) = ap (shown_by k) scans ∙ works_shown k (scans_of k limits.passes) (scans_work k limits.passes)
 
--- from the lock to the end of the work
+-- From the lock to the end of the work.
 held_shown : (limits : Limits) (k : ℕ) (old locked worked : List Move) → Makes k old (move.Lock k ∷ []) locked → WorksOn limits k locked worked → shown_by k worked ≡ shown_by k old
 held_shown limits k old locked worked lock w =
     still_shown k w.begun w.own worked (reasons_left limits k w.begun w.own worked w.made) (works_shown k w.own w.work)

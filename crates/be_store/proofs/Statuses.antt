@@ -1,4 +1,4 @@
--- A status, from the lock to its return.
+-- A status, from the lock to the return of the call.
 use Rattle.std.proofs.Common.{◌≡◌, ℕ, List, [], ◌∷◌, sym, ap, ◌∙◌, subst}
 use Rattle.be_pages.specs.declared.page_pool.Place.{Place}
 use Rattle.be_table.specs.declared.limits.Limits.{Limits}
@@ -17,7 +17,7 @@ use Rattle.be_table.proofs.Worked.{works_scan}
 use Rattle.be_store.proofs.Applied.{learns_same}
 
 module _ (a : Knowledge) (o n : Work) (t : TakesLock a o.knows) (scan : (least : ℕ) × MakesScan o n least) where
-  -- a scan leaves the pass as it was
+  -- A scan leaves the pass unchanged.
   scanned_same : IsSame o.knows n.knows
   scanned_same = record { pass = ap (λ (x : Work). x.knows.number) scan.1.same; limits = ap (λ (x : Work). x.knows.limits) scan.1.same; pin = ap (λ (x : Work). x.knows.phase) scan.1.same }
 

@@ -65,15 +65,16 @@ read_at a n pin = ap (λ o. option_map_or (λ m. replay (take m (entries a.seen)
 pub read_step : (a c : Knowledge) (n : ℕ) (ask : State → Answer) → IsPinnedTo a n → HasRead a c → IsStep a (Read ask (Some (ask (volume_pinned a)))) c
 read_step a c n ask pin h = (n, pin, ap ask (read_at a n pin), ap view_of h)
 
--- so is a read that ran out of memory
+-- A read that ran out of memory is a step, too.
 pub vain_step : (a c : Knowledge) (n : ℕ) (ask : State → Answer) → IsPinnedTo a n → HasRead a c → IsStep a (Read ask None) c
 vain_step a c n ask pin h = (n, pin, tt, ap view_of h)
 
--- a read that isn't among the steps
+-- A read that isn't among the steps.
 pub any_read : (log : List Entry) (a : Knowledge) (n : ℕ) → ReadsPrefix volume log (view_of a) → IsPinnedTo a n → volume_pinned a ≡ state_of volume (take n log)
 any_read log a n h pin = read_at a n pin ∙ ap replay (h n pin)
 
--- refreshing a live query by what changed: the pass learns, and then reads at the pin that it had
+-- Refreshing a live query with `refresh_changed`. The pass learns, and then reads at the pin that
+-- it had.
 pub refresh_steps : (a c : Knowledge) (n : ℕ) (ask : State → Answer) → Learns a c → IsPinnedTo a n → volume_pinned c ≡ volume_pinned a
     → IsStep a (Learn (entries c.seen)) c × IsStep c (Read ask (Some (ask (volume_pinned a)))) c
 refresh_steps a c n ask h pin same =
@@ -101,7 +102,7 @@ pub refused_if_step : (a c : Knowledge) (number : ℕ) (ops : List Op) (e : Appl
 refused_if_step a c number ops (Conflict found) h = learn_step a c h.learns
 refused_if_step a c number ops (Refused e) h = learn_step a c h.0
 
--- what a Conflict and a meeting return
+-- What a Conflict and a meeting return.
 pub seen_number : (log : List Commit) → length (entries log) ≡ length log
 seen_number log = length-map log (λ (x : Commit). x.entry)
 
@@ -124,7 +125,7 @@ calls_run a (s ∷ steps) z h =
     let c = h.0 in
     let r = calls_run c steps z h.2 in ((s, view_of c) ∷ r.0, (call_step a s c h.1, r.1), ap (λ l. s ∷ l) r.2, ap (λ l. view_of c ∷ l) r.3)
 
--- calls don't change the pass's number
+-- Calls don't change the number of the pass.
 pub calls_number : (a : Knowledge) (steps : List (Step volume)) (z : Knowledge) → Calls a steps z → z.number ≡ a.number
 calls_number a steps z h = let r = calls_run a steps z h in run_number volume (view_of a) r.0 (view_of z) r.1
 
@@ -167,7 +168,7 @@ closing count log passes h = let kept = h.keeps in record { apart = subst (AllPa
 pub given_runs : (count : ℕ) (log : List Entry) (passes : List Knowledge) (runs : List (PassRun volume)) → IsClosed count log passes → map (λ (r : PassRun volume). r.last) runs ≡ map view_of passes → IsOneHistory volume log runs
 given_runs count log passes runs h same = one_history volume log runs (subst (Closes volume log) (sym same) (closing count log passes h))
 
--- the runs of these passes, in their order
+-- The runs of these passes, in order.
 pub record AreRunsOf (passes : List PassCalls) (runs : List (PassRun volume)) : Type 0 where
   pub numbers : map (λ (r : PassRun volume). r.number) runs ≡ map (λ (p : PassCalls). p.first.number) passes
   pub steps : map (steps_of volume) runs ≡ map (λ (p : PassCalls). p.steps) passes

@@ -29,15 +29,15 @@ use Rattle.be_paged.specs.Changes.{IsRefusedList}
 use Rattle.be_store.specs.Writing.{Begins, HasRoomAtFull, Publishes, IsHeldBack}
 use Rattle.be_store.proofs.Refusals.{steps_refuse}
 
--- the version at the writer state's page is that of the whole journal
+-- The version at the writer state's page is that of the whole journal.
 pub current_encoded : (k : Knowledge) (page : ℕ) → Begins k → page ≡ page_at k.seen (length k.seen) → EncodesVolume (reach_at k.seen (length k.seen)) (word_of_page k.words) page (replay (entries k.seen))
 current_encoded k page t is = subst (λ p. EncodesVolume (reach_at k.seen (length k.seen)) (word_of_page k.words) p (replay (entries k.seen))) (sym is) t.encoded
 
--- a pass that has just taken the lock begins a write
+-- A pass that has just taken the lock begins a write.
 pub begins_locked : (a k : Knowledge) → TakesLock a k → Begins k
 begins_locked a k t = record { small = t.pass.within.few_pages; unpublished = ap (λ (x : Knowledge). x.published) t.same; begun = t.begun; encoded = t.encoded }
 
--- a scan frees only pages that no version has
+-- A scan frees only pages that no version has.
 pub begins_scanned : (old new : Work) (least : ℕ) → MakesScan old new least → Begins old.knows → Begins new.knows
 begins_scanned old new least h b =
     let k : Knowledge = old.knows in
@@ -50,7 +50,7 @@ begins_scanned old new least h b =
           (λ i. (sym (ap (λ (x : Knowledge). x.seen) same) i, sym (ap (λ (x : Knowledge). x.words) same) i)) b.encoded;
     }
 
--- what a write does to the pass, stated from before the scan that came first
+-- What a write does to the pass, stated relative to the state before the scan that came first.
 pub published_from : (w v : Work) (c : Knowledge) (ops : List Op) (n : ℕ) (dones : List Done) → open_of v ≡ open_of w → Publishes v.knows c ops n dones → Publishes w.knows c ops n dones
 published_from w v c ops n dones kept p =
     let number : v.knows.number ≡ w.knows.number = ap (λ (o : StaysOpen). o.number) kept in
@@ -105,13 +105,13 @@ published w v r p ops page n dones shown made kept same is lent stepped number w
       made = subst (λ k. Makes k r.knows.history (Publish k page (given_of r.knows) ∷ []) p.knows.history) pass moves.made;
     }
 
--- a list that is refused because no page is free is one that the volume accepts
+-- A list that is refused because no page is free is accepted by the volume.
 pub full_accepts : {S K : Type 0} (kept_of : S → K) (page_state_of : S → ℕ → PageState) (words_of : S → ℕ → ℕ → ℕ) (full_of : S → ℕ → Type 0) (volume : State) (ops : List Op) (least : ℕ) (old new : S)
     → IsRefusedList kept_of page_state_of words_of full_of volume ops (Full least) old new → IsOk (steps volume ops) × KeepsStart kept_of page_state_of words_of old new
 full_accepts _ _ _ _ volume ops least old new (inl h) = absurd (let few = (steps_refuse volume ops (Full least) h.0).1 in omega (arith, few))
 full_accepts _ _ _ _ volume ops least old new (inr h) = (h.1, h.2)
 
--- the journal's lack of room is returned before the lack of a page
+-- A lack of room in the journal is reported before a lack of pages.
 pub full_unroomed : (w v r : Work) (full_of : Work → ℕ → Type 0) (ops : List Op) (least : ℕ) (f e : Refusal) → w.knows.published ≡ false → f ≡ Full least
     → IsRefusedList open_of page_state_in_work words_of full_of (replay (entries w.knows.seen)) ops f w v → r ≡ v → HasNoRoom e v.knows → IsHeldBack w.knows r.knows ops e
 full_unroomed w v r full_of ops least f e unpublished is refused same none =
@@ -124,12 +124,12 @@ full_unroomed w v r full_of ops least f e unpublished is refused same none =
       begun = ap (λ (o : StaysOpen). o.begun) k;
     }
 
--- a refusal that is passed on as it is
+-- A refusal that is passed on unchanged.
 pub passed_up : {T E : Type 0} (r : Result T E) (e : E) (P : T → Type 0) (Q : E → Type 0) → IsErrAnd r (λ y. y ≡ e) → Q e → MatchResult r P Q
 passed_up (Ok x) e P Q is q = absurd is
 passed_up (Err y) e P Q is q = subst Q (sym is) q
 
--- if the journal has no room, the error isn't Full
+-- If the journal has no room, the error isn't Full.
 unroomed_at_full : (k : Knowledge) (w : Work) (count : ℕ) (e : Refusal) → HasNoRoom e k → HasRoomAtFull w count e
 unroomed_at_full k w count e (inl none) least full = absurd (let spent : CommitsSpent ≡ Full least = sym none.0 ∙ full in cc)
 unroomed_at_full k w count e (inr none) least full = absurd (let refused : OutOfMemory ≡ Full least = sym none.0 ∙ full in cc)

@@ -1,4 +1,5 @@
--- Which step each call of a pass is; a pass through its calls, and the journal at the end.
+-- Which step each call of a pass is, what the pass knows after each call, and what the journal says
+-- at the end.
 use Rattle.std.specs.Prelude.{◌≡◌, ℕ, ◌-◌, All, List, [], ◌∷◌, map, Some, IfSome, slice_get}
 use Rattle.std.specs.Prelude.{take}
 use Rattle.be_journal.specs.declared.entries.Entry.{Entry}
@@ -18,10 +19,10 @@ use Rattle.be_store.specs.SmallMachine.{PassView, Step, Apply, Learn, Pin, Unpin
 use Rattle.be_store.specs.SmallMachine.{first_view}
 use Rattle.be_store.specs.Views.{view_of, volume}
 
--- A pass's call, given what it knew before (a) and knows after (c), is this step. Each call of a
--- store has one of these forms, except a refresh by what changed, which has two. Learn is a refused
--- write, or a look at the journal or at how full the store is. It is also a meeting with another
--- pass or with a witness, and making a witness.
+-- A call of a pass is this step, given what the pass knew before (a) and knows afterwards (c).
+-- Every call of a store has one of these forms, except `refresh_changed`, which is two steps. Learn
+-- covers a refused write, reading the journal or the status, meeting another pass, joining a
+-- witness, and making a witness.
 abbrev pub Call : Knowledge → Step volume → Knowledge → Type 0
 Call a (Apply e n) c = (ops : List Op) × (dones : List Done) × (e ≡ entry_by a ops dones)
     × Accepts a c ops n dones
@@ -31,21 +32,22 @@ Call a Unpin c = Unpins a c
 Call a (Read q r) c = (n : ℕ) × IsPinnedTo a n
     × IfSome r (λ x. x ≡ volume.answer q (volume_pinned a)) × HasRead a c
 
--- Consecutive calls of a pass that are these steps: it knew a at first and knows z at the end. The
--- law `steps_are_shown` says that they include each accepted write, pin and unpin. A read may be
--- missing, or be listed as a Learn: it changes only the pass's count of steps.
+-- Consecutive calls of a pass that are these steps. The pass knew a at first and knows z at the
+-- end. The law `steps_are_shown` says that the steps include every accepted write, pin and unpin. A
+-- read may be missing or may be listed as a Learn, because it changes only the pass's count of
+-- steps.
 abbrev pub Calls : Knowledge → List (Step volume) → Knowledge → Type 0
 Calls a [] z = a ≡ z
 Calls a (s ∷ steps) z = (c : Knowledge) × Call a s c × Calls c steps z
 
--- what the pass knew after each of these calls
+-- What the pass knew after each of these calls.
 abbrev pub known_after : (a : Knowledge) (steps : List (Step volume)) (z : Knowledge)
     → Calls a steps z → List Knowledge
 known_after a [] z calls = []
 known_after a (s ∷ steps) z calls = calls.0 ∷ known_after calls.0 steps z calls.2
 
--- The steps of all calls of a pass, from the first to the last. Before the first it had made no
--- move and seen nothing.
+-- The steps of all calls of a pass, from the first to the last. Before the first call, the pass had
+-- made no move and seen nothing.
 pub record PassCalls : Type 0 where
   pub first : Knowledge
   pub steps : List (Step volume)
@@ -54,18 +56,18 @@ pub record PassCalls : Type 0 where
   pub fresh : first.history ≡ []
   pub made : Calls first steps last
 
--- the views after these calls
+-- The views after these calls.
 abbrev pub views_known : PassCalls → List (PassView volume)
 views_known p = map view_of (known_after p.first p.steps p.last p.made)
 
--- If a write of the pass was accepted with the number n, the journal's n-th entry is by this pass,
--- with these operations and outcomes. It doesn't matter what was called afterwards.
+-- If a write of the pass was accepted with the number n, the n-th entry of the journal is by this
+-- pass, with these operations and outcomes, whatever was called afterwards.
 abbrev pub HasWrites : List Entry → Knowledge → Type 0
 HasWrites log z = (a c : Knowledge) (steps : List (Step volume)) (ops : List Op) (n : ℕ)
     (dones : List Done) →
     Accepts a c ops n dones → Calls c steps z → slice_get log (n - 1) ≡ Some (entry_by a ops dones)
 
--- Whenever the pass was pinned to n, it read the volume after the journal's first n entries.
+-- Whenever the pass was pinned to n, it read the volume after the first n entries of the journal.
 abbrev pub ReadsFronts : List Entry → Knowledge → Type 0
 ReadsFronts log z = (a : Knowledge) (steps : List (Step volume)) (n : ℕ) → IsPass a
     → IsPinnedTo a n → Calls a steps z → volume_pinned a ≡ replay (take n log)
@@ -75,8 +77,8 @@ abbrev pub HasFronts : List Move → Knowledge → Type 0
 HasFronts trace z = (c : Knowledge) (steps : List (Step volume)) → Calls c steps z
     → StartsWith trace c.history
 
--- All passes' calls are in one list of moves of the machine. After each call, its pass's history is
--- a prefix of the list; no move of a pass comes after its last history.
+-- The calls of all passes are in one list of moves of the machine. After each call, the history of
+-- its pass is a prefix of the list, and no move of a pass comes after its final history.
 pub record AreInOneTrace (limits : Limits) (passes : List Knowledge) : Type 0 where
   pub has : HasTrace limits passes
   pub fronts : All (HasFronts has.trace) passes

@@ -1,4 +1,4 @@
--- Conditional writes: made only if the journal has as many entries as the caller names.
+-- Conditional writes, which are made only if the journal has as many entries as the caller expects.
 use Rattle.std.specs.Prelude.{◌≡◌, ◌≢◌, ◌⊎◌, ℕ, ◌+◌, Bool, false, List, [], ◌∷◌, length}
 use Rattle.std.specs.Prelude.{MatchResult}
 use Rattle.std.specs.declared.result.Result.{Result}
@@ -19,17 +19,17 @@ use Rattle.be_store.specs.Writing.{IsHeldBack, Publishes}
 use Rattle.be_store.specs.declared.conditional.ApplyIfError.{ApplyIfError}
 use Rattle.be_store.specs.declared.conditional.ApplyIfError.TheVariants.{Conflict, Refused}
 
--- An accepted write based on a read: its entry comes right after the first `number` entries. If the
--- pass was pinned to these, it has written on exactly the volume that it read.
+-- An accepted write that is based on a read. Its entry comes right after the first `number`
+-- entries. If the pass was pinned to these, it has written to exactly the volume that it read.
 pub record AcceptsAt (a c : Knowledge) (number : ℕ) (ops : List Op) (n : ℕ) (dones : List Done) :
     Type 0 where
   pub accepts : Accepts a c ops n dones
   pub next : n ≡ number + 1
   pub read : IsPinnedTo a number → Agrees (volume_pinned a) (entry_by a ops dones)
 
--- Another write came first: the pass has then seen the whole journal. Its length is the one that
--- was found, and not the one that was named. The pass took the lock and gave it back, and did
--- nothing in between.
+-- Another write came first, and the pass has then seen the whole journal. The journal's length is
+-- the length that was found, which isn't the one that the caller passed. The pass took the lock and
+-- released it, and did nothing in between.
 pub record IsConflict (a c : Knowledge) (number found : ℕ) : Type 0 where
   pub learns : Learns a c
   pub found_is : found ≡ length c.seen
@@ -38,36 +38,36 @@ pub record IsConflict (a c : Knowledge) (number found : ℕ) : Type 0 where
   pub lock : Makes a.number a.history (Lock a.number ∷ []) locked
   pub unlock : Makes a.number locked (Unlock a.number ∷ []) c.history
 
--- Why a conditional write was not made. Busy comes first; every other refusal comes only if the
--- journal has the length that was named.
+-- The reason why a conditional write was not made. `Busy` takes precedence; any other refusal means
+-- that the journal had the length that the caller passed.
 abbrev pub IsUnapplied : (a c : Knowledge) → ℕ → List Op → ApplyIfError → Type 0
 IsUnapplied a c number ops (Conflict found) = IsConflict a c number found
 IsUnapplied a c number ops (Refused e) = Learns a c
     × ((FoundHeld e a c × (c.seen ≡ a.seen))
     ⊎ (IsRefusedAt c ops e × (length c.seen ≡ number) × LocksOnly a c))
 
--- the write found that another pass holds the lock
+-- Whether the write failed because another pass held the lock.
 abbrev pub was_held : {X : Type 0} → Result X ApplyIfError → Bool
 was_held (Ok x) = false
 was_held (Err (Conflict found)) = false
 was_held (Err (Refused e)) = is_busy e
 
--- Why a conditional write that is tried up to `tries` times was not made. Each try found that
--- another pass holds the lock, and Busy names the last one; or the write got the lock and was
--- refused.
+-- The reason why a conditional write that is attempted up to `tries` times was not made. Either
+-- every attempt found that another pass held the lock, and `Busy` names the last one, or the write
+-- got the lock and was refused.
 abbrev pub IsLastUnapplied : ℕ → (a c : Knowledge) → ℕ → List Op → ApplyIfError → Type 0
 IsLastUnapplied tries a c number ops (Conflict found) = IsConflict a c number found
 IsLastUnapplied tries a c number ops (Refused e) = Learns a c
     × (IsHeldThrough tries a c e
     ⊎ (IsRefusedAt c ops e × (length c.seen ≡ number) × LocksOnly a c))
 
--- Why a conditional write that has the lock isn't made. Either the journal has another length, and
--- nothing has changed; or the write is refused.
+-- The reason why a conditional write that has the lock isn't made. Either the journal has a
+-- different length, and nothing has changed, or the write is refused.
 abbrev pub IsHeldBackIf : (w v : Knowledge) → ℕ → List Op → ApplyIfError → Type 0
 IsHeldBackIf w v number ops (Conflict found) = (v ≡ w) × (found ≡ length w.seen) × (found ≢ number)
 IsHeldBackIf w v number ops (Refused e) = IsHeldBack w v ops e × (length w.seen ≡ number)
 
--- what a conditional write that has the lock returns
+-- What a conditional write that has the lock returns.
 abbrev pub WritesIf : Knowledge → Knowledge → ℕ → List Op → List Done → Result ℕ ApplyIfError
     → Type 0
 WritesIf w v number ops dones result = MatchResult result

@@ -1,4 +1,5 @@
--- What a call changes in its pass: what it has seen of the journal, its own writes, and its pin.
+-- How a call changes what its pass knows: what it has seen of the journal, its own writes, and its
+-- pin.
 use Rattle.std.specs.Prelude.{◌≡◌, ◌≢◌, ◌⊎◌, ℕ, ◌+◌, ◌<◌, Bool, true, false, List, [], ◌∷◌, ◌++◌}
 use Rattle.std.specs.Prelude.{drop, length, take, IsOk}
 use Rattle.std.specs.declared.result.Result.{Result}
@@ -26,10 +27,10 @@ use Rattle.be_volume.specs.declared.ops.Op.{Op}
 use Rattle.be_store.specs.Capacity.{IsShort}
 use Rattle.be_store.specs.Passes.{IsPinnedTo, volume_seen}
 
--- The moves of an accepted write. The pass takes the lock and works on pages, publishes this
--- version page in one move, and gives the lock back. A whole scan is made right after the lock, or
--- if no page is free. Other passes' moves may come in between. After them the machine is as the
--- pass knows it.
+-- The moves of an accepted write. The pass takes the lock, works on pages, publishes this version
+-- page in one move, and releases the lock. If there is a whole scan, it comes right after the lock
+-- is taken, or when no page is free. Moves of other passes may come in between. Afterwards the
+-- machine is in the state that the pass knows.
 pub record PublishesOnce (a c : Knowledge) (page : ℕ) : Type 0 where
   pub locked : List Move
   pub lock : Makes a.number a.history (Lock a.number ∷ []) locked
@@ -39,8 +40,8 @@ pub record PublishesOnce (a c : Knowledge) (page : ℕ) : Type 0 where
   pub publish : Makes a.number worked (Publish a.number page given ∷ Unlock a.number ∷ []) c.history
   pub at : Reaches c (λ w. Unit {0})
 
--- The moves of a call that took the lock, worked on pages, published nothing, and gave the lock
--- back.
+-- The moves of a call that took the lock, worked on pages, published nothing, and released the
+-- lock.
 pub record LocksOnly (a c : Knowledge) : Type 0 where
   pub locked : List Move
   pub lock : Makes a.number a.history (Lock a.number ∷ []) locked
@@ -48,16 +49,17 @@ pub record LocksOnly (a c : Knowledge) : Type 0 where
   pub work : WorksOn a.limits a.number locked worked
   pub unlock : Makes a.number worked (Unlock a.number ∷ []) c.history
 
--- The pass took the lock and gave it back, and made no other move.
+-- The pass took the lock and released it, and made no other move.
 abbrev pub LocksAndUnlocks : Knowledge → Knowledge → Type 0
 LocksAndUnlocks a c = Makes a.number a.history (Lock a.number ∷ Unlock a.number ∷ []) c.history
 
--- The pass made no move, or only took the lock and gave it back.
+-- The pass either made no move, or only took the lock and released it.
 abbrev pub LocksAtMostOnce : Knowledge → Knowledge → Type 0
 LocksAtMostOnce a c = (c.history ≡ a.history) ⊎ LocksAndUnlocks a c
 
--- An accepted write of the pass: it has seen what it had seen, then entries of other passes, and
--- then its own. The outcomes are what the volume returns at that place.
+-- An accepted write of the pass. The pass has now seen what it had seen before, then entries of
+-- other passes, and then its own entry. The outcomes are those that the volume returns at that
+-- point.
 pub record Accepts (a c : Knowledge) (ops : List Op) (n : ℕ) (dones : List Done) : Type 0 where
   pub others : List Commit
   pub commit : Commit
@@ -71,8 +73,8 @@ pub record Accepts (a c : Knowledge) (ops : List Op) (n : ℕ) (dones : List Don
   pub pin : c.phase ≡ a.phase
   pub moves : PublishesOnce a c commit.page
 
--- The pass may have seen more, and has written nothing. It made no move, or took the lock and gave
--- it back.
+-- The pass may have seen more, but it has written nothing. It made no move, or took the lock and
+-- released it.
 pub record Learns (a c : Knowledge) : Type 0 where
   pub more : StartsWith c.seen a.seen
   pub mine : c.mine ≡ a.mine
@@ -80,9 +82,9 @@ pub record Learns (a c : Knowledge) : Type 0 where
   pub pin : c.phase ≡ a.phase
   pub moves : (c.history ≡ a.history) ⊎ LocksOnly a c
 
--- Why a pass that has the lock is refused, once it has seen this much of the journal. Either the
--- volume after that refuses the write; or it accepts the write, and the journal has no room or no
--- page is free.
+-- The reason why a pass that holds the lock is refused, once it has seen this much of the journal.
+-- Either the volume at that point refuses the write, or it accepts the write but the journal has no
+-- room, or it accepts the write but no page is free.
 abbrev pub IsRefusedAt : (c : Knowledge) (ops : List Op) → Refusal → Type 0
 IsRefusedAt c ops e =
     (steps (volume_seen c) ops ≡ Err e)
@@ -90,38 +92,39 @@ IsRefusedAt c ops e =
     ⊎ (IsOk (steps (volume_seen c) ops) × (length c.seen < c.limits.commits)
     × IsFullOf (IsShort c ops) e)
 
--- Why a write is refused. Either its one try found that another pass holds the lock, and the pass
--- saw nothing more; or the pass took the lock, was refused, and gave the lock back.
+-- The reason why a write is refused. Either its only attempt found that another pass held the lock,
+-- and the pass saw nothing more, or the pass took the lock, was refused, and released the lock.
 abbrev pub IsReason : (a c : Knowledge) (ops : List Op) → Refusal → Type 0
 IsReason a c ops e = (FoundHeld e a c × (c.seen ≡ a.seen)) ⊎ (IsRefusedAt c ops e × LocksOnly a c)
 
--- the refusal says that another pass holds the lock
+-- Whether the refusal says that another pass holds the lock.
 abbrev pub is_busy : Refusal → Bool
 is_busy (Busy b) = true
 is_busy e = false
 
--- the write found that another pass holds the lock
+-- Whether the write failed because another pass held the lock.
 abbrev pub was_busy : {X : Type 0} → Result X Refusal → Bool
 was_busy (Ok x) = false
 was_busy (Err e) = is_busy e
 
--- the pass after failed tries that found these passes holding the lock, the last one first
+-- The pass after failed attempts that found the lock held by these passes, most recent first.
 abbrev pub tried : Knowledge → List ℕ → Knowledge
 tried a writers = record a { writers = writers ++ a.writers; steps = a.steps + length writers }
 
--- Each of `tries` tries found that another pass holds the lock, and saw nothing more; the refusal
+-- Each of `tries` attempts found that another pass held the lock, and saw nothing more. The refusal
 -- names the last of these passes.
 abbrev pub IsHeldThrough : ℕ → (a c : Knowledge) → Refusal → Type 0
 IsHeldThrough tries a c e = (b : ℕ) × (before : List ℕ) × (e ≡ Busy b) × (b < a.limits.passes)
     × (b ≢ a.number) × (length before + 1 ≡ tries) × (c ≡ tried a (b ∷ before))
 
--- Why a write that is tried up to `tries` times is refused. Either each try found that another pass
--- holds the lock; or one took the lock, was refused, and gave the lock back.
+-- The reason why a write that is attempted up to `tries` times is refused. Either every attempt
+-- found that another pass held the lock, or one attempt took the lock, was refused, and released
+-- the lock.
 abbrev pub IsLastReason : ℕ → (a c : Knowledge) (ops : List Op) → Refusal → Type 0
 IsLastReason tries a c ops e = IsHeldThrough tries a c e ⊎ (IsRefusedAt c ops e × LocksOnly a c)
 
--- The pass is pinned to all that it has then seen. It made three steps, which are the moves Look,
--- Announce and LookAgain of the reclamation machine.
+-- The pass is pinned to everything that it has now seen. It made three steps, which are the moves
+-- Look, Announce and LookAgain of the reclamation machine.
 pub record Pins (a c : Knowledge) (n : ℕ) : Type 0 where
   pub more : StartsWith c.seen a.seen
   pub number : n ≡ length c.seen
@@ -142,16 +145,16 @@ abbrev pub Unpins : Knowledge → Knowledge → Type 0
 Unpins a c = (c ≡ unpins (with_history a c.history))
     × Makes a.number a.history (Unpin a.number ∷ []) c.history
 
--- the text of the journal, as far as the pass has seen it
+-- The journal's text as far as the pass has seen it.
 abbrev pub text_seen : Knowledge → List ℕ
 text_seen a = lines_from 1 (entries a.seen)
 
--- up to `most` entries from an index on
+-- Up to `most` entries, starting at an index.
 abbrev pub entries_from : List Entry → ℕ → ℕ → List Entry
 entries_from log from most = take most (drop from log)
 
--- Why the journal isn't returned. Either the one try found that another pass holds the lock, and
--- the pass saw nothing more; or the call ran out of memory between a lock and its unlock.
+-- The reason why the journal isn't returned. Either the only attempt found that another pass held
+-- the lock, and the pass saw nothing more, or memory ran out between taking and releasing the lock.
 abbrev pub IsUnreported : (a c : Knowledge) → Refusal → Type 0
 IsUnreported a c e = (FoundHeld e a c × (c.seen ≡ a.seen))
     ⊎ ((e ≡ OutOfMemory) × LocksAndUnlocks a c)

@@ -1,4 +1,4 @@
--- What a pass does after it has learned of other passes' commits.
+-- What a pass does after it has learned of commits by other passes.
 use Rattle.std.specs.Prelude.{ℕ, ◌<◌, ◌≤◌, List, length}
 use Rattle.be_table.specs.History.{StartsWith}
 use Rattle.be_table.specs.declared.pass.Commit.{Commit}
@@ -11,12 +11,12 @@ use Rattle.be_store.specs.SmallMachine.{Step}
 use Rattle.be_store.specs.Views.{volume}
 
 -- The call after which its pass knew `c` ended before the call after which its pass knew `d`, in
--- one list of moves: the history of `d` begins with that of `c`.
+-- one list of moves, because the history of `c` is a prefix of the history of `d`.
 abbrev pub EndedBefore : Knowledge → Knowledge → Type 0
 EndedBefore c d = StartsWith d.history c.history
 
--- Everything that the pass does from here on comes after these commits. Each pin is at a prefix of
--- the journal that has them, and each accepted write has a later number.
+-- Everything that the pass does from here on comes after these commits. Each pin names a prefix of
+-- the journal that includes them, and each accepted write has a later number.
 pub record ComesAfter (reported : List Commit) (d : Knowledge) : Type 0 where
   pub pins : (a z : Knowledge) (steps : List (Step volume)) (n : ℕ) → Calls d steps a → Pins a z n
       → StartsWith z.seen reported × (length reported ≤ n)

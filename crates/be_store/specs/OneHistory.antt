@@ -1,29 +1,30 @@
--- The statement: one journal explains several passes' steps, and what each could read in between.
+-- The main statement: one journal explains the steps of several passes, and what each could read in
+-- between.
 use Rattle.std.specs.Prelude.{◌≡◌, ◌≢◌, ◌≤◌, ◌⊎◌, ℕ, suc, List, [], ◌∷◌, ◌++◌, All, AllPairs}
 use Rattle.std.specs.Prelude.{length, take, map, slice_get, Some, IfSome}
 use Rattle.be_table.specs.History.{StartsWith}
 use Rattle.be_store.specs.SmallMachine.{Object, PassView, Step, Apply, Learn, Pin, Unpin, Read}
 use Rattle.be_store.specs.SmallMachine.{AreSteps, IsLegalFor, entries_by, first_view, state_of}
 
--- one pass's steps from its first view on, each with the view after it
+-- The steps of one pass starting from its first view, each with the view after it.
 pub record PassRun (o : Object) : Type 0 where
   pub number : ℕ
   pub steps : List (Step o × PassView o)
   pub last : PassView o
   pub run : AreSteps o (first_view o number) steps last
 
--- its steps, without the views
+-- The steps of a run, without the views.
 abbrev pub steps_of : (o : Object) → PassRun o → List (Step o)
 steps_of o r = map (λ (x : Step o × PassView o). x.0) r.steps
 
--- the views after its steps
+-- The views after the steps of a run.
 abbrev pub views_of : (o : Object) → PassRun o → List (PassView o)
 views_of o r = map (λ (x : Step o × PassView o). x.1) r.steps
 
 -- What the journal says about a step that was made from the view a. A write that returned the
--- number n is the n-th entry, counted from 1. What a call learned is a prefix, which begins with
--- all that its pass had seen; so is what a pin names. A read returns what the state after the pin's
--- prefix answers.
+-- number n is the n-th entry, counting from 1. What a call learned is a prefix of the journal that
+-- begins with everything its pass had seen, and so is what a pin names. A read returns the answer
+-- of the state after the pin's prefix.
 abbrev pub IsKept : (o : Object) → List o.Entry → PassView o → Step o → Type 0
 IsKept o journal a (Apply e n) = (i : ℕ) × (n ≡ suc i) × (slice_get journal i ≡ Some e)
 IsKept o journal a (Learn log) = StartsWith journal log × StartsWith log a.seen
@@ -32,19 +33,20 @@ IsKept o journal a Unpin = Unit {0}
 IsKept o journal a (Read q r) = (n : ℕ) × (a.pin ≡ Some n)
     × IfSome r (λ x. x ≡ o.answer q (state_of o (take n journal)))
 
--- If a pass with this view is pinned to n, the first n entries that it has seen are the journal's.
--- So each of its reads is of the object after a prefix of the journal, whether or not it is among
--- the steps: a read's contract is about those entries.
+-- If a pass with this view is pinned to n, the first n entries that it has seen are those of the
+-- journal. Each of its reads is therefore of the object after a prefix of the journal, even if the
+-- read is not among the steps, because the contract of a read refers to those entries.
 abbrev pub ReadsPrefix : (o : Object) → List o.Entry → PassView o → Type 0
 ReadsPrefix o journal a = (n : ℕ) → a.pin ≡ Some n → take n a.seen ≡ take n journal
 
--- both, for each step of a run from the view a on, and for the view after it
+-- `IsKept` holds for each step of a run from the view a, and `ReadsPrefix` for the view after each
+-- step.
 abbrev pub AreKept : (o : Object) → List o.Entry → PassView o → List (Step o × PassView o) → Type 0
 AreKept o journal a [] = Unit {0}
 AreKept o journal a (x ∷ rest) = IsKept o journal a x.0 × ReadsPrefix o journal x.1
     × AreKept o journal x.1 rest
 
--- the entries that a run has written, in order
+-- The entries that a step has written, in order.
 abbrev pub written_by : (o : Object) → Step o → List o.Entry
 written_by o (Apply e n) = e ∷ []
 written_by o (Learn log) = []
@@ -56,15 +58,15 @@ abbrev pub written : (o : Object) → List (Step o × PassView o) → List o.Ent
 written o [] = []
 written o (x ∷ rest) = written_by o x.0 ++ written o rest
 
--- one of these runs is the pass k's
+-- One of these runs belongs to the pass k.
 abbrev pub HasRun : (o : Object) → List (PassRun o) → ℕ → Type 0
 HasRun o [] k = ⊥
 HasRun o (r ∷ runs) k = (r.number ≡ k) ⊎ HasRun o runs k
 
--- The journal is a legal history of the object. The runs are of different passes, each of which has
--- seen a prefix of the journal at the end. The journal has each run's writes once, in the order of
--- its steps, and no others. It determines what each step returned, and which entries the pass could
--- read between its steps.
+-- The journal is a legal history of the object. The runs belong to different passes, each of which
+-- has seen a prefix of the journal at the end. The journal contains the writes of each run exactly
+-- once, in the order of its steps, and no others. It determines what each step returned, and which
+-- entries the pass could read between its steps.
 pub record IsOneHistory (o : Object) (journal : List o.Entry) (runs : List (PassRun o)) : Type 0
   where
     pub legal : IsLegalFor o journal

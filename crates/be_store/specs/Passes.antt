@@ -1,4 +1,4 @@
--- A pass of a store, and what it can read.
+-- What it means to be a pass of a store, and what such a pass can read.
 use Rattle.std.specs.Prelude.{◌≡◌, ℕ, take, Some}
 use Rattle.std.specs.Coded.{Coded-set, coded_ℕ, Unit-prop, →_prop}
 use Rattle.std.specs.Option.{option_map_or}
@@ -12,8 +12,8 @@ use Rattle.be_table.specs.Seats.{pinned_number}
 use Rattle.be_table.specs.Works.{IsSeatOf}
 use Rattle.be_volume.specs.Volume.{State, empty}
 
--- Between two calls of a store, a pass is pinned or it isn't; it never stops half way to a pin. A
--- store's only pass is pinned to the version that it has published in its reader slot.
+-- Between two calls, a pass is either pinned or not pinned, never halfway to a pin. If it is the
+-- store's only pass, it is pinned to exactly the version that it has published in its reader slot.
 abbrev pub IsBetweenCalls : ℕ → Phase → Type 0
 IsBetweenCalls passes Idle = Unit {0}
 IsBetweenCalls passes (Looked x) = ⊥
@@ -26,30 +26,31 @@ IsBetweenCalls-prop passes (Looked x) = λ a b. absurd a
 IsBetweenCalls-prop passes (Announced x) = λ a b. absurd a
 IsBetweenCalls-prop passes (Pinned x n) = →_prop (Coded-set coded_ℕ x n)
 
--- the same for a pass of this store
+-- `IsBetweenCalls` for a pass of this store.
 abbrev pub IsAtRest : Opened → SeatFacts → Type 0
 IsAtRest store pass = IsBetweenCalls store.limits.passes pass.knows.phase
 
 pub IsAtRest-prop : (store : Opened) (pass : SeatFacts) → IsProp (IsAtRest store pass)
 IsAtRest-prop store pass = IsBetweenCalls-prop store.limits.passes pass.knows.phase
 
--- a pass of this store
+-- This is a pass of this store, between two calls.
 abbrev pub IsPassOf : Opened → SeatFacts → Type 0
 IsPassOf store pass = IsSeatOf store pass × IsBetweenCalls store.limits.passes pass.knows.phase
 
--- the pass is pinned to the first n entries of the journal
+-- The pass is pinned to the first n entries of the journal.
 abbrev pub IsPinnedTo : Knowledge → ℕ → Type 0
 IsPinnedTo a n = pinned_number a.phase ≡ Some n
 
--- the volume after all that the pass has seen
+-- The volume after everything that the pass has seen.
 abbrev pub volume_seen : Knowledge → State
 volume_seen a = replay (entries a.seen)
 
--- the volume that a pinned pass reads: the one after as many entries of the journal as its pin says
+-- The volume that a pinned pass reads. For a pass that is pinned to n, this is the volume after the
+-- first n entries of the journal.
 abbrev pub volume_pinned : Knowledge → State
 volume_pinned a = option_map_or (λ n. replay (take n (entries a.seen))) (pinned_number a.phase)
     empty
 
--- a pass that has only read: only its count of steps has changed
+-- The pass has only read, so nothing but its count of steps has changed.
 abbrev pub HasRead : Knowledge → Knowledge → Type 0
 HasRead a c = c ≡ record a { steps = c.steps }

@@ -1,4 +1,4 @@
--- What a pass's moves show about its calls: each accepted write, each pin and each unpin.
+-- What a pass's moves show about its calls: every accepted write, every pin and every unpin.
 use Rattle.std.specs.Prelude.{◌==◌, if◌then◌else◌, ℕ, List, [], ◌∷◌, ◌++◌}
 use Rattle.be_table.specs.declared.pass.Move.{Move}
 use Rattle.be_table.specs.declared.pass.Move.TheVariants as move
@@ -10,7 +10,7 @@ pub data Shown : Type 0 where
   Pinned : Shown
   Unpinned : Shown
 
--- what one move shows about the pass k
+-- What one move shows about the pass k.
 abbrev pub shown : ℕ → Move → List Shown
 shown k (move.Look j) = []
 shown k (move.Announce j) = []
@@ -23,12 +23,12 @@ shown k (move.Publish j page given) = if j == k then Wrote ∷ [] else []
 shown k (move.Unlock j) = []
 shown k (move.Return j p) = []
 
--- what all of these moves show about it, in their order
+-- What these moves show about the pass k, in order.
 abbrev pub shown_by : ℕ → List Move → List Shown
 shown_by k [] = []
 shown_by k (m ∷ ms) = shown k m ++ shown_by k ms
 
--- what a step shows
+-- What a step shows.
 abbrev pub shown_of : Step volume → List Shown
 shown_of (Apply e n) = Wrote ∷ []
 shown_of (Learn log) = []

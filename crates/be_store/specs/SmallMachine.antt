@@ -1,12 +1,12 @@
--- A small machine: passes write to one journal of a sequential object, and read prefixes of it.
--- `Calls.antt` says which step each call of a store is.
+-- A small machine in which passes write to one journal of a sequential object, and read prefixes of
+-- the journal. `Calls.antt` says which step each call of a store is.
 use Rattle.std.specs.Prelude.{◌≡◌, ◌≢◌, ◌<◌, ◌⊎◌, ℕ, List, [], ◌∷◌, ◌++◌, All, AllPairs, length}
 use Rattle.std.specs.Prelude.{map, take, get_or, fold, filter, nat_eq, Option, Some, None, IfSome}
 use Rattle.be_table.specs.History.{StartsWith}
 
--- A sequential object, and the entries of its journal. An entry is one pass's write with its
--- outcomes. `Accepts s e` says that the object, in the state s, accepts the write and returns these
--- outcomes; `after s e` is its state then; `answer q s` is its answer to the question q.
+-- A sequential object and the entries of its journal. An entry is one pass's write with its
+-- outcomes. `Accepts s e` says that the object in the state s accepts the write and returns these
+-- outcomes, `after s e` is its state afterwards, and `answer q s` is its answer to the question q.
 pub record Object : Type 1 where
   pub State : Type 0
   pub Entry : Type 0
@@ -18,51 +18,51 @@ pub record Object : Type 1 where
   pub after : State → Entry → State
   pub answer : Question → State → Answer
 
--- the state after these entries, in their order
+-- The state after these entries, applied in order.
 abbrev pub state_of : (o : Object) → List o.Entry → o.State
 state_of o log = fold (λ s e. o.after s e) o.empty log
 
--- The object accepts each entry, in the state after the entries before it. The entry at the place
--- i, counted from 0, is `get_or log i e` for any e.
+-- The object accepts each entry in the state after the entries before it. The entry at position i,
+-- counting from 0, is `get_or log i e` for any e.
 abbrev pub IsLegalFor : (o : Object) → List o.Entry → Type 0
 IsLegalFor o log = (i : ℕ) (e : o.Entry) → i < length log → e ≡ get_or log i e
     → o.Accepts (state_of o (take i log)) e
 
--- the entries by the pass k, in their order
+-- The entries by the pass k, in order.
 abbrev pub entries_by : (o : Object) → ℕ → List o.Entry → List o.Entry
 entries_by o k log = filter (λ e. nat_eq (o.by e) k) log
 
--- What a pass knows: its number, the prefix of the journal that it has seen, its own entries, and
--- how many entries it is pinned to, if it is.
+-- What a pass knows: its number, the prefix of the journal that it has seen, its own entries, and,
+-- if it is pinned, the number of entries to which it is pinned.
 pub record PassView (o : Object) : Type 0 where
   pub number : ℕ
   pub seen : List o.Entry
   pub mine : List o.Entry
   pub pin : Option ℕ
 
--- what the pass k knows at first
+-- What the pass k knows at first.
 abbrev pub first_view : (o : Object) → ℕ → PassView o
 first_view o k = record { number = k; seen = []; mine = []; pin = None }
 
--- What a call does, and what it returns.
+-- What a call does and returns.
 pub data Step (o : Object) : Type 0 where
-  -- an accepted write: its entry, and the number that it returned
+  -- An accepted write, with its entry and the number that it returned.
   Apply : o.Entry → ℕ → Step o
-  -- A call that asks nothing of the object: a refused write, a meeting, a look at the journal. Its
-  -- pass has then seen these entries. What it returns about them, or why the write is refused, is
-  -- in the call's contract and not here.
+  -- A call that asks nothing of the object: a refused write, a meeting, or a look at the journal.
+  -- Its pass has then seen these entries. What the call returns about them, or why the write is
+  -- refused, is stated in the call's contract and not here.
   Learn : List o.Entry → Step o
-  -- A pin, which returned this number. These calls require that a pass pins only while it isn't
-  -- pinned, and unpins only while it is; that isn't said here.
+  -- A pin that returned this number. The contracts of these calls, though not this definition,
+  -- require that a pass pins only while it isn't pinned, and unpins only while it is.
   Pin : ℕ → Step o
   Unpin : Step o
-  -- a read at the pin: the question, and the answer that it returned, if memory didn't run out
+  -- A read at the pin, with the question and the answer that it returned, unless memory ran out.
   Read : o.Question → Option o.Answer → Step o
 
--- The step of a pass from the view a to the view c. Between its steps others write, and the pass
--- learns of that only at its next step. That none of the others' entries is by this pass isn't said
--- here. `Closes` says it, because the journal then has no entries by a pass except those in its
--- `mine`.
+-- A step of a pass from the view a to the view c. Other passes write between its steps, and the
+-- pass learns of that only at its next step. This definition doesn't rule out that the others'
+-- entries are by this pass. `Closes` does, because the journal then has no entries by a pass except
+-- those in its `mine`.
 abbrev pub Leads : (o : Object) → PassView o → Step o → PassView o → Type 0
 Leads o a (Apply e n) c =
     (others : List o.Entry) × (o.by e ≡ a.number) × o.Accepts (state_of o (a.seen ++ others)) e
@@ -76,20 +76,20 @@ Leads o a Unpin c = c ≡ record a { pin = None }
 Leads o a (Read q r) c = (n : ℕ) × (a.pin ≡ Some n)
     × IfSome r (λ x. x ≡ o.answer q (state_of o (take n a.seen))) × (c ≡ a)
 
--- One pass's steps from the view a on, each with the view after it, lead to the view z.
+-- The steps of one pass from the view a, each with the view after it, lead to the view z.
 abbrev pub AreSteps : (o : Object) → PassView o → List (Step o × PassView o) → PassView o → Type 0
 AreSteps o a [] z = a ≡ z
 AreSteps o a (x ∷ rest) z = Leads o a x.0 x.1 × AreSteps o x.1 rest z
 
--- one of these views is the pass k's
+-- One of these views belongs to the pass k.
 abbrev pub HasNumber : (o : Object) → List (PassView o) → ℕ → Type 0
 HasNumber o [] k = ⊥
 HasNumber o (z ∷ views) k = (z.number ≡ k) ⊎ HasNumber o views k
 
--- At the end these passes close the store, with these views, and get this journal. No two views are
--- of the same pass. Each entry is by one of these passes. The journal begins with what each pass
--- has seen, and has exactly its own entries by it. `IsClosed` says that these are all passes of the
--- store. Nothing above says anything about two passes at once.
+-- At the end, the passes with these views close the store and get this journal. No two views belong
+-- to the same pass. Each entry is by one of these passes. The journal begins with what each pass
+-- has seen, and its entries by each pass are exactly that pass's own entries. `IsClosed` says that
+-- these are all passes of the store. The definitions above say nothing about two passes together.
 pub record Closes (o : Object) (journal : List o.Entry) (views : List (PassView o)) : Type 0 where
   pub apart : AllPairs ◌≢◌ (map (λ (z : PassView o). z.number) views)
   pub authors : All (λ (e : o.Entry). HasNumber o views (o.by e)) journal

@@ -9,9 +9,9 @@ use Rattle.be_table.specs.Statuses.{FindsOldest, LieAt, Reports}
 use Rattle.be_table.specs.Steps.{scans_of}
 use Rattle.be_table.specs.Trace.{Makes}
 
--- The pass takes the lock, reads each reader slot, and gives the lock back. The numbers are those
--- of what it has then seen, and of the pages as the machine has them after the scan. The status has
--- the oldest of the versions that the scan found published.
+-- The pass takes the lock, reads each reader slot, and releases the lock. The numbers describe what
+-- the pass has then seen and the pages as they are after the scan. The status also has the oldest
+-- version that the scan found published in a reader slot.
 pub record ReportsStatus (a c : Knowledge) (s : Status) : Type 0 where
   pub reports : Reports c s
   pub locked : List Move

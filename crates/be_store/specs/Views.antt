@@ -1,4 +1,5 @@
--- The volume as the object of the small machine, and what a pass knows as one of its views.
+-- The volume as the object of the small machine, and what a pass knows as one of the machine's
+-- views.
 use Rattle.std.specs.Prelude.{◌≢◌, ℕ, ◌<◌, AllPairs, List, map}
 use Rattle.std.specs.declared.option.Option.{Option}
 use Rattle.std.specs.declared.result.Result.{Result}
@@ -16,8 +17,9 @@ use Rattle.be_volume.specs.Ahead.{state_after}
 use Rattle.be_volume.specs.Volume.{State, empty}
 use Rattle.be_store.specs.SmallMachine.{Object, PassView, Step, Leads}
 
--- What a read returns: nodes, or why there are none; a node's attribute; all of its attributes; the
--- indices; a number. What else a call returns, such as a page's cursor, is in its contract.
+-- What a read returns: nodes or the reason why there are none, one attribute of a node, all its
+-- attributes, the indices, or a number. Anything else that a call returns, such as the cursor of a
+-- page, is stated in its contract.
 pub data Answer : Type 0 where
   Nodes : Result (List ℕ) Refusal → Answer
   Attribute : Option Value → Answer
@@ -25,9 +27,9 @@ pub data Answer : Type 0 where
   Indices : List (List ℕ × Kind) → Answer
   Number : ℕ → Answer
 
--- The volume. It accepts an entry if the outcomes are those of its operations. A question is any
--- function of the volume, such as a query's scan. So a Read says something only where its question
--- is written down, as in example_history.
+-- The volume as an object. It accepts an entry if the outcomes are those of its operations. A
+-- question is any function of the volume, such as the scan of a query. A Read therefore says
+-- something only where its question is written down, as in example_history.
 abbrev pub volume : Object
 volume = record {
   State = State;
@@ -41,7 +43,7 @@ volume = record {
   answer = λ ask s. ask s;
 }
 
--- what a pass knows, without its pages, words and moves
+-- What a pass knows, without its pages, words and moves.
 abbrev pub view_of : Knowledge → PassView volume
 view_of a = record {
   number = a.number;
@@ -50,13 +52,13 @@ view_of a = record {
   pin = pinned_number a.phase;
 }
 
--- a call of a pass that knew a before and knows c after is this step
+-- A call of a pass that knew a before and knows c afterwards is this step.
 abbrev pub IsStep : Knowledge → Step volume → Knowledge → Type 0
 IsStep a s c = Leads volume (view_of a) s (view_of c)
 
--- What holds when a store of this many passes was closed with these passes, whose numbers differ.
--- `open` numbers them, and each keeps its number. `close` requires all passes of the store, and
--- ensures the rest about these passes and the journal.
+-- What holds when a store with this many passes was closed with these passes, whose numbers differ.
+-- `open` numbers the passes, and each keeps its number. `close` requires all passes of the store,
+-- and ensures the rest about these passes and the journal.
 pub record IsClosed (count : ℕ) (log : List Entry) (passes : List Knowledge) : Type 0 where
   pub apart : AllPairs ◌≢◌ (map (λ (a : Knowledge). a.number) passes)
   pub all : (k : ℕ) → k < count → Has passes k

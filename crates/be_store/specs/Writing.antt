@@ -24,8 +24,8 @@ use Rattle.be_volume.specs.declared.ops.Op.{Op}
 use Rattle.be_store.specs.History.{IsRefusedAt}
 use Rattle.be_store.specs.Passes.{volume_seen}
 
--- an open write that has taken no page yet: its pages' states and words are those of the current
--- version
+-- An open write that hasn't taken any page yet. The states and words of its pages are those of the
+-- current version.
 pub record Begins (k : Knowledge) : Type 0 where
   pub small : k.limits.pages ≤ 16384
   pub unpublished : k.published ≡ false
@@ -34,22 +34,22 @@ pub record Begins (k : Knowledge) : Type 0 where
   pub encoded : EncodesVolume (reach_at k.seen (length k.seen)) (word_of_page k.words)
       (page_at k.seen (length k.seen)) (volume_seen k)
 
--- An early scan: a whole scan if enough pages have been retired since the last scan to make one
--- due, and otherwise none.
+-- An early scan, which is a whole scan if enough pages were retired since the last scan to make one
+-- due, and otherwise does nothing.
 abbrev pub ScansEarly : Work → Work → Type 0
 ScansEarly old new =
     ((count_by is_retired old.knows.places < old.left + due_after old.left) × (new ≡ old))
     ⊎ ((old.left + due_after old.left ≤ count_by is_retired old.knows.places)
     × ((least : ℕ) × MakesScan old new least))
 
--- the pass has kept its number, its limits and its pin
+-- The pass has kept its number, its limits and its pin.
 pub record IsSame (a c : Knowledge) : Type 0 where
   pub pass : c.number ≡ a.number
   pub limits : c.limits ≡ a.limits
   pub pin : c.phase ≡ a.phase
 
--- The write is the last entry that the pass has seen. Since its lock, the pass has worked and then
--- published it.
+-- The write is the last entry that the pass has seen. Since it took the lock, the pass has worked
+-- on pages and then published the write.
 pub record Publishes (a c : Knowledge) (ops : List Op) (n : ℕ) (dones : List Done) : Type 0 where
   pub same : IsSame a c
   pub commit : Commit
@@ -62,7 +62,7 @@ pub record Publishes (a c : Knowledge) (ops : List Op) (n : ℕ) (dones : List D
   pub given : List ℕ
   pub made : Makes a.number worked (Publish a.number commit.page given ∷ []) c.history
 
--- why a write that has the lock is refused
+-- The reason why a write that has the lock is refused.
 pub record IsHeldBack (a c : Knowledge) (ops : List Op) (e : Refusal) : Type 0 where
   pub same : IsSame a c
   pub seen : c.seen ≡ a.seen
@@ -70,11 +70,11 @@ pub record IsHeldBack (a c : Knowledge) (ops : List Op) (e : Refusal) : Type 0 w
   pub unpublished : c.published ≡ false
   pub begun : upto_lock c.number c.history ≡ upto_lock a.number a.history
 
--- what a write that has the lock returns: it publishes, or is refused
+-- A write that has the lock either is published or is refused.
 abbrev pub Writes : Knowledge → Knowledge → List Op → List Done → Result ℕ Refusal → Type 0
 Writes a c ops dones result = MatchResult result (λ n. Publishes a c ops n dones)
     (λ e. IsHeldBack a c ops e)
 
--- if the error is Full, the journal has room for an entry with this many operations
+-- If the error is `Full`, the journal has reserved room for an entry with this many operations.
 abbrev pub HasRoomAtFull : Work → ℕ → Refusal → Type 0
 HasRoomAtFull w count e = (least : ℕ) → e ≡ Full least → w.reserved ≡ count

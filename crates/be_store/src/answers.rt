@@ -1,14 +1,14 @@
 //! What queries return.
 
-/// What a query returns: the pin's number, and the nodes that match, in ascending order.
+/// What a query returns: the pin's number, and the matching nodes in ascending order.
 #[derive(Debug, Drop)]
 pub struct Answer {
     pub pin: u64,
     pub nodes: Vec<u64>,
 }
 
-/// What changed in a live query's answer: the nodes that came and those that went, each list in
-/// ascending order.
+/// How the answer of a live query has changed: the nodes that were added and the nodes that were
+/// removed, each list in ascending order.
 #[derive(Debug, Drop)]
 pub struct Updates {
     pub created: Vec<u64>,

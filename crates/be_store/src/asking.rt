@@ -16,7 +16,7 @@ use be_query::Query;
 use be_value::Refusal;
 use std::alloc::Global;
 
-/// The nodes that match the query, in ascending order, and the reader back.
+/// Returns the nodes that match the query, in ascending order, and gives the reader back.
 pub(crate) fn ask<L: Look>(
     alloc: Global,
     look: L,
@@ -34,8 +34,8 @@ pub(crate) fn ask<L: Look>(
     (source.into_look(), nodes)
 }
 
-/// Replaces a list's content with the nodes that match the query, in ascending order. Returns the
-/// reader.
+/// Replaces the contents of a list with the nodes that match the query, in ascending order. Gives
+/// the reader back.
 #[inline(never)]
 pub(crate) fn ask_into<L: Look>(
     alloc: Global,
@@ -79,8 +79,8 @@ pub(crate) fn ask_prepared<L: Look>(
     }
 }
 
-/// The comparisons that are chosen for the query, given the version's own indices, and the reader
-/// back.
+/// Returns the comparisons that are chosen for the query from the version's own indices, and gives
+/// the reader back.
 pub(crate) fn choose_at<L: Look>(
     alloc: Global,
     look: L,

@@ -1,4 +1,4 @@
-//! Asking a query about a few nodes one by one, and updating an ascending list with the results.
+//! Evaluates a query at individual nodes, and updates an ascending list with the results.
 ghost use Rattle.std.specs.List.Sorted.{IsStrictlyIncreasing};
 ghost use Rattle.std.specs.Prelude.{◌≡◌, ◌==◌, ◌≤◌, ◌<◌, ◌+◌, ◌++◌, ◌&&◌, ◌||◌, ◌∷◌, [], ℕ, not};
 ghost use Rattle.std.specs.Prelude.{filter, length};
@@ -17,7 +17,7 @@ use be_plan::{Source, is_true};
 use be_query::{Query, Tree};
 use be_value::Refusal;
 
-/// Whether an ascending list has this number.
+/// Returns whether an ascending list contains this number.
 fn has(numbers: &[u64], number: u64) -> bool
     requires { IsStrictlyIncreasing numbers.now }
     ensures { result ≡ is_among numbers.now number }
@@ -25,7 +25,7 @@ fn has(numbers: &[u64], number: u64) -> bool
     numbers.binary_search(&number).is_ok()
 }
 
-/// Adds a number to a list if `is` is true.
+/// Appends a number to a list if `is` is true.
 fn add_if(list: &mut Vec<u64>, number: u64, is: bool) -> Result<(), Refusal>
     ensures ok { OnOk result (list.new.items ≡ list.old.items
         ++ (if is then number ∷ [] else [])) }
@@ -38,8 +38,8 @@ fn add_if(list: &mut Vec<u64>, number: u64, is: bool) -> Result<(), Refusal>
     Ok(())
 }
 
-/// Adds a node to `created` if the query matches it and the list lacks it. Adds it to `removed` if
-/// the list has it and the query doesn't match.
+/// Appends a node to `created` if it matches the query but isn't in the list, and to `removed` if
+/// it is in the list but doesn't match.
 fn add_change(list: &[u64], node: u64, is: bool, updates: &mut Updates) -> Result<(), Refusal>
     requires { IsStrictlyIncreasing list.now }
     ensures created { OnOk result (updates.new.created.items ≡ updates.old.created.items
@@ -53,8 +53,8 @@ fn add_change(list: &[u64], node: u64, is: bool, updates: &mut Updates) -> Resul
     add_if(&mut updates.removed, node, was && !is)
 }
 
-/// Asks a tree about each of these nodes. Adds to `created` those that match but aren't in the
-/// list, and to `removed` those in the list that don't match.
+/// Evaluates a tree at each of these nodes. Appends to `created` the nodes that match but aren't in
+/// the list, and to `removed` those that are in the list but don't match.
 fn ask_nodes<S: Source>(
     source: &mut S,
     tree: &Tree,
@@ -80,7 +80,7 @@ fn ask_nodes<S: Source>(
     Ok(())
 }
 
-/// Does what `ask_nodes` does, for a query and through any page reader, which it returns.
+/// Does what `ask_nodes` does, for a query and through any page reader, which it gives back.
 pub(crate) fn ask_each<L: Look>(
     look: L,
     version_page: u64,
@@ -105,7 +105,7 @@ pub(crate) fn ask_each<L: Look>(
     (source.into_look(), answer)
 }
 
-/// Removes a number from an ascending list, if it is there.
+/// Removes a number from an ascending list if it is there.
 fn take_one(list: &mut Vec<u64>, number: u64)
     requires { IsStrictlyIncreasing list.old.items }
     ensures rising { IsStrictlyIncreasing list.new.items }
@@ -135,7 +135,8 @@ pub(crate) fn take_out(list: &mut Vec<u64>, numbers: &[u64])
     }
 }
 
-/// Inserts a number into an ascending list with room for it, unless it is there already.
+/// Inserts a number into an ascending list unless it is already there. The list must have room for
+/// it.
 fn put_one(list: &mut Vec<u64>, number: u64)
     requires rising { IsStrictlyIncreasing list.old.items }
     requires room { vec_len list.old < vec_capacity list.old }
@@ -154,7 +155,7 @@ fn put_one(list: &mut Vec<u64>, number: u64)
     };
 }
 
-/// Inserts these numbers into an ascending list, which has room for them.
+/// Inserts these numbers into an ascending list, which must have room for them.
 pub(crate) fn put_in(list: &mut Vec<u64>, numbers: &[u64])
     requires rising { IsStrictlyIncreasing list.old.items }
     requires room { vec_len list.old + length numbers.now ≤ vec_capacity list.old }

@@ -1,4 +1,4 @@
-//! Reading many attributes in one call, into the caller's buffers.
+//! Reads many attributes in one call, into the caller's buffers.
 ghost use Rattle.std.specs.Prelude.{◌≡◌, ◌*◌, ◌^◌, ◌≤◌, ℕ, length, map as each};
 ghost use Rattle.be_volume.specs.Reading.{attribute};
 ghost use Rattle.be_paged_reading.specs.Cells.{IsReadInto, ReportsColumns, name_in};
@@ -8,16 +8,16 @@ use crate::{Pass, Store};
 use be_paged::{Cell, HeldName, columns, get_into};
 
 impl Store {
-    /// Reads what each node has at each name in the pinned version, and writes one cell for each:
-    /// the cells of the first node, then those of the second, and so on. The bytes of all texts are
-    /// written end to end. It writes as many cells and bytes as fit, and returns how many bytes
-    /// there are.
+    /// Reads the attributes with the given names from each of the nodes in the pinned version.
+    /// Writes one cell per node and name: first all cells of the first node, then all of the
+    /// second, and so on. The bytes of all strings are concatenated in `bytes`. Writes as many
+    /// cells and bytes as fit, and returns the number of bytes that are needed for all strings.
     ///
-    /// A cell has the attribute's type code, its number, and the offset and length of its bytes. If
-    /// the node has no such attribute, the cell has the number of NoAttr; if the node doesn't
-    /// exist, that of NoNode. No memory is allocated. A node costs one descent of a tree if its
-    /// attributes of these names are adjacent and in this order. Each name that it lacks costs one
-    /// more descent, and so does a node that has none of them.
+    /// A cell holds the attribute's type code, its number, and the offset and length of its bytes.
+    /// If the node has no such attribute, the cell holds the number of `NoAttr`; if the node
+    /// doesn't exist, that of `NoNode`. No memory is allocated. A node costs one descent of a tree
+    /// if its attributes with these names are adjacent and in this order. Each name that the node
+    /// lacks costs one more descent, and so does a node that has none of them.
     pub fn columns(
         &self,
         pass: &mut Pass,
@@ -39,9 +39,9 @@ impl Store {
         needed
     }
 
-    /// A node's attribute in the pinned version as a cell, if it has one. The bytes of a text are
-    /// written to the front of `bytes`, as many as fit. One descent of a tree; no memory is
-    /// allocated.
+    /// Returns an attribute of a node in the pinned version as a cell, or `None` if the node
+    /// doesn't have it. If the attribute is a string, its bytes are written to the start of
+    /// `bytes`, as many as fit. Costs one descent of a tree and allocates no memory.
     #[inline(always)]
     pub fn get_into(
         &self,

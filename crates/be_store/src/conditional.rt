@@ -1,9 +1,9 @@
-//! Writes that depend on what was read: they happen only if no other write came in between.
+//! Conditional writes, which are made only if no other write was made since the caller's read.
 //!
 //! A program pins a version, reads it, and calls `apply_if` with the pin's number. If another write
-//! came first, the call writes nothing and returns a Conflict; the program then pins and reads
-//! again. So no update is lost. A batch may also name the nodes that it makes itself, because
-//! `Store::next` returns their numbers.
+//! came first, the call writes nothing and returns a `Conflict`, and the program pins and reads
+//! again. No update is ever lost in this way. A batch can also name the nodes that it creates
+//! itself, because `Store::next` returns their numbers.
 ghost use Rattle.std.specs.Prelude.{◌≡◌, ◌≤◌, [], IfOk, IfErr, OnErr, length};
 ghost use Rattle.be_store.specs.Conditional.{AcceptsAt, IsLastUnapplied, IsUnapplied, was_held};
 ghost use Rattle.be_store.specs.Passes.{IsPassOf};
@@ -19,14 +19,14 @@ use be_volume::{Done, Op};
 use std::alloc::AllocFailed;
 use thiserror::Error;
 
-/// Why a conditional write was not made.
+/// The reason why a conditional write was not made.
 #[derive(Debug, Drop, Error)]
 pub enum ApplyIfError {
-    /// Another write came first: the journal has this many entries, and not the number that the
-    /// caller named.
+    /// Another write came first: the journal has this many entries, which isn't the number that the
+    /// caller passed.
     #[error("another write came first: the journal has {0} entries")]
     Conflict(u64),
-    /// The write was refused with an error that `Store::apply` also returns.
+    /// The write was refused with an error that `Store::apply` can also return.
     #[error("{0}")]
     Refused(Refusal),
 }
@@ -48,12 +48,14 @@ impl<T: Drop> From<AllocFailed<T>> for ApplyIfError {
 }
 
 impl Store {
-    /// Writes as `apply_into` does if the journal has `number` entries, and otherwise writes
-    /// nothing. So a pass that is pinned to `number` writes on exactly what it read. A pin stays.
+    /// Does what `apply_into` does if the journal has exactly `number` entries, and otherwise
+    /// writes nothing. A write by a pass that is pinned to `number` is therefore based on exactly
+    /// what the pass read. A pin is unaffected.
     ///
-    /// Errors, in this order: Busy; Conflict with the length that was found; the others of
-    /// `apply_into`. After an error nothing is written and the list is empty. A Conflict costs a
-    /// lock and an unlock, which are four atomic operations, and allocates no memory.
+    /// Errors are reported in this order: `Busy`; `Conflict` with the length that was found; the
+    /// other errors of `apply_into`. If the call fails, nothing is written and the list is empty. A
+    /// `Conflict` costs a lock and an unlock, which are four atomic operations, and allocates no
+    /// memory.
     pub fn apply_if_into(
         &self,
         pass: &mut Pass,
@@ -83,7 +85,7 @@ impl Store {
         }
     }
 
-    /// Writes as `apply_if_into` does, and returns the outcomes in a new list.
+    /// Does what `apply_if_into` does, but returns the outcomes in a new list.
     pub fn apply_if(
         &self,
         pass: &mut Pass,
@@ -104,9 +106,9 @@ impl Store {
         }
     }
 
-    /// Writes as `apply_if` does, and tries again while another pass holds the lock, up to `tries`
-    /// times in all. Between two tries it yields to other threads, as `apply_or_retry` does. It
-    /// returns a Conflict at once, because the same call can't succeed any more.
+    /// Does what `apply_if` does, but retries while another pass holds the lock, for up to `tries`
+    /// attempts in total. Between attempts it yields to other threads, as `apply_or_retry` does. A
+    /// `Conflict` is returned immediately, because the same call can no longer succeed.
     pub fn apply_if_or_retry(
         &self,
         pass: &mut Pass,
@@ -136,7 +138,7 @@ impl Store {
     }
 }
 
-/// Whether the write found that another pass holds the lock.
+/// Returns whether the write failed because another pass held the lock.
 fn was_held(answer: &Result<(u64, ArrayVec<Done, 64>), ApplyIfError>) -> bool
     ensures { result ≡ was_held answer.now }
 {

@@ -1,4 +1,4 @@
-//! Reading the journal's entries while the lock is held.
+//! Reads journal entries while the lock is held.
 ghost use Rattle.std.specs.Prelude.{◌≡◌, IfErr, IfOk};
 ghost use Rattle.be_value.specs.declared.refusals.Refusal.TheVariants.{OutOfMemory};
 ghost use Rattle.be_table.specs.Rule.{entries};
@@ -9,7 +9,7 @@ use be_table::Writing;
 use be_value::Refusal;
 use std::alloc::Global;
 
-/// Up to `most` entries from an index on.
+/// Returns up to `most` entries, starting at an index.
 pub(crate) fn entries_from(
     alloc: Global,
     held: &Writing<'_>,

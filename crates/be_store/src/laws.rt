@@ -1,9 +1,9 @@
-//! What a pass of a store knows; that its steps show all its writes and pins; what holds for a
-//! store's only pass; and how large a pool has to be.
+//! Laws about what a pass of a store knows, about which of its writes and pins its steps show,
+//! about a store's only pass, and about how large a pool must be.
 //!
-//! Each law does nothing: its contract is the law, for the crates above. The laws about the only
-//! pass are about what a pass knows before and after a call. `alone` says that a given pass is the
-//! only one.
+//! Each law is a function that does nothing. Its contract is the law, for use in the crates above.
+//! The laws about the only pass relate what that pass knows before and after a call. `alone` shows
+//! that a given pass is the only one.
 ghost use Rattle.std.specs.Prelude.{◌≡◌, ◌≤◌, ◌<◌, ◌++◌, ℕ, List, IsOk, length};
 ghost use Rattle.be_value.specs.declared.refusals.Refusal.{Refusal};
 ghost use Rattle.be_value.specs.declared.refusals.Refusal.TheVariants.{Full};
@@ -35,8 +35,9 @@ ghost use Rattle.be_store.specs.Views.{volume};
 use crate::{Pass, Store};
 use be_journal::replay_push;
 
-/// What a pass has seen is a legal journal of entries by passes of the store. Its own writes are
-/// exactly the entries with its number. The store's pages can hold the volume after each entry.
+/// What a pass has seen is a legal journal whose entries were made by passes of the store. The
+/// pass's own writes are exactly the entries with its number. The store's pages can hold the volume
+/// after each entry.
 pub fn seen_is_legal(store: &Store, pass: &Pass)
     requires { IsPassOf store.now pass.now }
     ensures pass { IsPass pass.now.knows }
@@ -51,14 +52,14 @@ pub fn seen_is_legal(store: &Store, pass: &Pass)
     pass.is_pass();
 }
 
-/// A pass that has just pinned reads the volume after all that it has seen.
+/// A pass that has just pinned reads the volume after everything that it has seen.
 pub fn pin_reads_all_seen()
     ensures { (a c : Knowledge) (n : ℕ) → IsPin a c n → volume_pinned c ≡ volume_seen c }
 {}
 
-/// A pass that has joined a witness pins what the witness had seen, or more, and its accepted
-/// writes come after it. The same holds for an accepted write of another pass: a witness which that
-/// pass made after the write has seen it.
+/// A pass that has joined a witness pins at least what the witness had seen, and its accepted
+/// writes come after that. The same holds with respect to an accepted write of another pass,
+/// because a witness that the other pass makes after its write has seen the write.
 pub fn learned_order()
     ensures reported { (reported : List Commit) (d : Knowledge) → StartsWith d.seen reported
         → ComesAfter reported d }
@@ -67,9 +68,9 @@ pub fn learned_order()
         → ComesAfter c.seen d × (n ≡ length c.seen) }
 {}
 
-/// A pin has each write that ended before it. Its number is at least that of each pin that ended
-/// before it. This holds for any passes. One call ended before another if the other's history
-/// begins with its history. `close` has both in one list of moves.
+/// A pin includes every write that ended before it, and its number is at least that of every pin
+/// that ended before it. This holds across passes. One call ended before another if its history is
+/// a prefix of the other's, and `close` places both in one list of moves.
 pub fn pins_have_earlier_writes()
     ensures writes { (a c b d : Knowledge) (ops : List Op) (n m : ℕ) (dones : List Done)
         → Accepts a c ops n dones → IsPin b d m → EndedBefore c d → n ≤ m }
@@ -78,7 +79,7 @@ pub fn pins_have_earlier_writes()
 {}
 
 /// An empty volume accepts the operations that `Store::state` reads from a pinned version, and then
-/// equals that version's volume.
+/// equals the volume of that version.
 pub fn state_makes_again()
     ensures accepted { (a : Knowledge) (n : ℕ) → IsPass a → IsPinnedTo a n
         → IsOk (steps empty (state_ops (volume_pinned a))) }
@@ -86,7 +87,7 @@ pub fn state_makes_again()
         → state_after empty (state_ops (volume_pinned a)) ≡ volume_pinned a }
 {}
 
-/// A store's only pass has the number 0, and has written all that it has seen.
+/// The only pass of a store has the number 0 and wrote everything that it has seen.
 pub fn alone(store: &Store, pass: &Pass)
     requires pass { IsPassOf store.now pass.now }
     requires one { store.now.limits.passes ≡ 1 }
@@ -97,8 +98,8 @@ pub fn alone(store: &Store, pass: &Pass)
     seen_is_legal(store, pass);
 }
 
-/// An accepted write of the only pass is the next entry after what it had seen, and changes the
-/// volume from there.
+/// An accepted write of the only pass becomes the entry right after what the pass had seen, and
+/// changes the volume at that point.
 pub fn alone_writes_next()
     ensures { (a c : Knowledge) (ops : List Op) (n : ℕ) (dones : List Done) → IsAlone a → IsAlone c
         → Accepts a c ops n dones → WritesNext a c ops n dones }
@@ -106,8 +107,8 @@ pub fn alone_writes_next()
     replay_push();
 }
 
-/// When a write of the only pass is refused, the pass sees nothing new. It is never refused with
-/// Busy.
+/// When a write of the only pass is refused, the pass sees nothing new. Such a write is never
+/// refused with `Busy`.
 pub fn alone_refused()
     ensures seen { (a c : Knowledge) → IsAlone a → IsAlone c → Learns a c → c.seen ≡ a.seen }
     ensures reason { (a c : Knowledge) (ops : List Op) (e : Refusal) → IsAlone a
@@ -119,30 +120,32 @@ pub fn alone_pins_seen()
     ensures { (a c : Knowledge) (n : ℕ) → IsAlone a → IsAlone c → IsPin a c n → c.seen ≡ a.seen }
 {}
 
-/// If a pool is large enough for a write, no such write returns Full while no pass is pinned to an
-/// earlier version or about to pin one. It doesn't matter what the store has done before. Half of
-/// such a pool is for the current version, and half for a write that changes all of it.
-/// `be_volume::laws::stays_within` bounds what a volume has in it between its operations.
+/// If a pool is large enough for a write, the write never returns `Full` as long as no pass is
+/// pinned to an earlier version or about to pin one. This holds whatever the store did before. Half
+/// of such a pool is for the current version, and the other half for a write that changes all of
+/// it. `be_volume::laws::stays_within` bounds the size of the volume between the operations of a
+/// write.
 pub fn large_enough()
     ensures { (c : Knowledge) (ops : List Op) (least : ℕ) → NoneIsEarlier c → HasLargePool c ops
         → ¬ (IsRefusedAt c ops (Full least)) }
 {}
 
-/// The same for a store's only pass, if it isn't pinned to an earlier version itself.
+/// `large_enough` for a store's only pass: the write never returns `Full` if the pass isn't itself
+/// pinned to an earlier version.
 pub fn alone_large_enough()
     ensures { (c : Knowledge) (ops : List Op) (least : ℕ) → IsAlone c → IsAtCurrent c
         → HasLargePool c ops → ¬ (IsRefusedAt c ops (Full least)) }
 {}
 
-/// A pass's steps include each accepted write, pin and unpin that its moves show, in their order.
-/// So a list of steps can leave out only reads, and calls that made no such move.
+/// A pass's steps include every accepted write, pin and unpin that its moves show, in the same
+/// order. A list of steps can therefore omit only reads and calls that made no such move.
 pub fn steps_are_shown()
     ensures { (a : Knowledge) (steps : List (Step volume)) (z : Knowledge) → Calls a steps z
         → shown_by a.number z.history ≡ shown_by a.number a.history ++ shown_in steps }
 {}
 
-/// A pass is out if it was unpinned at its last move. It is out when it is new and after it has
-/// unpinned. It stays out through its writes, and through everything else except a pin.
+/// A pass is out if it was unpinned at its last move. It is out when it is new and after it unpins,
+/// and it stays out until it pins.
 pub fn unpinned_is_out()
     ensures new { (limits its : Limits) (steps k : ℕ) → IsOut limits (newcomer its steps k) }
     ensures unpin { (limits : Limits) (a c : Knowledge) → Unpins a c → IsOut limits c }
@@ -152,9 +155,10 @@ pub fn unpinned_is_out()
         → IsOut limits c }
 {}
 
-/// In a store of several passes, a large pool refuses no write with Full if all passes are unpinned
-/// while it is made. They have to have met the writer before and after the write. Public calls
-/// ensure the premises: `meet` ensures the lists of moves, and a refused write ensures its reason.
+/// In a store with several passes, a large pool refuses no write with `Full` if all passes are
+/// unpinned while the write is made. The other passes must have met the writer both before and
+/// after the write. The contracts of public calls provide the premises: `meet` ensures the lists of
+/// moves, and a refused write ensures the reason.
 pub fn large_enough_unpinned()
     ensures once { (limits : Limits) (a c : Knowledge) (ops : List Op) (least : ℕ)
         → c.limits ≡ limits → c.number ≡ a.number → IsOut limits a → OthersRest limits a c

@@ -1,4 +1,4 @@
-//! Live queries: what changed in an answer since the last refresh.
+//! Live queries, which report how an answer has changed since the last refresh.
 ghost use Rattle.std.specs.List.Sorted.{IsStrictlyIncreasing};
 ghost use Rattle.std.specs.Prelude.{◌≡◌, ◌≢◌, ◌⊎◌, ◌<◌, ◌≤◌, ◌-◌, ◌++◌, ℕ, [], IfOk, IfErr, OnOk};
 ghost use Rattle.std.specs.Prelude.{Err, OnErr, None, drop, false, get_or, length, take, true};
@@ -27,14 +27,15 @@ use be_value::Refusal;
 use std::alloc::Global;
 use std::marker::Model;
 
-/// If the answer has fewer nodes than this, the whole query costs less than reading which nodes
-/// were written.
+/// If the last answer has fewer nodes than this, running the whole query costs less than finding
+/// out which nodes were written.
 const MINIMUM: usize = 96;
 
-/// A live query: it is refreshed again and again, and keeps the answer of its last refresh.
+/// A live query: it is refreshed repeatedly, and keeps the answer of the last refresh.
 ///
-/// It also keeps where that refresh was made, so that `refresh_changed` can read what was written
-/// since then. That call needs a pass of the same store; `refresh` works in any store.
+/// It also remembers the version of that refresh, so that `refresh_changed` can read what was
+/// written since then. `refresh_changed` needs a pass of the same store; `refresh` works with any
+/// store.
 #[derive(Drop)]
 pub struct Live {
     alloc: Global,
@@ -64,7 +65,8 @@ impl Model for Live {
 }
 
 impl Live {
-    /// A query that was never refreshed: its last answer is empty. No memory is allocated.
+    /// Creates a live query that has never been refreshed, so its last answer is empty. No memory
+    /// is allocated.
     pub fn new(alloc: Global, query: Query) -> Live
         ensures { result ≡ record { query = query; last = []; table = None } }
     {
@@ -76,15 +78,15 @@ impl Live {
         }
     }
 
-    /// The query that is refreshed.
+    /// Returns the query that is refreshed.
     pub fn query(&self) -> &Query
         ensures { result.now ≡ self.now.query }
     {
         self.query.query()
     }
 
-    /// Runs the query in the pinned version, as `Store::query_prepared` does. The last refresh's
-    /// answer stays.
+    /// Runs the query in the pinned version, as `Store::query_prepared` does, without changing the
+    /// answer of the last refresh.
     #[inline(always)]
     pub fn query_into(
         &mut self,
@@ -104,8 +106,8 @@ impl Live {
         store.query_prepared(self.alloc, pass, &mut self.query, nodes)
     }
 
-    /// Puts a page of the answer into a list, in the order of an index, as `Store::ordered` does.
-    /// The last refresh's answer stays.
+    /// Replaces the contents of a list with a page of the answer in the order of an index, as
+    /// `Store::ordered` does. Leaves the answer of the last refresh unchanged.
     pub fn ordered(
         &mut self,
         store: &Store,
@@ -126,8 +128,8 @@ impl Live {
         store.ordered(self.alloc, pass, &mut self.query, order, cursor, nodes)
     }
 
-    /// Puts the answer's nodes from a number on into a list, as `Store::first` does. The last
-    /// refresh's answer stays.
+    /// Replaces the contents of a list with the nodes of the answer from a given number on, as
+    /// `Store::first` does. Leaves the answer of the last refresh unchanged.
     pub fn first(
         &mut self,
         store: &Store,
@@ -146,8 +148,8 @@ impl Live {
         store.first(self.alloc, pass, &mut self.query, first, most, nodes)
     }
 
-    /// Puts any nodes of the answer into a list, as `Store::any` does. The last refresh's answer
-    /// stays.
+    /// Replaces the contents of a list with arbitrary nodes of the answer, as `Store::any` does.
+    /// Leaves the answer of the last refresh unchanged.
     pub fn any(
         &mut self,
         store: &Store,
@@ -167,11 +169,11 @@ impl Live {
         store.any(self.alloc, pass, &mut self.query, most, nodes)
     }
 
-    /// Takes the query's current nodes, wherever they were found, and returns which nodes came and
-    /// which went since the last time. The next refresh asks the whole query.
+    /// Takes the query's current nodes, wherever they were found, and returns which nodes were
+    /// added and removed since the last time. The next refresh runs the whole query.
     ///
-    /// OutOfMemory leaves the live query as it was. It goes through both lists once, and allocates
-    /// memory for what it returns.
+    /// The only error is `OutOfMemory`, which leaves the live query unchanged. The call goes
+    /// through both lists once, and allocates memory for the result.
     pub fn update(&mut self, answer: Vec<u64>) -> Result<Updates, Refusal>
         requires { IsStrictlyIncreasing answer.items }
         ensures ok { IfOk result (λ u. (self.new
@@ -187,7 +189,7 @@ impl Live {
     }
 
     /// Finds the nodes at which the answer in the pinned version can differ from the last one.
-    /// Returns false if the whole query has to be asked.
+    /// Returns `false` if the whole query has to be run.
     fn find_changes(
         &mut self,
         store: &Store,
@@ -223,7 +225,7 @@ impl Live {
         found && nodes.len() <= most
     }
 
-    /// Asks the query about these nodes only, and updates the last answer accordingly.
+    /// Evaluates the query only at these nodes, and updates the last answer accordingly.
     fn ask_changed(
         &mut self,
         store: &Store,
@@ -263,11 +265,12 @@ impl Live {
         Ok(updates)
     }
 
-    /// Asks the query in the pinned version, and returns which nodes came and which went since the
-    /// last refresh, whatever store that was in. It reads at the pin and takes no lock.
+    /// Runs the query in the pinned version, and returns which nodes were added and removed since
+    /// the last refresh, even if that was in another store. It reads the pinned version and takes
+    /// no lock.
     ///
-    /// NotCovered and OutOfMemory leave the live query as it was. It costs what
-    /// `Store::query_prepared` and `update` cost.
+    /// `NotCovered` and `OutOfMemory` leave the live query unchanged. The cost is that of
+    /// `Store::query_prepared` plus that of `update`.
     pub fn refresh(&mut self, store: &Store, pass: &mut Pass) -> Result<Updates, Refusal>
         requires pass { IsPassOf store.now pass.old }
         requires pinned { (n : ℕ) × IsPinnedTo pass.old.knows n }
@@ -288,22 +291,24 @@ impl Live {
         Ok(updates)
     }
 
-    /// Returns what `refresh` returns. The last refresh has to be one in this store. It reads the
-    /// journal's entries since then, and asks the query only about the nodes that they name. The
-    /// pin stays. Use it for a large answer of which little changes.
+    /// Returns what `refresh` returns, but the last refresh must have been in this store. Reads the
+    /// journal entries since then, and evaluates the query only at the nodes that they name. The
+    /// pin is unaffected. Use this function for a large answer that changes little between
+    /// refreshes.
     ///
-    /// NotCovered and OutOfMemory leave the live query as it was. To read the journal it tries the
-    /// lock once, and releases it after reading those entries. Other passes' writes return Busy
-    /// meanwhile. From 96 nodes on the pass has then also seen what the last refresh had seen of
-    /// the journal. It allocates memory for what it returns.
+    /// `NotCovered` and `OutOfMemory` leave the live query unchanged. To read the journal, the call
+    /// tries the lock once, and releases it after reading those entries. Writes by other passes
+    /// return `Busy` during that time. If the last answer has at least 96 nodes, the pass has
+    /// afterwards also seen what the last refresh had seen of the journal. Memory is allocated for
+    /// the result.
     ///
-    /// It asks the whole query, which costs what `refresh` costs, in these cases:
+    /// In these cases it runs the whole query, at the cost of `refresh`:
     /// - the last answer has fewer than 96 nodes;
-    /// - there was no refresh yet, or `update` has been called since the last one;
+    /// - the query was never refreshed, or `update` was called after the last refresh;
     /// - another pass holds the lock, or there is no memory to read an entry;
-    /// - the version is older than that of the last refresh;
-    /// - an index was made or removed since then;
-    /// - many nodes were written: more than 64, or more than 4 plus one for each 32 nodes of the
+    /// - the pinned version is older than that of the last refresh;
+    /// - an index was created or removed since then;
+    /// - many nodes were written: more than 64, or more than 4 plus one for every 32 nodes of the
     ///   last answer.
     pub fn refresh_changed(&mut self, store: &Store, pass: &mut Pass) -> Result<Updates, Refusal>
         requires pass { IsPassOf store.now pass.old }
@@ -330,14 +335,15 @@ impl Live {
     }
 }
 
-/// How many nodes a refresh asks about one by one, if the last answer has this many. One node costs
-/// about as much as 32 nodes in a range of an index.
+/// Returns up to how many nodes a refresh checks one by one, given the size of the last answer.
+/// Checking one node costs about as much as reading 32 nodes from a range of an index.
 fn most_asked(nodes: usize) -> usize {
     MOST.min(4 + nodes / 32)
 }
 
-/// Adds the nodes that the entries between two version numbers name. Returns false if there are
-/// more than `most` entries, or if one of them makes or removes an index.
+/// Inserts the nodes that are named by the entries from version `from` up to version `end`. Returns
+/// `false` if `end` comes before `from`, if there are more than `most` entries, or if
+/// `add_named_between` returns `false`.
 #[tactic(auto, using(crate::proofs::Caught::learns_nothing))]
 fn add_changes(
     store: &Store,
@@ -367,8 +373,8 @@ fn add_changes(
     store.add_named_between(pass, from, end, nodes)
 }
 
-/// The first index, from `from` on, at which an ascending list has this number or a greater one;
-/// otherwise the list's length.
+/// Returns the first index, starting at `from`, at which an ascending list has this number or a
+/// greater one. If there is none, returns the length of the list.
 #[inline(always)]
 fn first_not_below(numbers: &[u64], from: usize, number: u64) -> usize
     requires from { from ≤ length numbers.now }
@@ -384,7 +390,8 @@ fn first_not_below(numbers: &[u64], from: usize, number: u64) -> usize
     numbers.len()
 }
 
-/// Which nodes came and which went between two ascending lists of nodes. It goes through both once.
+/// Returns which nodes were added and removed between two ascending lists of nodes. Goes through
+/// both lists once.
 fn changes(alloc: Global, last: &[u64], now: &[u64]) -> Result<Updates, Refusal>
     requires rising { IsStrictlyIncreasing last.now × IsStrictlyIncreasing now.now }
     ensures ok { IfOk result (λ u. (u.created.items ≡ without now.now last.now)
@@ -408,7 +415,7 @@ fn changes(alloc: Global, last: &[u64], now: &[u64]) -> Result<Updates, Refusal>
     Ok(Updates { created, removed })
 }
 
-/// Adds the numbers from the index `from` to just before the index `end` to a list.
+/// Appends the numbers at the indices from `from` up to but excluding `end` to a list.
 #[inline(always)]
 fn push_part(list: &mut Vec<u64>, numbers: &[u64], from: usize, end: usize) -> Result<(), Refusal>
     requires range { (from ≤ end) × (end ≤ length numbers.now) }
@@ -422,7 +429,7 @@ fn push_part(list: &mut Vec<u64>, numbers: &[u64], from: usize, end: usize) -> R
     Ok(())
 }
 
-/// Whether a list has this number at an index; false beyond its end.
+/// Returns whether a list has this number at an index, or `false` if the index is past the end.
 #[inline(always)]
 fn is_at(numbers: &[u64], at: usize, number: u64) -> bool
     ensures found { result ≡ true → (at < length numbers.now) × (get_or numbers.now at 0 ≡ number) }

@@ -1,10 +1,12 @@
-//! Each call of a pass is a step of one small machine; and what a whole run of it promises.
+//! Laws which show that each call of a pass is a step of one small machine, and what a whole run of
+//! the machine promises.
 //!
-//! Each law does nothing: its contract is the law. A public call's contract says what its pass knew
-//! before and after. The law makes that one step of the machine (`specs/SmallMachine.antt`), over
-//! what the pass has seen and written and is pinned to (`specs/Views.antt`). Consecutive calls make
-//! a run with the same steps (`specs/Calls.antt`). The last law is the statement
-//! (`specs/OneHistory.antt`); example_history is a program that ensures it.
+//! Each law is a function that does nothing. Its contract is the law. A public call's contract says
+//! what the pass knew before and after the call. The law turns this into one step of the machine
+//! (`specs/SmallMachine.antt`), which operates on what the pass has seen and written and on its pin
+//! (`specs/Views.antt`). Consecutive calls form a run with the same steps (`specs/Calls.antt`). The
+//! last law is the main statement (`specs/OneHistory.antt`); example_history is a program that
+//! ensures it.
 ghost use Rattle.std.specs.Prelude.{◌≡◌, ◌+◌, ℕ, List, None, Some, length, map, take};
 ghost use Rattle.be_journal.specs.declared.entries.Entry.{Entry};
 ghost use Rattle.be_journal.specs.Journal.{Agrees};
@@ -41,8 +43,8 @@ pub fn write_is_step()
         → Accepts a c ops n dones → IsStep a (Apply (entry_by a ops dones) n) c }
 {}
 
-/// An accepted conditional write is the same step, at the number after the one that the caller
-/// named. If the pass was pinned to that number, the volume as it was at the pin accepts the write.
+/// An accepted conditional write is also the step Apply, at the number after the one that the
+/// caller passed. If the pass was pinned to that number, the pinned volume accepts the write.
 pub fn conditional_write_is_step()
     ensures { (a c : Knowledge) (number : ℕ) (ops : List Op) (n : ℕ) (dones : List Done)
         → AcceptsAt a c number ops n dones
@@ -50,8 +52,8 @@ pub fn conditional_write_is_step()
         × (IsPinnedTo a number → Agrees (volume_pinned a) (entry_by a ops dones)) }
 {}
 
-/// A refused write is the step Learn, which writes nothing; so is a call that reads the journal. A
-/// Conflict returns how many entries the pass has then seen.
+/// A refused write is the step Learn, which writes nothing, and so is a call that reads the
+/// journal. A `Conflict` returns the number of entries that the pass has then seen.
 pub fn refusal_is_step()
     ensures plain { (a c : Knowledge) → Learns a c → IsStep a (Learn (entries c.seen)) c }
     ensures conditional { (a c : Knowledge) (number : ℕ) (ops : List Op) (e : ApplyIfError)
@@ -70,9 +72,10 @@ pub fn unpin_is_step()
     ensures { (a c : Knowledge) → Unpins a c → IsStep a Unpin c }
 {}
 
-/// A read of a pinned pass is the step Read, whatever its question about the volume in its
-/// contract: it returns what that volume answers. A read that ran out of memory returns no answer.
-/// Whether or not a read is among the steps of a run, one history determines which volume it read.
+/// A read by a pinned pass is the step Read, whatever question its contract asks of the volume: it
+/// returns the answer of the pinned volume. A read that ran out of memory returns no answer.
+/// Whether or not a read is among the steps of a run, the one history determines which volume it
+/// read.
 pub fn read_is_step()
     ensures answered { (a c : Knowledge) (n : ℕ) (ask : State → Answer) → IsPinnedTo a n
         → HasRead a c → IsStep a (Read ask (Some (ask (volume_pinned a)))) c }
@@ -83,16 +86,17 @@ pub fn read_is_step()
         → volume_pinned a ≡ state_of volume (take n log) }
 {}
 
-/// Refreshing a live query by what changed makes two steps. Its pass learns, and then reads at the
-/// pin, which has stayed.
+/// Refreshing a live query with `refresh_changed` makes two steps. The pass learns, and then reads
+/// at its pin, which is unchanged.
 pub fn changed_refresh_is_steps()
     ensures { (a c : Knowledge) (n : ℕ) (ask : State → Answer) → Learns a c → IsPinnedTo a n
         → volume_pinned c ≡ volume_pinned a → IsStep a (Learn (entries c.seen)) c
         × IsStep c (Read ask (Some (ask (volume_pinned a)))) c }
 {}
 
-/// A join is the step Learn, and a meeting is that step for both passes. It returns how many
-/// entries they have then seen. Making a witness is a Learn, too, which changes nothing.
+/// A join is the step Learn, and a meeting is that step for each of its two passes. Both return how
+/// many entries the passes have then seen. Making a witness is also a Learn, one that changes
+/// nothing.
 pub fn meeting_is_step()
     ensures meets { (a c : Knowledge) (log : List Commit) → StartsWith log a.seen → c ≡ met a log
         → Call a (Learn (entries log)) c }
@@ -100,8 +104,8 @@ pub fn meeting_is_step()
     ensures witness { (a c : Knowledge) → c ≡ one_step_on a → Call a (Learn (entries a.seen)) c }
 {}
 
-/// One pass's calls are a run of the machine, with the same steps, and with the views that the pass
-/// had after each. The pass keeps its number.
+/// The calls of one pass are a run of the machine with the same steps and with the views that the
+/// pass had after each call. The pass keeps its number.
 pub fn calls_are_run()
     ensures one { (a : Knowledge) (s : Step volume) (c : Knowledge) → Call a s c → IsStep a s c }
     ensures all { (a : Knowledge) (steps : List (Step volume)) (z : Knowledge)
@@ -114,16 +118,16 @@ pub fn calls_are_run()
         → Calls a steps z → z.number ≡ a.number }
 {}
 
-/// Closing a store is the last step: what then holds for its passes and its journal.
+/// Closing a store is the last step. It determines what then holds for the passes and the journal.
 pub fn close_is_step()
     ensures { (count : ℕ) (log : List Entry) (passes : List Knowledge) → IsClosed count log passes
         → Closes volume log (map view_of passes) }
 {}
 
-/// The journal that `close` returns explains all runs of its passes. `given`: whatever runs end in
-/// what these passes know. `made`: the calls that each of them has made since it was new. These
-/// runs have the passes' numbers, their calls' steps, and the views that they had after each step
-/// and at the end.
+/// The journal that `close` returns explains all runs of its passes. `given` states this for any
+/// runs that end in what these passes know. `made` states it for the calls that each pass has made
+/// since it was new. The resulting runs have the numbers of the passes, the steps of their calls,
+/// and the views that the passes had after each step and at the end.
 pub fn one_history()
     ensures given { (count : ℕ) (log : List Entry) (passes : List Knowledge)
         (runs : List (PassRun volume)) → IsClosed count log passes

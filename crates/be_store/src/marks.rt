@@ -1,8 +1,8 @@
-//! What a live query keeps about its last refresh.
+//! What a live query remembers about its last refresh.
 use be_table::Witness;
 
-/// Where the last refresh was made: the number of its version, and a witness of a prefix of the
-/// journal that is at least as long.
+/// The point of the last refresh: the number of its version, and a witness of a prefix of the
+/// journal that is at least that long.
 #[derive(Drop)]
 pub(crate) struct Mark {
     pub witness: Witness,

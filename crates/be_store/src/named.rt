@@ -1,7 +1,7 @@
-//! Which nodes the journal's entries name.
+//! Finds out which nodes the journal's entries name.
 //!
-//! If no index was made or removed, a query's answer can change only at these nodes. The numbers
-//! are collected in place, so no memory is allocated.
+//! As long as no index is created or removed, a query's answer can change only at these nodes. The
+//! numbers are collected in place, so no memory is allocated.
 ghost use Rattle.std.specs.List.Sorted.{IsStrictlyIncreasing};
 ghost use Rattle.std.specs.Prelude.{◌≡◌, ◌≤◌, ◌<◌, ℕ, true, get_or, length};
 ghost use Rattle.be_journal.specs.declared.entries.Entry.{Entry as AnyEntry};
@@ -16,11 +16,11 @@ use arrayvec::ArrayVec;
 use be_table::Writing;
 use be_volume::{Done, Op};
 
-/// The most nodes that a refresh asks about one by one.
+/// The maximum number of nodes that a refresh checks one by one.
 pub(crate) const MOST: usize = 64;
 
-/// Inserts a node into an ascending list, unless it is there already. Returns false if there is no
-/// room.
+/// Inserts a node into an ascending list unless it is already there. Returns `false` if the list
+/// has no room.
 fn add_node(nodes: &mut ArrayVec<u64, 64>, node: u64) -> bool
     requires rising { IsStrictlyIncreasing nodes.old.items }
     ensures rising { IsStrictlyIncreasing nodes.new.items }
@@ -34,8 +34,8 @@ fn add_node(nodes: &mut ArrayVec<u64, 64>, node: u64) -> bool
     }
 }
 
-/// The node that an operation changes. For `New` it is the new node's number; an operation on an
-/// index changes none.
+/// Returns the node that an operation changes, which for `New` is the new node. Operations on
+/// indices change no node.
 fn node_named(op: &Op, done: &Done) -> Option<u64>
     ensures { result ≡ node_named op.now done.now }
 {
@@ -49,8 +49,8 @@ fn node_named(op: &Op, done: &Done) -> Option<u64>
     }
 }
 
-/// Inserts the node that an operation changes into an ascending list. Returns false if the
-/// operation makes or removes an index, or if there is no room for the node.
+/// Inserts the node that an operation changes into an ascending list. Returns `false` if the
+/// operation creates or removes an index, or if the list has no room.
 fn add_step(nodes: &mut ArrayVec<u64, 64>, op: &Op, done: &Done) -> bool
     requires rising { IsStrictlyIncreasing nodes.old.items }
     ensures rising { IsStrictlyIncreasing nodes.new.items }
@@ -64,9 +64,9 @@ fn add_step(nodes: &mut ArrayVec<u64, 64>, op: &Op, done: &Done) -> bool
     }
 }
 
-/// Inserts the nodes that operations with these outcomes change into an ascending list. Returns
-/// false if one of them makes or removes an index, or if there is no room for a node. The list may
-/// then hold any numbers.
+/// Inserts the nodes that are changed by operations with these outcomes into an ascending list.
+/// Returns `false` if an operation creates or removes an index, or if the list has no room. After
+/// that, the contents of the list are unspecified.
 fn add_named(nodes: &mut ArrayVec<u64, 64>, ops: &[Op], dones: &[Done]) -> bool
     requires rising { IsStrictlyIncreasing nodes.old.items }
     ensures rising { IsStrictlyIncreasing nodes.new.items }
@@ -85,8 +85,8 @@ fn add_named(nodes: &mut ArrayVec<u64, 64>, ops: &[Op], dones: &[Done]) -> bool
     true
 }
 
-/// Inserts the nodes that one entry names, while the lock is held. Returns false in the cases of
-/// `add_named`, and if there is no memory for the entry.
+/// Inserts the nodes that one entry names, while the lock is held. Returns `false` in the same
+/// cases as `add_named`, and if there is no memory for the entry.
 fn add_entry(held: &Writing<'_>, i: u64, nodes: &mut ArrayVec<u64, 64>) -> bool
     requires inside { i < length held.now.knows.seen }
     requires rising { IsStrictlyIncreasing nodes.old.items }
@@ -102,7 +102,7 @@ fn add_entry(held: &Writing<'_>, i: u64, nodes: &mut ArrayVec<u64, 64>) -> bool
     add_named(nodes, entry.ops.as_slice(), entry.dones.as_slice())
 }
 
-/// Inserts the nodes that the entries from one index up to another name, while the lock is held.
+/// Inserts the nodes named by the entries from one index up to another, while the lock is held.
 fn add_between(held: &Writing<'_>, from: u64, end: u64, nodes: &mut ArrayVec<u64, 64>) -> bool
     requires end { end ≤ length held.now.knows.seen }
     requires rising { IsStrictlyIncreasing nodes.old.items }
@@ -119,11 +119,12 @@ fn add_between(held: &Writing<'_>, from: u64, end: u64, nodes: &mut ArrayVec<u64
 }
 
 impl Store {
-    /// Inserts the nodes that the entries from one index up to another name into an ascending list.
-    /// The pass has seen these entries. A pin stays.
+    /// Inserts the nodes named by the entries from one index up to another into an ascending list.
+    /// The pass must have seen these entries. A pin is unaffected.
     ///
-    /// Returns false if an entry makes or removes an index, if there is no room or no memory, or if
-    /// another pass holds the lock; it tries once. The list may then hold any numbers.
+    /// Returns `false` if an entry creates or removes an index, if the list has no room, if memory
+    /// runs out, or if another pass holds the lock, which the call tries once. After that, the
+    /// contents of the list are unspecified.
     pub(crate) fn add_named_between(
         &self,
         pass: &mut Pass,

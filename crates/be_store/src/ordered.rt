@@ -1,5 +1,5 @@
-//! Parts of a prepared query's answer: a page in the order of an index, the first nodes by number,
-//! or any few.
+//! Returns parts of a prepared query's answer: a page in the order of an index, the first nodes by
+//! number, or a few arbitrary nodes.
 ghost use Rattle.std.specs.Prelude.{◌≡◌, ◌⊎◌, ℕ, Err, OnErr, OnOk, IfErr};
 ghost use Rattle.be_order.specs.Firsts.{IsAnyOf, from_number};
 ghost use Rattle.be_order.specs.Ordered.{cursor_bytes, page, page_with};
@@ -21,7 +21,8 @@ use be_plan::{PreparedQuery, Source};
 use be_value::{Kind, Name, Refusal};
 use std::alloc::Global;
 
-/// The kind of the index of that name, if there is one, and the reader back.
+/// Returns the kind of the index with that name, or `None` if there is no such index, and gives the
+/// reader back.
 fn kind_at<L: Look>(look: L, version_page: u64, name: &Name) -> (L, Option<Kind>)
     ghost volume: { State }
     requires version { IsVersion (L.page_state look) (L.words look) version_page volume }
@@ -33,7 +34,7 @@ fn kind_at<L: Look>(look: L, version_page: u64, name: &Name) -> (L, Option<Kind>
     (source.into_look(), kind)
 }
 
-/// Replaces a list's content with a page of the answer, and returns the reader.
+/// Replaces the contents of a list with a page of the answer. Gives the reader back.
 fn ask_page<L: Look>(
     alloc: Global,
     look: L,
@@ -57,8 +58,8 @@ fn ask_page<L: Look>(
     (source.into_look(), answer)
 }
 
-/// Replaces a list's content with up to `most` nodes of the answer from a number on, and returns
-/// the reader.
+/// Replaces the contents of a list with up to `most` nodes of the answer, starting at the number
+/// `first`. Gives the reader back.
 fn ask_first<L: Look>(
     alloc: Global,
     look: L,
@@ -80,7 +81,8 @@ fn ask_first<L: Look>(
     (source.into_look(), answer)
 }
 
-/// Replaces a list's content with any nodes of the answer, up to `most`, and returns the reader.
+/// Replaces the contents of a list with up to `most` arbitrary nodes of the answer. Gives the
+/// reader back.
 fn ask_any<L: Look>(
     alloc: Global,
     look: L,
@@ -102,8 +104,8 @@ fn ask_any<L: Look>(
 }
 
 impl Store {
-    /// The kind of the index of that name in the pinned version, if there is one. It reads only the
-    /// version page; no memory is allocated.
+    /// Returns the kind of the index with that name in the pinned version, or `None` if there is no
+    /// such index. Reads only the version page and allocates no memory.
     pub fn index_kind(&self, pass: &mut Pass, name: &Name) -> Option<Kind>
         requires pass { IsPassOf self.now pass.old }
         requires pinned { (n : ℕ) × IsPinnedTo pass.old.knows n }
@@ -116,27 +118,30 @@ impl Store {
         kind
     }
 
-    /// Replaces a list's content with a page of the query's answer, and returns whether there are
-    /// more. The nodes are in the order of an index: by value, and by number within one value,
-    /// ascending or exactly the reverse. A page has the first `order.most` nodes after the cursor.
-    /// A node that has no pair in the index is on no page. The cursor then moves to the last node
-    /// of the page; an empty page leaves it as it was. For the first page it is None.
+    /// Replaces the contents of a list with one page of the query's answer, and returns whether
+    /// more pages follow. The nodes are in the order of an index: sorted by value, with equal
+    /// values sorted by number, in ascending order or exactly its reverse. A page has the first
+    /// `order.most` nodes after the cursor. Nodes that have no pair in the index are on no page.
+    /// The call moves the cursor to the last node of the page; an empty page leaves it unchanged.
+    /// Pass `None` as the cursor to get the first page.
     ///
-    /// A cursor is a place in the order, and not a count. At a later version a page continues from
-    /// there, whatever was written in between. A node whose value is now before the cursor isn't
-    /// seen. One that was seen and is now after it comes again.
+    /// The cursor is a position in the order, not a count. At a later version, the next page
+    /// continues from that position, whatever was written in the meantime. A node whose value has
+    /// moved before the cursor is missed, and a node that was already returned and has moved past
+    /// the cursor is returned again.
     ///
-    /// NoSuchIndex if that version has no index of the order's name; then NotCovered if none of its
-    /// indices covers the query; OutOfMemory. An error leaves the cursor as it was, and the list
-    /// may hold any numbers.
+    /// Returns `NoSuchIndex` if that version has no index with the order's name; otherwise
+    /// `NotCovered` if none of its indices covers the query, or `OutOfMemory`. An error leaves the
+    /// cursor unchanged and the contents of the list unspecified.
     ///
-    /// It costs as much as the cheapest of three ways, or up to about twice that:
-    /// - A walk over the page's keys and one more, if all comparisons are on the order's name and
+    /// The cost is that of the cheapest of three methods, or up to about twice as much:
+    /// - A walk over the keys of the page and one more, if all comparisons use the order's name and
     ///   their range decides the query. Memory is allocated only for the list.
-    /// - Otherwise a walk over the order's index from the cursor. It asks the query about each node
-    ///   that it passes until the page is full.
-    /// - If that costs more than the whole answer: what `query_prepared` costs, two descents for
-    ///   each node that is found, and a sort. It allocates memory for the keys after the cursor.
+    /// - Otherwise, a walk over the order's index that starts at the cursor and evaluates the query
+    ///   at each node until the page is full.
+    /// - If that would cost more than computing the whole answer: the cost of `query_prepared`, two
+    ///   descents for each node that is found, and a sort. Memory is allocated for the keys after
+    ///   the cursor.
     pub fn ordered(
         &self,
         alloc: Global,
@@ -161,11 +166,12 @@ impl Store {
         more
     }
 
-    /// Replaces a list's content with up to `most` nodes of the query's answer from the number
-    /// `first` on, in ascending order. To continue, call it with the number after the last of
-    /// these.
+    /// Replaces the contents of a list with up to `most` nodes of the query's answer in ascending
+    /// order, starting at the number `first`. To continue, call it again with the number after the
+    /// last of these nodes.
     ///
-    /// Errors and cost are those of `query_prepared`. After an error the list may hold any numbers.
+    /// The errors and the cost are those of `query_prepared`. After an error, the contents of the
+    /// list are unspecified.
     pub fn first(
         &self,
         alloc: Global,
@@ -188,12 +194,12 @@ impl Store {
         answer
     }
 
-    /// Replaces a list's content with any nodes of the query's answer, none of them twice: `most`
-    /// of them, or all if there are fewer.
+    /// Replaces the contents of a list with arbitrary nodes of the query's answer, without
+    /// duplicates: `most` nodes, or all if the answer has fewer.
     ///
-    /// Errors are those of `query_prepared`. After an error the list may hold any numbers. It costs
-    /// a walk over `most` keys if the range of one index decides the query, and otherwise what
-    /// `query_prepared` costs.
+    /// The errors are those of `query_prepared`. After an error, the contents of the list are
+    /// unspecified. Costs a walk over `most` keys if the range of one index decides the query, and
+    /// otherwise as much as `query_prepared`.
     pub fn any(
         &self,
         alloc: Global,

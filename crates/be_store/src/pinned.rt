@@ -1,7 +1,8 @@
-//! A pass while it is pinned.
+//! A guard for a pass that is pinned.
 //!
-//! A pin that is forgotten holds its version's pages for as long as the store lives. So a program
-//! that leaves a function by `?` queries through a `Pinned`, which unpins when it is dropped.
+//! A pin that is never released holds the pages of its version for as long as the store lives. A
+//! function that can return early with `?` should therefore query through a `Pinned`, which unpins
+//! when it is dropped.
 ghost use Rattle.std.specs.List.Sorted.{IsStrictlyIncreasing};
 ghost use Rattle.std.specs.Prelude.{◌≡◌, ◌⊎◌, ◌<◌, ◌≤◌, ◌++◌, ◌*◌, ◌^◌, ℕ, true, false, [], None};
 ghost use Rattle.std.specs.Prelude.{Ok, Err, IsOk, IfOk, IfErr, IfNone, IfSome, OnErr, OnOk};
@@ -46,8 +47,8 @@ pub struct Pinned<'a> {
 }
 
 impl Store {
-    /// Pins the current version, as `pin` does, until the guard that it returns is dropped. Three
-    /// steps, and one when it is dropped; no memory is allocated.
+    /// Pins the current version, as `pin` does, until the returned guard is dropped. Takes three
+    /// steps, plus one when the guard is dropped, and allocates no memory.
     pub fn pinned<'a>(&'a self, pass: &'a mut Pass) -> Pinned<'a>
         requires pass { IsPassOf self.now pass.old }
         requires unpinned { pinned_number pass.old.knows.phase ≡ None }
@@ -65,14 +66,14 @@ impl Store {
 }
 
 impl Pinned<'_> {
-    /// The number of the version that is read, which is how many entries of the journal it has.
+    /// Returns the number of the pinned version, which is how many journal entries it includes.
     pub fn number(&self) -> u64
         ensures { result ≡ self.now.number }
     {
         self.number
     }
 
-    /// As `Store::query`.
+    /// Equivalent to `Store::query`.
     pub fn query(&mut self, alloc: Global, query: &Query) -> Result<Answer, Refusal>
         requires pinned { (n : ℕ) × IsPinnedTo self.old.pass.now.knows n }
         ensures same_reference { self.new.pass.ghost_name ≡ self.old.pass.ghost_name }
@@ -87,7 +88,7 @@ impl Pinned<'_> {
         self.store.query(alloc, self.pass, query)
     }
 
-    /// As `Store::query_into`.
+    /// Equivalent to `Store::query_into`.
     pub fn query_into(
         &mut self,
         alloc: Global,
@@ -107,7 +108,7 @@ impl Pinned<'_> {
         self.store.query_into(alloc, self.pass, query, nodes)
     }
 
-    /// As `Store::query_prepared`.
+    /// Equivalent to `Store::query_prepared`.
     #[inline(always)]
     pub fn query_prepared(
         &mut self,
@@ -129,7 +130,7 @@ impl Pinned<'_> {
         self.store.query_prepared(alloc, self.pass, query, nodes)
     }
 
-    /// As `Store::ordered`.
+    /// Equivalent to `Store::ordered`.
     pub fn ordered(
         &mut self,
         alloc: Global,
@@ -153,7 +154,7 @@ impl Pinned<'_> {
             .ordered(alloc, self.pass, query, order, cursor, nodes)
     }
 
-    /// As `Store::first`.
+    /// Equivalent to `Store::first`.
     pub fn first(
         &mut self,
         alloc: Global,
@@ -175,7 +176,7 @@ impl Pinned<'_> {
             .first(alloc, self.pass, query, first, most, nodes)
     }
 
-    /// As `Store::any`.
+    /// Equivalent to `Store::any`.
     pub fn any(
         &mut self,
         alloc: Global,
@@ -197,7 +198,7 @@ impl Pinned<'_> {
         self.store.any(alloc, self.pass, query, most, nodes)
     }
 
-    /// As `Store::index_kind`.
+    /// Equivalent to `Store::index_kind`.
     pub fn index_kind(&mut self, name: &Name) -> Option<Kind>
         requires pinned { (n : ℕ) × IsPinnedTo self.old.pass.now.knows n }
         ensures same_reference { self.new.pass.ghost_name ≡ self.old.pass.ghost_name }
@@ -209,7 +210,7 @@ impl Pinned<'_> {
         self.store.index_kind(self.pass, name)
     }
 
-    /// As `Store::explain`.
+    /// Equivalent to `Store::explain`.
     pub fn explain(&mut self, alloc: Global, query: &Query) -> Result<Cover, Refusal>
         requires pinned { (n : ℕ) × IsPinnedTo self.old.pass.now.knows n }
         ensures same_reference { self.new.pass.ghost_name ≡ self.old.pass.ghost_name }
@@ -228,7 +229,7 @@ impl Pinned<'_> {
         self.store.explain(alloc, self.pass, query)
     }
 
-    /// As `Store::get`.
+    /// Equivalent to `Store::get`.
     #[inline(always)]
     pub fn get(&mut self, node: u64, name: &Name) -> Option<Value>
         requires pinned { (n : ℕ) × IsPinnedTo self.old.pass.now.knows n }
@@ -241,7 +242,7 @@ impl Pinned<'_> {
         self.store.get(self.pass, node, name)
     }
 
-    /// As `Store::columns`.
+    /// Equivalent to `Store::columns`.
     pub fn columns(
         &mut self,
         nodes: &[u64],
@@ -261,7 +262,7 @@ impl Pinned<'_> {
         self.store.columns(self.pass, nodes, names, cells, bytes)
     }
 
-    /// As `Store::get_into`.
+    /// Equivalent to `Store::get_into`.
     pub fn get_into(&mut self, node: u64, name: &HeldName, bytes: &mut [u8]) -> Option<Cell>
         requires pinned { (n : ℕ) × IsPinnedTo self.old.pass.now.knows n }
         ensures same_reference { self.new.pass.ghost_name ≡ self.old.pass.ghost_name }
@@ -274,7 +275,7 @@ impl Pinned<'_> {
         self.store.get_into(self.pass, node, name, bytes)
     }
 
-    /// As `Store::next`.
+    /// Equivalent to `Store::next`.
     pub fn next(&mut self) -> u64
         requires pinned { (n : ℕ) × IsPinnedTo self.old.pass.now.knows n }
         ensures same_reference { self.new.pass.ghost_name ≡ self.old.pass.ghost_name }
@@ -286,7 +287,7 @@ impl Pinned<'_> {
         self.store.next(self.pass)
     }
 
-    /// As `Store::attrs`.
+    /// Equivalent to `Store::attrs`.
     pub fn attrs(&mut self, alloc: Global, node: u64) -> Result<Vec<(Name, Value)>, Refusal>
         requires pinned { (n : ℕ) × IsPinnedTo self.old.pass.now.knows n }
         ensures same_reference { self.new.pass.ghost_name ≡ self.old.pass.ghost_name }
@@ -301,7 +302,7 @@ impl Pinned<'_> {
         self.store.attrs(alloc, self.pass, node)
     }
 
-    /// As `Store::indices`.
+    /// Equivalent to `Store::indices`.
     pub fn indices(&mut self, alloc: Global) -> Result<Vec<(Name, Kind)>, Refusal>
         requires pinned { (n : ℕ) × IsPinnedTo self.old.pass.now.knows n }
         ensures same_reference { self.new.pass.ghost_name ≡ self.old.pass.ghost_name }
@@ -314,7 +315,7 @@ impl Pinned<'_> {
         self.store.indices(alloc, self.pass)
     }
 
-    /// As `Store::nodes`.
+    /// Equivalent to `Store::nodes`.
     pub fn nodes(&mut self, alloc: Global, from: u64, most: usize) -> Result<Vec<u64>, Refusal>
         requires pinned { (n : ℕ) × IsPinnedTo self.old.pass.now.knows n }
         ensures same_reference { self.new.pass.ghost_name ≡ self.old.pass.ghost_name }
@@ -327,7 +328,7 @@ impl Pinned<'_> {
         self.store.nodes(alloc, self.pass, from, most)
     }
 
-    /// As `Store::state`.
+    /// Equivalent to `Store::state`.
     pub fn state(&mut self, alloc: Global, place: &mut Place) -> Result<Option<Vec<Op>>, Refusal>
         requires pinned { (n : ℕ) × IsPinnedTo self.old.pass.now.knows n }
         ensures same_reference { self.new.pass.ghost_name ≡ self.old.pass.ghost_name }
@@ -349,7 +350,7 @@ impl Pinned<'_> {
         self.store.state(alloc, self.pass, place)
     }
 
-    /// As `Live::refresh`.
+    /// Equivalent to `Live::refresh`.
     pub fn refresh(&mut self, live: &mut Live) -> Result<Updates, Refusal>
         requires pinned { (n : ℕ) × IsPinnedTo self.old.pass.now.knows n }
         ensures same_reference { self.new.pass.ghost_name ≡ self.old.pass.ghost_name }
@@ -366,7 +367,7 @@ impl Pinned<'_> {
         live.refresh(self.store, self.pass)
     }
 
-    /// As `Live::refresh_changed`.
+    /// Equivalent to `Live::refresh_changed`.
     pub fn refresh_changed(&mut self, live: &mut Live) -> Result<Updates, Refusal>
         requires pinned { (n : ℕ) × IsPinnedTo self.old.pass.now.knows n }
         requires own { IsLiveOf self.old.store.now live.old }

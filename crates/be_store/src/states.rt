@@ -1,4 +1,4 @@
-//! The operations that rebuild a version, read through any page reader.
+//! Reads the operations that rebuild a version, through any page reader.
 ghost use Rattle.std.specs.Prelude.{◌≡◌, ◌<◌, ◌≤◌, ◌++◌, [], IfNone, IfOk, IfSome, length};
 ghost use Rattle.be_volume.specs.Volume.{State};
 ghost use Rattle.be_volume_state.specs.Places.{given, left};
@@ -10,7 +10,7 @@ use be_volume::Op;
 use be_volume_state::{Place, next_list};
 use std::alloc::{AllocError, Global};
 
-/// The next list of a version's operations, and the reader back.
+/// Returns the next list of a version's operations, and gives the reader back.
 pub(crate) fn read_on<L: Look>(
     alloc: Global,
     look: L,

@@ -1,4 +1,4 @@
-//! The store, and the calls of its passes.
+//! The store and the calls that its passes make.
 ghost use Rattle.std.specs.Prelude.{◌≡◌, ◌⊎◌, ◌≤◌, ◌<◌, ◌++◌, ℕ, true, false, [], ◌∷◌, None, Some};
 ghost use Rattle.std.specs.Prelude.{Ok, MatchResult, IsOk, IfOk, IfErr, IfNone, IfSome, OnErr};
 ghost use Rattle.std.specs.Prelude.{OnOk, length, map, string_bytes};
@@ -25,7 +25,7 @@ use be_volume_state::Place;
 use std::alloc::Global;
 use std::marker::Model;
 
-/// A shared store. Use a pass only with the store that made it.
+/// A shared store. A pass may be used only with the store that created it.
 #[derive(Drop)]
 pub struct Store {
     table: VersionTable,
@@ -65,11 +65,11 @@ impl Store {
     ghost use Rattle.be_store.specs.Calls.{AreInOneTrace, HasWrites, ReadsFronts};
     ghost use Rattle.be_store.specs.Statuses.{ReportsStatus};
 
-    /// Opens an empty store. Returns it with its passes, in the order of their numbers from 0; they
-    /// have seen nothing.
+    /// Opens an empty store and returns it together with its passes. They are ordered by number,
+    /// starting from 0, and have seen nothing yet.
     ///
-    /// BadLimits exactly if a limit is out of range; OutOfMemory. It allocates all pages, 4 KiB
-    /// each, and for a moment their words a second time.
+    /// Returns `BadLimits` if a limit is out of range, and only then, or `OutOfMemory`. The call
+    /// allocates all pages, 4 KiB each, and briefly needs memory for a second copy of their words.
     pub fn open(alloc: Global, limits: Limits) -> Result<(Store, Vec<Pass>), Refusal>
         ensures { MatchResult result
             (λ r. (r.0.limits ≡ limits) × (length r.1.items ≡ limits.passes)
@@ -80,8 +80,8 @@ impl Store {
         Ok((Store { table }, passes))
     }
 
-    /// Takes the lock and returns an open write. The pass is blank until the caller puts the
-    /// write's seat back. Busy if another pass holds the lock.
+    /// Takes the lock and returns an open write. The pass is blank until the caller puts back the
+    /// seat of the write. Returns `Busy` if another pass holds the lock.
     pub(crate) fn lock(&self, pass: &mut Pass) -> Result<Writing<'_>, Refusal>
         requires pass { IsPassOf self.now pass.old }
         ensures held { IfOk result (λ w. (w.table ≡ self.now) × (w.reserved ≡ 0)
@@ -99,27 +99,27 @@ impl Store {
     }
 
     /// Writes a transaction of 1 to 64 operations, all or none. Returns its commit number, which is
-    /// the length of the journal including it. The outcomes of the operations replace what was in
-    /// `dones`. A pin stays.
+    /// the journal's length including this transaction. The outcomes of the operations replace the
+    /// contents of `dones`. A pin is unaffected.
     ///
-    /// Errors, in this order:
-    /// - Busy if another pass holds the lock. The call tries once, and may be made again;
-    /// - an error of the volume as the journal leaves it, from NoNode to NotIndexable;
-    /// - CommitsSpent if the journal is at its limit;
-    /// - OutOfMemory if there is no room for the entry; the call may be made again;
-    /// - Full if no page is free.
+    /// Errors are reported in this order:
+    /// - `Busy` if another pass holds the lock. The call tries once, and can be retried;
+    /// - an error of the volume that the journal describes, from `NoNode` to `NotIndexable`;
+    /// - `CommitsSpent` if the journal has reached its limit;
+    /// - `OutOfMemory` if there is no memory for the journal entry. The call can be retried;
+    /// - `Full` if no page is free.
     ///
-    /// After an error nothing is written and the list is empty.
+    /// If the call fails, nothing is written and the list is empty.
     ///
-    /// It costs one compare-exchange to begin, new pages on the path to each change, one store to
-    /// publish and one to unlock. Each word that it reads is a load, and each that it changes is a
-    /// store. It scans if no page is free, or if enough pages were retired since the last scan:
-    /// one, or 32 if that scan had to leave pages to readers. A scan reads each reader slot, and
-    /// works on each page that this frees. It allocates memory only for its entry. Busy costs the
-    /// compare-exchange.
+    /// Beginning the write costs one compare-exchange, each change costs new pages along its path,
+    /// and publishing and unlocking cost one store each. Every word that is read costs a load, and
+    /// every word that is changed costs a store. The call scans if no page is free, or if enough
+    /// pages were retired since the last scan: one page, or 32 if that scan had to leave pages to
+    /// readers. A scan reads every reader slot and processes each page that it frees. Only the
+    /// journal entry allocates memory. A call that returns `Busy` costs the compare-exchange.
     ///
-    /// The list is filled in place, because returning one by value costs its whole capacity at each
-    /// move.
+    /// The list is filled in place because returning it by value would copy its whole capacity at
+    /// each move.
     pub fn apply_into(
         &self,
         pass: &mut Pass,
@@ -149,7 +149,7 @@ impl Store {
         }
     }
 
-    /// Writes as `apply_into` does, and returns the outcomes in a new list.
+    /// Does what `apply_into` does, but returns the outcomes in a new list.
     pub fn apply(&self, pass: &mut Pass, ops: &[Op]) -> Result<(u64, ArrayVec<Done, 64>), Refusal>
         requires pass { IsPassOf self.now pass.old }
         requires count { (1 ≤ length ops.now) × (length ops.now ≤ 64) }
@@ -166,11 +166,13 @@ impl Store {
         }
     }
 
-    /// Writes as `apply` does, and tries again while another pass holds the lock, up to `tries`
-    /// times in all. Busy then names the pass that the last try found.
+    /// Does what `apply` does, but retries while another pass holds the lock, for up to `tries`
+    /// attempts in total. If they all fail, `Busy` names the pass that held the lock at the last
+    /// attempt.
     ///
-    /// Before the second try it yields to other threads once, and before each later try twice as
-    /// often, up to 1,024 times. A try that finds the lock taken costs one compare-exchange.
+    /// It yields to other threads once before the second attempt, and twice as often before each
+    /// further attempt, up to 1,024 times. An attempt that finds the lock taken costs one
+    /// compare-exchange.
     pub fn apply_or_retry(
         &self,
         pass: &mut Pass,
@@ -198,9 +200,9 @@ impl Store {
         self.apply(pass, ops)
     }
 
-    /// Pins the current version and returns its number. Until it unpins, the pass reads the volume
-    /// after that many entries of the journal, whatever is written meanwhile. Three steps; no
-    /// memory is allocated.
+    /// Pins the current version and returns its number. Until it is unpinned, the pass reads the
+    /// volume after that many journal entries, whatever is written in the meantime. Takes three
+    /// steps and allocates no memory.
     pub fn pin(&self, pass: &mut Pass) -> u64
         requires pass { IsPassOf self.now pass.old }
         requires unpinned { pinned_number pass.old.knows.phase ≡ None }
@@ -212,7 +214,7 @@ impl Store {
         self.table.look_again(pass).0
     }
 
-    /// Releases the pin. One step; no memory is allocated.
+    /// Releases the pin. Takes one step and allocates no memory.
     pub fn unpin(&self, pass: &mut Pass)
         requires pass { IsPassOf self.now pass.old }
         requires pinned { (n : ℕ) × IsPinnedTo pass.old.knows n }
@@ -225,8 +227,8 @@ impl Store {
         self.table.unpin(pass);
     }
 
-    /// A reader of the pinned version, and its version page. The pass is blank until the caller
-    /// puts the reader's seat back.
+    /// Returns a reader of the pinned version, and the version page. The pass is blank until the
+    /// caller puts back the reader's seat.
     pub(crate) fn reader(&self, pass: &mut Pass) -> (PinnedLook<'_>, u64)
         requires pass { IsPassOf self.now pass.old }
         requires pinned { (n : ℕ) × IsPinnedTo pass.old.knows n }
@@ -238,8 +240,9 @@ impl Store {
         (self.table.pinned_look(pass.move_out()), page)
     }
 
-    /// The number that the next `Op::New` gets in the pinned version. A batch for `apply_if` at the
-    /// pin's number can therefore name the nodes that it makes. One load; no memory is allocated.
+    /// Returns the number that the next `Op::New` would get in the pinned version. A batch that is
+    /// passed to `apply_if` with the pin's number can therefore name the nodes that it creates
+    /// itself. Costs one load and allocates no memory.
     pub fn next(&self, pass: &mut Pass) -> u64
         requires pass { IsPassOf self.now pass.old }
         requires pinned { (n : ℕ) × IsPinnedTo pass.old.knows n }
@@ -252,14 +255,14 @@ impl Store {
         number
     }
 
-    /// The nodes that match the query in the pinned version, in ascending order, and the pin's
-    /// number.
+    /// Returns the nodes that match the query in the pinned version, in ascending order, and the
+    /// pin's number.
     ///
-    /// NotCovered if no index of that version covers the query; OutOfMemory. It costs one descent
-    /// of a tree for each chosen index, and a walk over the range of keys that the query leaves of
-    /// it. If the range doesn't decide the query, it looks up the other names at each key. It
-    /// allocates memory for the plan, for the nodes, and for the marks that put many nodes in
-    /// order.
+    /// Returns `NotCovered` if no index of that version covers the query, or `OutOfMemory`. The
+    /// call descends one tree for each chosen index and walks the range of keys to which the query
+    /// narrows that index. If the range alone doesn't decide the query, it also looks up the
+    /// query's other names at each key. Memory is allocated for the plan, for the nodes, and for
+    /// the marks that are used to sort large results.
     pub fn query(&self, alloc: Global, pass: &mut Pass, query: &Query) -> Result<Answer, Refusal>
         requires pass { IsPassOf self.now pass.old }
         requires pinned { (n : ℕ) × IsPinnedTo pass.old.knows n }
@@ -278,11 +281,12 @@ impl Store {
         Ok(Answer { pin, nodes: nodes? })
     }
 
-    /// Replaces a list's content with the nodes that match the query in the pinned version, in
-    /// ascending order. Returns the pin's number. A list that has room for the nodes allocates no
-    /// memory, and keeps its capacity.
+    /// Replaces the contents of a list with the nodes that match the query in the pinned version,
+    /// in ascending order. Returns the pin's number. If the list has room for the nodes, it
+    /// allocates no memory and keeps its capacity.
     ///
-    /// Errors and cost are those of `query`. After an error the list may hold any numbers.
+    /// The errors and the cost are those of `query`. After an error, the contents of the list are
+    /// unspecified.
     pub fn query_into(
         &self,
         alloc: Global,
@@ -308,11 +312,12 @@ impl Store {
         Ok(pin)
     }
 
-    /// Does what `query_into` does, for a prepared query. The first call computes what depends only
-    /// on the query. If all comparisons are on one name and none is under `||`, that is the range
-    /// of keys in the name's index. Such a query costs one descent and a walk over the range. The
-    /// index is looked up again only if another index has taken its place. The range is computed
-    /// again only if the index has another kind. Any other query costs what `query` costs.
+    /// Does what `query_into` does, for a prepared query. The first call computes everything that
+    /// depends only on the query. If all comparisons use the same name and none is under `||`, that
+    /// is the range of keys in the index of that name. Such a query then costs one descent and a
+    /// walk over the range. The index is looked up again only if another index has taken its place,
+    /// and the range is computed again only if the kind of the index has changed. Any other query
+    /// costs as much as `query`.
     #[inline(always)]
     pub fn query_prepared(
         &self,
@@ -340,11 +345,12 @@ impl Store {
         Ok(pin)
     }
 
-    /// Explains how the query would be answered in the pinned version: the comparisons whose
-    /// indices are chosen, and their score. `be_plan::explain` makes a text of it.
+    /// Explains how the query would be answered in the pinned version: which comparisons have their
+    /// indices chosen, and their score. `be_plan::explain` formats the result as text.
     ///
-    /// NotCovered if no index of that version covers the query; OutOfMemory. It looks up the index
-    /// of each comparison's name, and reads no key and no node. It allocates memory for the plan.
+    /// Returns `NotCovered` if no index of that version covers the query, or `OutOfMemory`. The
+    /// call looks up the index of each comparison's name but reads no keys and no nodes. Memory is
+    /// allocated for the plan.
     pub fn explain(&self, alloc: Global, pass: &mut Pass, query: &Query) -> Result<Cover, Refusal>
         requires pass { IsPassOf self.now pass.old }
         requires pinned { (n : ℕ) × IsPinnedTo pass.old.knows n }
@@ -363,8 +369,8 @@ impl Store {
         cover
     }
 
-    /// A node's attribute in the pinned version, if it has one. One descent of a tree; no memory is
-    /// allocated.
+    /// Returns an attribute of a node in the pinned version, or `None` if the node doesn't have it.
+    /// Costs one descent of a tree and allocates no memory.
     #[inline(always)]
     pub fn get(&self, pass: &mut Pass, node: u64, name: &Name) -> Option<Value>
         requires pass { IsPassOf self.now pass.old }
@@ -378,10 +384,10 @@ impl Store {
         value
     }
 
-    /// A node's attributes in the pinned version, sorted by the bytes of their names.
+    /// Returns the attributes of a node in the pinned version, sorted by the bytes of their names.
     ///
-    /// NoNode if the node doesn't exist; OutOfMemory only if it does. It costs one descent, and one
-    /// step for each attribute. It allocates memory for the list.
+    /// Returns `NoNode` if the node doesn't exist. `OutOfMemory` is returned only for nodes that
+    /// exist. Costs one descent, and one step for each attribute. Memory is allocated for the list.
     pub fn attrs(
         &self,
         alloc: Global,
@@ -402,9 +408,11 @@ impl Store {
         list
     }
 
-    /// The names and kinds of the pinned version's indices, sorted by the bytes of the names.
+    /// Returns the names and kinds of the pinned version's indices, sorted by the bytes of the
+    /// names.
     ///
-    /// OutOfMemory. It reads only the version page, and allocates memory for the list.
+    /// The only error is `OutOfMemory`. The call reads only the version page, and allocates memory
+    /// for the list.
     pub fn indices(&self, alloc: Global, pass: &mut Pass) -> Result<Vec<(Name, Kind)>, Refusal>
         requires pass { IsPassOf self.now pass.old }
         requires pinned { (n : ℕ) × IsPinnedTo pass.old.knows n }
@@ -418,10 +426,11 @@ impl Store {
         list
     }
 
-    /// Up to `most` nodes of the pinned version, from the number `from` on, in ascending order.
+    /// Returns up to `most` nodes of the pinned version in ascending order, starting at the number
+    /// `from`.
     ///
-    /// OutOfMemory. It costs one descent, one step for each node that it returns, and one for each
-    /// of their attributes. It allocates memory for the list.
+    /// The only error is `OutOfMemory`. Costs one descent, plus one step for each node that is
+    /// returned and for each attribute of these nodes. Memory is allocated for the list.
     pub fn nodes(
         &self,
         alloc: Global,
@@ -441,14 +450,16 @@ impl Store {
         list
     }
 
-    /// The next batch of the operations that rebuild the pinned version on an empty store: 1 to 64
-    /// operations, or None after the last batch. A new `Place` begins with the first. Put end to
-    /// end, the batches of one pin are be_volume_state's `state_ops` of that version, and each but
-    /// the last has 64. A place means nothing at another pin: begin with a new one there.
+    /// Returns the next batch of the operations that rebuild the pinned version in an empty store:
+    /// 1 to 64 operations, or `None` after the last batch. A new `Place` starts with the first
+    /// batch. Concatenated, the batches of one pin are be_volume_state's `state_ops` of that
+    /// version, and every batch but the last has 64 operations. A place is meaningless at any other
+    /// pin, so start there with a new one.
     ///
-    /// OutOfMemory loses nothing, and the call may be made again. All calls together read the
-    /// attributes of each node number that was ever given, twice. For each attribute they search
-    /// its index twice. A call allocates memory for its batch and for one node's operations.
+    /// The only error is `OutOfMemory`; nothing is lost, and the call can be retried. Together, all
+    /// calls read the attributes of every node number that was ever assigned, twice, and search the
+    /// index of each attribute twice. A call allocates memory for its batch and for the operations
+    /// of one node.
     pub fn state(
         &self,
         alloc: Global,
@@ -474,11 +485,12 @@ impl Store {
         Ok(list?)
     }
 
-    /// The journal's text up to now, as `Journal::text` returns it, while passes are in use. A pin
-    /// stays.
+    /// Returns the journal's text so far, in the format of `Journal::text`, while passes are in
+    /// use. A pin is unaffected.
     ///
-    /// Busy if another pass holds the lock (the call tries once); OutOfMemory. It holds the lock
-    /// while it makes the text, so other passes' writes return Busy meanwhile.
+    /// Returns `Busy` if another pass holds the lock (the call tries once), or `OutOfMemory`. The
+    /// call holds the lock while it writes the text, so writes by other passes return `Busy` during
+    /// that time.
     pub fn journal_text(&self, pass: &mut Pass) -> Result<String, Refusal>
         requires pass { IsPassOf self.now pass.old }
         ensures pass { IsPassOf self.now pass.new }
@@ -497,12 +509,13 @@ impl Store {
         }
     }
 
-    /// Up to `most` entries of the journal from the index `from` on, which counts from 0, while
-    /// passes are in use. Each entry has its pass, its operations and their outcomes. The entry
-    /// with the index n has the commit number n + 1. A pin stays.
+    /// Returns up to `most` journal entries while passes are in use, starting at the index `from`,
+    /// which counts from 0. Each entry has its pass, its operations and their outcomes. The entry
+    /// at index n has the commit number n + 1. A pin is unaffected.
     ///
-    /// Busy if another pass holds the lock (the call tries once); OutOfMemory. It holds the lock
-    /// while it reads the entries, so other passes' writes return Busy meanwhile.
+    /// Returns `Busy` if another pass holds the lock (the call tries once), or `OutOfMemory`. The
+    /// call holds the lock while it reads the entries, so writes by other passes return `Busy`
+    /// during that time.
     pub fn journal_from(
         &self,
         alloc: Global,
@@ -528,12 +541,12 @@ impl Store {
         }
     }
 
-    /// How full the store is, and which pass is the oldest active reader, while passes are in use.
-    /// A pin stays.
+    /// Reports how full the store is, and which pass is the oldest active reader, while passes are
+    /// in use. A pin is unaffected.
     ///
-    /// Its only error is Busy, if another pass holds the lock; it tries once. While it holds the
-    /// lock, it reads each reader slot and frees the retired pages that no reader needs. So the
-    /// pages that it counts as retired are still needed. No memory is allocated.
+    /// The only error is `Busy`, if another pass holds the lock; the call tries once. While it
+    /// holds the lock, it reads every reader slot and frees the retired pages that no reader needs.
+    /// The pages that it counts as retired are therefore still needed. No memory is allocated.
     pub fn status(&self, pass: &mut Pass) -> Result<Status, Refusal>
         requires pass { IsPassOf self.now pass.old }
         ensures pass { IsPassOf self.now pass.new }
@@ -549,9 +562,10 @@ impl Store {
         Ok(status)
     }
 
-    /// Afterwards both passes have seen what either had seen: the longer of two prefixes of one
-    /// journal. Returns its length. The moves of both so far lie in one trace, and a meeting makes
-    /// no move. Three steps; no memory is allocated.
+    /// Shows each pass what the other has seen. Afterwards both have seen the longer of the two
+    /// prefixes of the journal, whose length is returned. All moves that either pass has made so
+    /// far lie in one trace, and the meeting itself makes no move. Takes three steps and allocates
+    /// no memory.
     pub fn meet(&self, left: &mut Pass, right: &mut Pass) -> u64
         requires passes { IsPassOf self.now left.old × IsPassOf self.now right.old }
         ensures passes { IsPassOf self.now left.new × IsPassOf self.now right.new }
@@ -572,8 +586,9 @@ impl Store {
         length
     }
 
-    /// A witness of all that the pass has seen of the journal. Send it to another thread, over any
-    /// channel: a pass that joins it there has then seen as much. One step; no memory is allocated.
+    /// Returns a witness of everything that the pass has seen of the journal. Send it to another
+    /// thread over any channel. A pass that joins the witness there has then seen at least as much.
+    /// Takes one step and allocates no memory.
     pub fn witness(&self, pass: &mut Pass) -> Witness
         requires pass { IsPassOf self.now pass.old }
         ensures pass { IsPassOf self.now pass.new × (pass.new.knows ≡ one_step_on pass.old.knows) }
@@ -582,10 +597,11 @@ impl Store {
         self.table.witness(pass)
     }
 
-    /// Afterwards the pass and the witness have seen what either had seen: the longer of two
-    /// prefixes of one journal. Returns its length. A pin stays, and the witness can be sent on.
-    /// Whatever the pass does from then on comes after what the witness had seen
-    /// (`laws::learned_order`). Three steps and no move; no memory is allocated.
+    /// Shows the pass what the witness has seen, and the witness what the pass has seen. Afterwards
+    /// both have seen the longer of the two prefixes of the journal, whose length is returned. A
+    /// pin is unaffected, and the witness can be sent on to other threads. Everything that the pass
+    /// does from then on comes after what the witness had seen (`laws::learned_order`). Takes three
+    /// steps, makes no move and allocates no memory.
     pub fn join(&self, pass: &mut Pass, witness: &mut Witness) -> u64
         requires pass { IsPassOf self.now pass.old }
         requires witness { IsWitnessOf self.now witness.old }
@@ -599,15 +615,15 @@ impl Store {
         self.table.join(pass, witness)
     }
 
-    /// Closes the store and returns its journal. It takes all passes; they may be pinned. A store
-    /// can't be closed if one of its passes was dropped.
+    /// Closes the store and returns its journal. All passes must be handed over, and they may be
+    /// pinned. A store can't be closed if one of its passes was dropped.
     ///
-    /// `writes` and `reads` are the promise about the whole, whatever calls were made on whatever
-    /// threads. A write that was accepted with the number n is the journal's n-th entry, with its
-    /// pass, its operations and its outcomes. What a pass read at a pin n was the volume after the
-    /// journal's first n entries. `moves` orders all steps: there is one list of moves, and after
-    /// each call the pass's history is a prefix of it. It costs a load and a join for each pass,
-    /// and allocates no memory.
+    /// `writes` and `reads` state what holds for the whole run, whatever calls were made on
+    /// whatever threads. A write that was accepted with the number n is the n-th entry of the
+    /// journal, with its pass, its operations and their outcomes. Whatever a pass read at pin n
+    /// came from the volume after the first n entries of the journal. `moves` orders all steps:
+    /// there is a single list of moves, and after each call the calling pass's history is a prefix
+    /// of it. Costs one load and one join per pass, and allocates no memory.
     pub fn close(self, passes: Vec<Pass>) -> Journal
         requires passes { AllAt self.id passes.items }
         requires all { (k : ℕ) → k < self.limits.passes → Has (map knows_of passes.items) k }

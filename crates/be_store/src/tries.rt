@@ -1,4 +1,4 @@
-//! Whether a write may be tried again, and how long it waits before that.
+//! Decides whether a write can be retried, and how long to wait first.
 ghost use Rattle.std.specs.Prelude.{◌≡◌, ◌<◌, ◌≤◌, ◌*◌};
 ghost use Rattle.be_store.specs.History.{is_busy, was_busy};
 
@@ -7,13 +7,14 @@ use be_value::Refusal;
 use be_volume::Done;
 use std::thread;
 
-/// The most times that a pass yields to other threads before it tries again. If two passes take
-/// turns at the lock for each write, each processor has to fetch what the other has just written.
-/// So a pass that doesn't get the lock lets the other go on writing for a while, twice as long each
-/// time.
+/// The maximum number of times that a pass yields to other threads before it retries. When two
+/// passes alternate on the lock at every write, each processor has to fetch what the other has just
+/// written. A pass that doesn't get the lock therefore lets the other pass go on writing for a
+/// while, twice as long each time.
 const MOST_TURNS: u64 = 1024;
 
-/// How often to yield before the next try, if it was `turns` times before the last one.
+/// Returns how often to yield before the next attempt, given that it was `turns` times before the
+/// last one.
 pub(crate) fn longer(turns: u64) -> u64
     ensures doubled { turns < 1024 → result ≡ 2 * turns }
     ensures enough { 1024 ≤ turns → result ≡ turns }
@@ -21,7 +22,7 @@ pub(crate) fn longer(turns: u64) -> u64
     if turns < MOST_TURNS { 2 * turns } else { turns }
 }
 
-/// Lets other threads run, this many times.
+/// Yields to other threads this many times.
 pub(crate) fn back_off(turns: u64) {
     for _ in 0..turns {
         thread::yield_now();
@@ -34,7 +35,7 @@ pub(crate) fn is_busy(refusal: &Refusal) -> bool
     matches!(refusal, Refusal::Busy(_))
 }
 
-/// Whether the write found that another pass holds the lock.
+/// Returns whether the write failed because another pass held the lock.
 pub(crate) fn was_busy(answer: &Result<(u64, ArrayVec<Done, 64>), Refusal>) -> bool
     ensures { result ≡ was_busy answer.now }
 {

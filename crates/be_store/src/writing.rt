@@ -1,4 +1,4 @@
-//! One write, while the lock is held.
+//! Makes a single write while the lock is held.
 ghost use Rattle.std.specs.Prelude.{◌≡◌, [], ◌+◌, ◌^◌, ◌<◌, ◌≤◌, IfOk, IfErr, OnErr, false};
 ghost use Rattle.std.specs.Prelude.{length};
 ghost use Rattle.be_volume.specs.Volume.{State};
@@ -22,8 +22,8 @@ use be_table::Writing;
 use be_value::Refusal;
 use be_volume::{Done, Op};
 
-/// Applies the operations to a version in an open write. It borrows the write's buffer for the
-/// version's contents, and returns it.
+/// Applies the operations to a version in an open write. Borrows the write's buffer for the
+/// contents of the version, and puts it back.
 fn apply_to(
     writing: &mut Writing<'_>,
     version_page: u64,
@@ -50,7 +50,7 @@ fn apply_to(
     answer
 }
 
-/// Applies the operations with a buffer for the version's contents, if there is one.
+/// Applies the operations, using the given buffer for the contents of the version if there is one.
 fn apply_in(
     writing: &mut Writing<'_>,
     space: &mut Option<Box<Version>>,
@@ -78,8 +78,8 @@ fn apply_in(
     }
 }
 
-/// Applies the operations with a buffer of its own. It is a separate function because a function
-/// clears all its local variables when it begins.
+/// Applies the operations using a buffer of its own. This is a separate function because a function
+/// clears all its local variables on entry.
 #[inline(never)]
 fn apply_apart(
     writing: &mut Writing<'_>,
@@ -105,7 +105,7 @@ fn apply_apart(
     apply_into(writing, &mut version, version_page, ops, dones)
 }
 
-/// Scans only if a scan is due, so that the write can take pages that were retired lately.
+/// Scans if a scan is due, so that the write can take pages that were retired recently.
 fn scan_early(writing: &mut Writing<'_>)
     requires begins { Begins writing.old.knows }
     requires first { upto_lock writing.old.knows.number writing.old.knows.history
@@ -121,8 +121,9 @@ fn scan_early(writing: &mut Writing<'_>)
 }
 
 /// Applies the operations to the current version, and publishes the result. The outcomes are added
-/// to an empty list in place. If the volume refuses, it returns that at once. An error for lack of
-/// room in the journal comes before Full.
+/// in place to a list that is empty at first. If the volume refuses the write, that error is
+/// returned immediately. A journal that has no room for the entry is reported in preference to
+/// `Full`.
 fn write_current(
     writing: &mut Writing<'_>,
     ops: &[Op],
@@ -169,7 +170,8 @@ pub(crate) fn write(
     write_current(writing, ops, dones)
 }
 
-/// Writes as `write` does if the journal has `number` entries, and otherwise writes nothing.
+/// Does what `write` does if the journal has exactly `number` entries, and otherwise writes
+/// nothing.
 pub(crate) fn write_if(
     writing: &mut Writing<'_>,
     number: u64,

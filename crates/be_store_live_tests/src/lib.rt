@@ -1,6 +1,6 @@
-//! A live query with random writes, by the store's public calls.
+//! A live query during random writes, tested through the store's public calls.
 //!
-//! It has a crate of its own, so that be_store isn't proved a second time with it.
+//! The tests are in a separate crate, so that checking them doesn't prove be_store a second time.
 #![tactic(auto)]
 
 #[cfg(test)]

@@ -1,4 +1,4 @@
-//! A live query with random writes, by the store's public calls.
+//! A live query during random writes, tested through the store's public calls.
 
 mod at_once;
 mod refreshing;
@@ -9,7 +9,7 @@ use be_store::Refusal;
 use be_test_tools::again;
 use std::test::Fail;
 
-/// While random writes are made, what refreshes return keeps a list equal to what the query finds.
+/// During random writes, the results of refreshes keep a list equal to the query's answer.
 #[test]
 fn live_query_beside_writes(rt: HostRuntime) -> Result<(), Fail> {
     let follows = match follows_random_writes(rt.alloc()) {
@@ -20,8 +20,8 @@ fn live_query_beside_writes(rt: HostRuntime) -> Result<(), Fail> {
     Ok(())
 }
 
-/// The same while another thread writes: refreshes from the writes since the last one return what
-/// the whole query finds at their pins.
+/// While another thread writes, a refresh that reads only the writes since the last refresh gives
+/// the same result as running the whole query at its pin.
 #[test]
 fn live_query_while_another_thread_writes(rt: HostRuntime) -> Result<(), Fail> {
     let follows = again!(follows_another_thread(&rt));

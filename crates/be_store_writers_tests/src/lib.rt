@@ -1,6 +1,6 @@
-//! Threads whose writes depend on what they read, by the store's public calls.
+//! Threads whose writes depend on what they have read, tested through the store's public calls.
 //!
-//! They have a crate of their own, so that be_store isn't proved a second time with them.
+//! The tests are in a separate crate, so that checking them doesn't prove be_store a second time.
 #![tactic(auto)]
 
 #[cfg(test)]

@@ -1,4 +1,4 @@
-//! Threads whose writes depend on what they read, by the store's public calls.
+//! Threads whose writes depend on what they have read, tested through the store's public calls.
 
 mod writers;
 
@@ -6,8 +6,8 @@ use crate::tests::writers::change_by_four;
 use be_test_tools::again;
 use std::test::Fail;
 
-/// Four threads make writes based on what they read. No thread mixes its nodes with another's or
-/// loses an increment.
+/// Four threads make writes that depend on what they have read. No thread mixes up its nodes with
+/// another's or loses an increment.
 #[test]
 fn four_writers(rt: HostRuntime) -> Result<(), Fail> {
     let answer = again!(change_by_four(&rt));

@@ -1,4 +1,5 @@
--- What a write that found no page knows: the pages that it still holds, and who had announced the lowest number.
+-- What a write that found no page knows: the pages that it still holds, and which pass had
+-- announced the lowest number.
 use Rattle.std.proofs.Common.{◌≡◌, ℕ, suc, Bool, true, false, if◌then◌else◌, List, [], ◌∷◌, length, refl, sym, ap, ◌∙◌, subst, inl, inr, ⊎_elim, arith}
 use Rattle.std.specs.Prelude.{IsTrue}
 use Rattle.std.specs.List.{list_any}
@@ -24,7 +25,7 @@ use Rattle.be_table.proofs.Listed.{listed, tested, untested}
 use Rattle.be_table.proofs.Scans.{makes_starts}
 use Rattle.be_table.proofs.Worked.{scan_kept, upto_one}
 
--- a sweep leaves what the write holds
+-- a sweep leaves alone the pages that the write holds
 still_in_hand : (l : ℕ) (x : Place) → IsTrue (is_in_hand x) → IsTrue (is_in_hand (swept_place l x))
 still_in_hand l Free h = h
 still_in_hand l Reserved h = refl
@@ -36,7 +37,7 @@ still_in_hand l (Retired r) h = absurd (none h)
     none : false ≡ true → ⊥
     none e = cc
 
--- the pages that a write holds at a whole scan are still held right after it
+-- the pages that a write holds at a whole scan are still held immediately after it
 pub held_still : (old new : Work) (least : ℕ) → MakesScan old new least → HoldsStill new.knows
 held_still old new least h p held =
     let was : is_in_hand (place_of old.knows.places p) ≡ true = elim (cases_lt p (length old.knows.places)) [
@@ -71,7 +72,7 @@ found_since old new least j word h f e =
       reported = sym f.found ∙ e;
     }
 
--- the lowest number of a whole scan is the current number, or was announced
+-- the lowest number of a whole scan is the current number, or had been announced
 pub was_announced : (old new : Work) (least : ℕ) → MakesScan old new least → WasAnnounced new.knows least
 was_announced old new least h =
     let seen : length new.knows.seen ≡ length old.knows.seen = ap (λ (w : Work). length w.knows.seen) h.same in

@@ -1,4 +1,4 @@
--- The outcomes of accepted lists of operations, and how far they count.
+-- The outcomes of accepted lists of operations, and how large node numbers become.
 use Rattle.std.proofs.Common.{◌≡◌, ◌<◌, ◌≤◌, ◌+◌, ◌*◌, ◌^◌, List, [], ◌∷◌, ◌++◌, length, Ok, Err, fold, refl, sym, ap, ◌∙◌, arith, length-append, All}
 use Rattle.std.proofs.lemmas.List.Elements.{All-head, All-tail}
 use Rattle.std.specs.Prelude.{Result}
@@ -46,7 +46,7 @@ replayed s (e ∷ es) are =
     let have : HasOperations e = All-head HasOperations e es are in
     omega (arith, entered s e.ops have.0, replayed (state_after s e.ops) es (All-tail HasOperations e es are))
 
--- the next number after a journal is far below the largest number
+-- the next number after a journal is far below the maximum
 pub next_fits : (es : List Entry) → IsHistory es → length es < 4294967296 → (replay es).next + 64 < 2 ^ 64
 unfolding IsHistory
 next_fits es h short = omega (arith, short, replayed empty es h.1)

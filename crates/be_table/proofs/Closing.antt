@@ -1,4 +1,4 @@
--- All passes return to one seat, and the slot has the journal.
+-- All passes return to one seat, and the slot holds the journal.
 use Rattle.std.proofs.Common.{◌≡◌, ℕ, ◌<◌, eq-eqb, List, [], ◌∷◌, ◌++◌, map, length, false, true≢false, Option, Some, None, refl, sym, ap, ◌∙◌, subst, inl, inr, ⊎_elim}
 use Rattle.be_table.specs.declared.pass.View.{View}
 use mathlib.Core.Option.{some, none, some-injective}
@@ -37,7 +37,7 @@ all_kept : (limits : Limits) (b : Board) (i : ℕ) (v : List Knowledge) → AllF
 all_kept limits b i [] f = tt
 all_kept limits b i (a ∷ v) f = (entries-start b.log a.seen f.0.seen, f.0.mine, all_kept limits b i v f.2)
 
--- once all passes are in one seat, the slot has the journal
+-- once all passes are in one seat, the slot holds the journal
 pub ends : (limits : Limits) (i : ℕ) (v : View) (words : List ℕ) (slots : List (Option WriterState)) → AllIdle v.passes → ((k : ℕ) → k < limits.passes → Has v.passes k) → Final (Seen (Shows limits) i v) words slots
     → (writer_state : WriterState) × (get_elem? slots 0 ≡ some (Some writer_state)) × IsLegal writer_state.journal.entries × AreOfPasses limits.passes writer_state.journal.entries × KeepsSeen writer_state.journal.entries v.passes
     × CanEncodeEach limits.pages writer_state.journal.entries × (writer_state.journal.limit ≡ limits.commits) × HasTrace limits v.passes
@@ -57,7 +57,7 @@ ends limits i v words slots idle all f =
       record { trace = t.0; runs = (t.1.words, b.world, t.1.runs); rests = t.1.rests i v f.1.1 },
     )
 
--- what a joined seat has of each seat
+-- what a joined seat gets from each seat
 has_counted : (v : List Knowledge) (k : ℕ) → Has v k → Has (map one_step_on v) k
 has_counted [] k h = h
 has_counted (a ∷ v) k h = ⊎_elim inl (λ m. inr (has_counted v k m)) h
@@ -117,7 +117,7 @@ pub record Closes (limits : Limits) (known : List Knowledge) (journal : Log) : T
   pub limit : journal.limit ≡ limits.commits
   pub traced : HasTrace limits known
 
--- the writer state that was found in the slot has the journal
+-- the writer state found in the slot holds the journal
 pub closes : (limits : Limits) (known : List Knowledge) (i : ℕ) (v : View) (words : List ℕ) (slots : List (Option WriterState)) (writer_state : WriterState) (journal : Log) → Gathered known v.passes → ((k : ℕ) → k < limits.passes → Has known k)
     → Final (Seen (Shows limits) i v) words slots → get_elem? slots 0 ≡ some (Some writer_state) → journal ≡ writer_state.journal → Closes limits known journal
 closes limits known i v words slots writer_state journal g all f at is =

@@ -1,4 +1,4 @@
--- Seats are split and joined; and the rule at the start.
+-- Splitting and joining seats, and the rule at the start.
 use Rattle.std.proofs.Common.{◌≡◌, ◌≢◌, ◌⊎◌, ℕ, zero, suc, ◌+◌, ◌*◌, ◌<◌, ◌≤◌, ◌==◌, eqb, eq-eqb, ne_eqb, List, [], ◌∷◌, ◌++◌, map, length, take, set, false, true≢false, if◌then◌else◌, Option, Some, None, refl, sym, ap, ◌∙◌, subst, inl, inr, ⊎_elim, arith, IsTrue, nat_lt, ◌&&◌, not}
 use Rattle.be_table.specs.declared.pass.View.{View}
 use Rattle.std.proofs.lemmas.Bool.{cases_lt}
@@ -36,7 +36,7 @@ use Rattle.std.proofs.lemmas.List.{get_or_past}
 use Rattle.be_table.proofs.WriterStates.{mapped}
 use Rattle.be_table.proofs.Frames.{all_fit, apart, views_change, views_step, fits_counted}
 
--- a list with one more member has its old members, and the new one
+-- a list with one more member has its old members and the new one
 pub at_snoc_place : {A : Type 0} (l : List A) (a b : A) (j : ℕ) → get_elem? (l ++ a ∷ []) j ≡ some b → (get_elem? l j ≡ some b) ⊎ ((j ≡ length l) × (a ≡ b))
 at_snoc_place [] a b zero e = inr (refl, some-injective a b e)
 at_snoc_place [] a b (suc j) e = absurd (some-ne-none b (sym e))
@@ -57,7 +57,7 @@ choose_then m k n o e = ap (λ b. if b then n else o) (eq-eqb m k e)
 choose_else : (m k n o : ℕ) → m ≢ k → (if eqb m k then n else o) ≡ o
 choose_else m k n o e = ap (λ b. if b then n else o) (ne_eqb m k e)
 
--- the board stays the same, except for where the passes sit
+-- the board is unchanged except for where the passes sit
 reseat : (limits : Limits) (b : Board) (f : ℕ → ℕ) (i j : ℕ) (a : Knowledge) → f a.number ≡ j → Fits limits b i a → Fits limits (record b { seat_of = f }) j a
 reseat limits b f i j a e h = record { number = h.number; limits_are = h.limits_are; seat_is = e; seen = h.seen; mine = h.mine; own = h.own; writes = h.writes; whole = λ t. let x = h.whole t in record { log = x.log; writer = x.writer; turn = x.turn; count = x.count; shown = x.shown; size = x.size; words = x.words }; phase = h.phase; pin = h.pin; image = h.image }
 
@@ -72,7 +72,7 @@ absent_append : (k : ℕ) (v w : List Knowledge) → IsAbsent k v → IsAbsent k
 absent_append k [] w h g = g
 absent_append k (a ∷ v) w h g = (h.0, absent_append k v w h.1 g)
 
--- no pass of another seat
+-- a pass of one seat is absent from every other seat
 absent_elsewhere : (limits : Limits) (b : Board) (i j : ℕ) (a : Knowledge) (w : List Knowledge) → j ≢ i → Fits limits b i a → AllFit limits b j w → IsAbsent a.number w
 absent_elsewhere limits b i j a [] ne fa h = tt
 absent_elsewhere limits b i j a (x ∷ w) ne fa h = (apart limits b i j a x ne fa h.0, absent_elsewhere limits b i j a w ne fa h.2)
@@ -87,7 +87,7 @@ all_joined limits b d i j [] w ne f g h k = all_counted limits b d j i w g k
 all_joined limits b d i j (a ∷ v) w ne f g h k =
     (fits_counted limits d i a (f a h.0), absent_append a.number (map one_step_on v) (map one_step_on w) (absent_counted a.number v h.1) (absent_counted a.number w (absent_elsewhere limits b i j a w ne h.0 k)), all_joined limits b d i j v w ne f g h.2 k)
 
--- the others in a list that doesn't have a pass
+-- the other passes in a list from which one pass is absent
 all_others : (limits : Limits) (b d : Board) (i k : ℕ) (v : List Knowledge) → ((x : Knowledge) → x.number ≢ k → Fits limits b i x → Fits limits d i x) → IsAbsent k v → AllFit limits b i v → AllFit limits d i (map one_step_on v)
 all_others limits b d i k [] f n h = tt
 all_others limits b d i k (a ∷ v) f n h = (fits_counted limits d i a (f a n.0 h.0), absent_counted a.number v h.1, all_others limits b d i k v f n.1 h.2)
@@ -96,7 +96,7 @@ fronts_append : (log : List Commit) (fs gs : List (List Commit)) → AreFronts l
 fronts_append log [] gs h g = g
 fronts_append log (f ∷ fs) gs h g = (h.0, fronts_append log fs gs h.1 g)
 
--- a seat's view is split into two, and the passes of both rest
+-- a seat's view is split in two, and the passes of both are at rest
 cut_rests : (limits : Limits) (w : World) (views : List View) (t : List Move) → IsTrace limits w views t → (i : ℕ) (left right : View) → AllRest t left.passes → AllRest t right.passes
     → (j : ℕ) (u : View) → get_elem? (set views i left ++ right ∷ []) j ≡ some u → AllRest t u.passes
 cut_rests limits w views t tr i left right l r j u e =
@@ -109,7 +109,7 @@ cut_rests limits w views t tr i left right l r j u e =
     (at_snoc_place (set views i left) right u j e)
 
 module _ (limits : Limits) where
-  -- the first pass of a seat gets its own seat
+  -- the first pass of a seat is given its own seat
   pub split_by : (i : ℕ) (a : Knowledge) (v : List Knowledge) (fs : List (List Commit)) → SplitIsNoEvent limits i a v fs
   split_by i a v fs s b t at =
       let n = length s.views in
@@ -151,7 +151,7 @@ module _ (limits : Limits) where
         ),
       )
 
-  -- what a pass has seen gets its own seat
+  -- what a pass has seen is given its own seat
   pub attest_by : (i : ℕ) (a : Knowledge) → AttestIsNoEvent limits i a
   attest_by i a s b t at =
       let f = (t.views i (alone a) at).0.0 in
@@ -231,7 +231,7 @@ module _ (limits : Limits) where
         ),
       )
 
--- the passes from k on are all different
+-- the passes from k on all differ
 newcomers-absent : (limits : Limits) (j k n : ℕ) → j < k → IsAbsent j (newcomers limits 0 k n)
 unfolding newcomers
 newcomers-absent limits j k zero lt = tt
@@ -240,7 +240,7 @@ newcomers-absent limits j k (suc n) lt = ((λ e. omega arith), newcomers-absent 
 some_page : (limits : Limits) → IsWithin limits → 0 < limits.pages
 some_page limits within = let w = within.some_pages in omega arith
 
--- version 0 has only the page 0
+-- version 0 has only page 0
 first_inside : (pages : ℕ) → 0 < pages → AreInside pages []
 first_inside pages positive zero zero le r = positive
 first_inside pages positive zero (suc p) le r = absurd (let e : has (0 ∷ []) (suc p) ≡ false = rw (ne_eqb 0 (suc p) (λ z. absurd (omega arith))) refl in cc)
@@ -362,7 +362,7 @@ pub newcomers-none : (limits : Limits) (t k n : ℕ) → n ≡ 0 → undealt lim
 unfolding newcomers
 newcomers-none limits t k n e = ap (undealt limits t k) e
 
--- the page 0 is current, and all others are free
+-- page 0 is current, and all others are free
 pub first_places : (limits : Limits) (words : List ℕ) (places : List PagePlace) → IsWithin limits → length places ≡ limits.pages → ((q : ℕ) → q < 1 → place_of places q ≡ Current) → ((q : ℕ) → 1 ≤ q → q < limits.pages → place_of places q ≡ Free)
     → ShowsPlaces places (first_board limits words).world × (map undone_place places ≡ places)
 first_places limits words places within count used unused = (record { free = λ p. (at p).0; taken = λ p. (at p).1; retired = λ p. (at p).2 }, sym (mapped undone_place refl places places refl (λ q lt. (at q).3)))

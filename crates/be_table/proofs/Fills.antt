@@ -1,4 +1,4 @@
--- A word of a page is filled, in one step or two.
+-- A word of a page is filled in one or two steps.
 use Rattle.std.proofs.Common.{◌≡◌, ◌≢◌, ℕ, ◌+◌, ◌<◌, ◌||◌, if◌then◌else◌, List, [], ◌∷◌, length, Bool, slice_index, slice_set, subst, sym, ap, ◌∙◌, arith, eq-eqb, ne_eqb, length-set, get_or-set_same}
 use Rattle.std.proofs.lemmas.List.{set-set}
 use Rattle.be_pages.specs.declared.page_pool.Place.{Place}
@@ -32,7 +32,7 @@ stored a p i n x found other =
     let words : slice_set (slice_set a.words (word_place p i) n) (word_place p i) x ≡ slice_set a.words (word_place p i) x = set-set a.words (word_place p i) n x in
     ap (λ (q : List Place × List ℕ × ℕ). record a { places = q.0; words = q.1; steps = q.2 }) (λ k. (places k, words k, steps k))
 
--- the same, for seats before, between and after
+-- the same, for the seats before, between and after the steps
 pub there_as : (me r : Me1) (p i n x : ℕ) (h : List Move) → r ≡ (alone (fills (with_history (pass_of me.0) h) p i n), me.1) → n ≡ slice_index (pass_of me.0).words (word_place p i) → n ≡ x → r ≡ (alone (fills_word (with_history (pass_of me.0) (pass_of r.0).history) p i x), me.1)
 there_as me r p i n x h is found same =
     let a = pass_of me.0 in

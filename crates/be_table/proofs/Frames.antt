@@ -36,7 +36,7 @@ pub all_fit : (limits : Limits) (b d : Board) (seat : ℕ) (v : List Knowledge) 
 all_fit limits b d seat [] f h = tt
 all_fit limits b d seat (a ∷ v) f h = (f a h.0, h.1, all_fit limits b d seat v f h.2)
 
--- a journal that has grown begins with what it began with before
+-- a journal that has grown begins with what it began with before it grew
 pub starts_before : {A : Type 0} (log mid seen : List A) → StartsWith log mid → StartsWith mid seen → StartsWith log seen
 starts_before log mid seen s t = (t.0 ++ s.0, s.1 ∙ ap (λ l. l ++ s.0) t.1 ∙ append_assoc seen t.0 s.0)
 
@@ -103,7 +103,7 @@ page-front log seen s n le = ap (λ l. page_at l n) s.1 ∙ page-append seen s.0
 inside-front : (pages : ℕ) (log seen : List Commit) → StartsWith log seen → AreInside pages log → AreInside pages seen
 inside-front pages log seen s h n p le r = h n p (let l = longer_seen log seen s in omega arith) (subst (λ l. IsTrue (has l p)) (sym (reach-front log seen s n le)) r)
 
--- what holds for the journal also holds at a version that the pass has seen
+-- what holds for the journal also holds at each version that the pass has seen
 encoded_front : (log seen : List Commit) (words : ℕ → ℕ → ℕ) → StartsWith log seen → (n : ℕ) → n ≤ length seen → EncodesVolume (reach_at log n) words (page_at log n) (replay (take n (entries log)))
     → EncodesVolume (reach_at seen n) words (page_at seen n) (replay (take n (entries seen)))
 encoded_front log seen words s n le h =
@@ -122,7 +122,8 @@ pinned_encoded limits b i a s f x n e =
     (λ q r. clipped (λ j. slice_index a.image (word_place q j)) (b.world.image n q) (λ j lt. f.image x n q j e (subst IsTrue (sym (s.reaches n q late.1)) r) lt))
     (s.encoded n (omega (arith, low.1, l))))
 
--- the pages can encode the volume after each entry, and so after each entry of a prefix of the journal
+-- the pages can encode the volume after each entry, and therefore after each entry of a prefix of
+-- the journal
 pub log_encoded : (limits : Limits) (b : Board) → IsSoundBoard limits b → CanEncodeEach limits.pages (entries b.log)
 unfolding CanEncodeEach
 log_encoded limits b s = λ n lt.
@@ -185,7 +186,7 @@ module _ (w : World) (page : ℕ) (ws : List ℕ) (h : WordsAgree w page ws) whe
   pub words_load : (i : ℕ) → WordsAgree w page (set ws i (slice_index ws i))
   words_load i = subst (WordsAgree w page) (sym (set-get_or ws i 0)) h
 
-  -- a phase changes, but no reader slot
+  -- a phase changes, but no reader slot does
   pub words_phase : (k : ℕ) (p : Phase) → announce_word p ≡ announce_word (w.phases k) → WordsAgree (to w k p) page ws
   words_phase k p e = record {
     size = h.size;
@@ -234,7 +235,7 @@ module _ (w : World) (page : ℕ) (ws : List ℕ) (h : WordsAgree w page ws) whe
 
 -- ## What the other passes know
 
--- a pass other than the writer doesn't hold the lock
+-- a pass that isn't the writer doesn't hold the lock
 pub not_writer : (b : Board) (a x : Knowledge) → x.number ≢ a.number → b.world.writer ≡ Some (known_writer a) → Holds b x → ⊥
 not_writer b a x ne is h = let same : known_writer a ≡ known_writer x = (let e : Some (known_writer a) ≡ Some (known_writer x) = sym is ∙ h.writer in some_same (known_writer a) (known_writer x) e) in ne (sym (ap (λ (g : Writer). g.pass) same))
   where

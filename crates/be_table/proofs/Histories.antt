@@ -71,7 +71,7 @@ no_more xs [] zs e = append-nil xs
 no_more xs (y ∷ ys) zs e = absurd (let l : length ((xs ++ y ∷ ys) ++ zs) ≡ length xs = ap length e in
     let m = length-append (xs ++ y ∷ ys) zs in let n = length-append xs (y ∷ ys) in omega arith)
 
--- between a prefix and the whole, which have the same entries of one pass
+-- a journal between a prefix and the whole, where these have the same entries of one pass
 pub by_pass-between : (k : ℕ) (log mid seen mine : List Entry) → StartsWith log mid → StartsWith mid seen → by_pass k seen ≡ mine → by_pass k log ≡ mine → by_pass k mid ≡ mine
 by_pass-between k log mid seen mine s t own whole =
     let m : by_pass k mid ≡ mine ++ by_pass k t.0 = ap (by_pass k) t.1 ∙ (by_pass-append k seen t.0 ∙ ap (λ l. l ++ by_pass k t.0) own) in

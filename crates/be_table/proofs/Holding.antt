@@ -1,4 +1,4 @@
--- Each step of the writer is its event of the machine, and keeps the rule.
+-- Each step of the writer is its event of the machine, and preserves the rule.
 use Rattle.std.proofs.Common.{◌≡◌, ℕ, suc, MatchBool, ◌+◌, ◌*◌, ◌<◌, ◌≤◌, ◌==◌, if◌then◌else◌, List, [], ◌∷◌, length, set, slice_set, Bool, true, false, ◌||◌, Option, Some, None, refl, sym, ap, ◌∙◌, subst, inl, inr, arith, slice_index, map, length-set, IsTrue}
 use Rattle.std.proofs.lemmas.Bool.Decides.{eqb_tells}
 use Rattle.std.proofs.lemmas.List.{length-map, set-get_or}
@@ -80,7 +80,7 @@ lowest-plain : (b : Bool) (c c' l m m' : ℕ) → c ≡ c' → m ≡ m' → lowe
 lowest-plain b c c' l m m' e g = cc
 
 module _ (limits : Limits) (slots i : ℕ) (a : Knowledge) (carried : List (ℕ × Option WriterState)) where
-  -- a load by the writer finds the word that it knows
+  -- a load by the writer finds the word that the writer knows
   pub own_by : (p j : ℕ) → a.writes ≡ true → p < a.limits.pages → j < 512 → AllowsBy limits slots i (alone a, carried) (word_place p j) (λ n. n) NoEvent (OwnRead (step slots (word_place p j) 0 0 none) (alone a, carried))
   own_by p j writes lp lj s b h sized at fits =
       let t = h.table in
@@ -136,7 +136,7 @@ module _ (limits : Limits) (slots i : ℕ) (a : Knowledge) (carried : List (ℕ 
         (λ q k e lk. let z = same_place p j q k lj lk e in ap (λ (y : ℕ × ℕ). (alone (fills a y.0 y.1 x), carried)) (λ o. (z.0 o, z.1 o))),
       )
 
-  -- a load that finds a word is the fill with that word
+  -- a load that finds a word is a fill with that word
   pub found_by : (p j : ℕ) → a.writes ≡ true → a.published ≡ false → MayBeFilled a.places p → j < 512
       → AllowsBy limits slots i (alone a, carried) (word_place p j) (λ n. n) (λ n. IsFill a.number p j n n) (FilledFound (step slots (word_place p j) 0 0 none) (alone a, carried))
   found_by p j writes unpublished may lj s b0 h0 sized at fits =
@@ -147,7 +147,7 @@ module _ (limits : Limits) (slots i : ℕ) (a : Knowledge) (carried : List (ℕ 
       let lp : p < b.world.pages = omega (arith, may.0, m.count) in
       (y.0, y.1, y.2, y.3, (y.4, work.0.table.words.pages p j lp lj ∙ sym (m.words p j lp lj)))
 
-  -- a load by the writer, at which a page moves to another place that is the same for the machine
+  -- a load by the writer at which a page moves to another place that looks the same to the machine
   note_by : (p : ℕ) (x : Place) → a.writes ≡ true → p < length a.places → shows_free x ≡ shows_free (place_of a.places p) → shows_taken x ≡ shows_taken (place_of a.places p) → retired_with x ≡ retired_with (place_of a.places p)
       → let c : Knowledge = record a { places = slice_set a.places p x; steps = a.steps + 1 } in AllowsBy limits slots i (alone a, carried) (word_place p 0) (λ n. n) NoEvent (λ n r. r ≡ (alone c, carried))
   note_by p x writes lp free taken retired s b0 h0 sized at fits =
@@ -178,7 +178,7 @@ module _ (limits : Limits) (slots i : ℕ) (a : Knowledge) (carried : List (ℕ 
         refl,
       )
 
-  -- a load by the writer, at which a page that it had taken goes back to the free ones
+  -- a load by the writer at which a page that it had taken returns to the free ones
   back_by : (p : ℕ) (y : Place) → a.writes ≡ true → p < length a.places → place_of a.places p ≡ y → shows_taken y ≡ true → retired_with y ≡ None
       → let c : Knowledge = record a { places = slice_set a.places p Free; steps = a.steps + 1 } in AllowsBy limits slots i (alone a, carried) (word_place p 0) (λ n. n) (IsReturn a.number p) (λ n r. r ≡ (alone c, carried))
   back_by p y writes lp is taken unretired s b0 h0 sized at fits =
@@ -220,7 +220,7 @@ module _ (limits : Limits) (slots i : ℕ) (a : Knowledge) (carried : List (ℕ 
       let y = by s b h sized at fits in
       (y.0, y.1, y.2, y.3, λ q f. let z = same_place p 0 q 0 (omega arith) (omega arith) f in y.4 ∙ ap (λ (k : Knowledge). (alone k, carried)) (sym is ∙ ap c z.0))
 
-  -- a load by the writer that takes a page is the fill with the word that is there
+  -- a load by the writer that takes a page is a fill with the word already there
   pub take_by : (p : ℕ) → a.writes ≡ true → a.published ≡ false → p < length a.places → place_of a.places p ≡ Free
       → AllowsBy limits slots i (alone a, carried) (word_place p 0) (λ n. n) (λ n. IsFill a.number p 0 n n) (PageTaken (step slots (word_place p 0) 0 0 none) (alone a, carried))
   take_by p writes unpublished lp is s b0 h0 sized at fits =

@@ -1,4 +1,4 @@
--- The pages of an open write, as pages of the version that it makes.
+-- The pages of an open write, as pages of the version that it creates.
 use Rattle.std.proofs.Common.{◌≡◌, ◌≢◌, ℕ, ◌≤◌, List, length, Bool, true, false, nat_lt, if◌then◌else◌, refl, sym, ap, ◌∙◌, subst, inl, inr, arith}
 use Rattle.std.specs.Prelude.{slice_index_or}
 use Rattle.std.proofs.lemmas.Bool.{cases_lt}
@@ -59,7 +59,7 @@ pub begun_version : (c : Knowledge) → ((q : ℕ) → page_state_among c.places
     → EncodesVolume (reach_at c.seen (length c.seen)) (word_of_page c.words) page volume → IsVersion (page_state_among c.places) (word_of_page c.words) page volume
 begun_version c begun page volume h = subst (λ (s : ℕ → PageState). IsVersion s (word_of_page c.words) page volume) (λ k q. sym (begun q) k) h.version
 
--- what may happen to a page of a version, or to another page, while the version is replaced
+-- what may happen to a page, of the version or not, while the version is replaced
 kept_once : {Same : Type 0} {b a : ℕ} {s t : PageState} (r : Bool) → b ≡ bit r → s ≡ at_start r → a ≤ 1 → PageStep Same b a s t → (a ≡ bit (state_is_kept t)) × (t ≢ Taken)
 kept_once true e is once (untouched same) = absurd (omega (arith, e))
 kept_once false e is once (untouched {s} same) = (sym (ap (λ x. bit (state_is_kept x)) is), λ z. let y : Nowhere ≡ Taken = sym is ∙ z in cc)
@@ -70,14 +70,14 @@ kept_once r e is once given_new = (refl, λ z. cc)
 kept_once r e is once (stays_old {b} {a} same) = (omega (arith, once), λ z. cc)
 kept_once r e is once (stays_new {b} {a}) = (omega (arith, once), λ z. cc)
 
--- If the pages of the current version have become those of another, the write keeps exactly these. Each page that it has taken is
--- filled.
+-- If the pages of the current version have become those of another version, the write keeps exactly
+-- the latter. Each page that it has taken is filled.
 pub kept_exactly : {S K : Type 0} (kept_of : S → K) (page_state_of : S → ℕ → PageState) (words_of : S → ℕ → ℕ → ℕ) (pages before now : List ℕ) (old new : S)
     → Swaps kept_of page_state_of words_of before now old new → ((q : ℕ) → page_state_of old q ≡ at_start (has pages q)) → ((q : ℕ) → times q before ≡ bit (has pages q)) → ((q : ℕ) → times q now ≤ 1)
     → (q : ℕ) → (times q now ≡ bit (state_is_kept (page_state_of new q))) × (page_state_of new q ≢ Taken)
 kept_exactly kept_of page_state_of words_of pages before now old new swaps begun exact once q = kept_once (has pages q) (exact q) (begun q) (once q) (swaps.each q)
 
--- the same for an open write that began with a version and has made another
+-- the same for an open write that began with a version and has created another
 module _ (old new : Work) (from page : ℕ) (volume made : State) (begun : (q : ℕ) → page_state_among old.knows.places q ≡ at_start (has (reach_at old.knows.seen (length old.knows.seen)) q))
     (encoded : EncodesVolume (reach_at old.knows.seen (length old.knows.seen)) (word_of_page old.knows.words) from volume)
     (version : IsVersion (page_state_among new.knows.places) (word_of_page new.knows.words) page made)

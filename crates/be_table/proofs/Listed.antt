@@ -1,4 +1,4 @@
--- The pages in a list of places for which a test is true.
+-- The pages in a list of places that pass a test.
 use Rattle.std.proofs.Common.{◌≡◌, ◌≢◌, ℕ, zero, suc, ◌+◌, ◌<◌, ◌≤◌, if◌then◌else◌, eq-eqb, ne_eqb, Bool, true, false, List, [], ◌∷◌, map, length, get_or, IsTrue, All, AllPairs, refl, subst, arith}
 use Rattle.std.proofs.lemmas.List.Kept.{AllPairs-cons}
 use Rattle.be_core.specs.Machine.{has}
@@ -25,7 +25,7 @@ module _ (f : Place → Bool) where
     | false ↦ listed-from (suc p) xs k q (omega arith)
   ]
 
-  -- a page is listed if the test is true of its place
+  -- a page is listed if its place passes the test
   pub listed : (xs : List Place) (q : ℕ) → has (pages_from f 0 xs) q ≡ get_or (map f xs) q false
   listed xs q = listed-from 0 xs q q (omega arith)
 
@@ -51,7 +51,7 @@ module _ (f : Place → Bool) where
   pub distinct : (xs : List Place) → AllPairs ◌≢◌ (pages_from f 0 xs)
   distinct xs = distinct-from 0 xs
 
-  -- within the list, it is the test of the page's place
+  -- within the list, this is the test of the page's place
   pub tested : (xs : List Place) (q : ℕ) → q < length xs → get_or (map f xs) q false ≡ f (place_of xs q)
   tested [] q lt = absurd (omega arith)
   tested (x ∷ xs) zero lt = refl

@@ -1,4 +1,4 @@
--- The lock is taken and given back.
+-- Taking and releasing the lock.
 use Rattle.std.proofs.Common.{◌≡◌, ◌≢◌, ℕ, ◌+◌, ◌-◌, ◌*◌, ◌<◌, ◌≤◌, eqb, eq-eqb, ne_eqb, MatchBool, List, [], ◌∷◌, ◌++◌, length, set, Bool, true, false, true≢false, Option, Some, None, refl, sym, ap, ◌∙◌, subst, arith, slice_index, map, take, IsTrue}
 use Rattle.std.proofs.lemmas.List.{length-map}
 use mathlib.Core.Option.{some, none}
@@ -42,7 +42,7 @@ no_lock (Some x) e = absurd (omega arith)
 abbrev pub held_by : Board → Option Writer → Board
 held_by b o = record { log = b.log; world = record b.world { writer = o }; seat_of = b.seat_of }
 
--- what holds for the board with its writer written out holds for the board
+-- what holds for the board with its writer spelled out holds for the board
 pub unheld_by : (w : World) (h : Writer) (P : World → Type 0) → w.writer ≡ Some h → P (record w { writer = Some h }) → P w
 unheld_by w h P e p = subst P (ap (λ (o : Option Writer). record w { writer = o }) (sym e)) p
 
@@ -203,7 +203,7 @@ module _ (limits : Limits) (slots i : ℕ) (a : Knowledge) (writer_state : Write
       )
 
 module _ (limits : Limits) (slots i : ℕ) (a : Knowledge) (carried : List (ℕ × Option WriterState)) where
-  -- a try is the move Lock if it finds the lock free, and otherwise no move
+  -- an attempt is the move Lock if it finds the lock free, and otherwise no move
   pub locking : a.writes ≡ false → Allows (Shows limits) slots i (alone a, carried) 0 (λ n. either (eqb n 0) (a.number + 1) n) (LockMoves (step slots 0 0 (a.number + 1) none) (alone a, carried))
   locking idle s h sized at fits =
       let n = slice_index s.words 0 in

@@ -1,4 +1,4 @@
--- Two passes of one seat compare what they have seen.
+-- Two passes in one seat compare what they have seen.
 use Rattle.std.proofs.Common.{◌≡◌, ℕ, ◌<◌, ◌≤◌, List, [], ◌∷◌, ◌++◌, length, Bool, false, true≢false, if◌then◌else◌, Option, refl, sym, ap, ◌∙◌, subst, arith}
 use Rattle.be_table.specs.declared.pass.View.{View}
 use mathlib.Core.Option.{none}
@@ -107,7 +107,7 @@ pub compares_as : (limits : Limits) (slots i : ℕ) (a c : Knowledge) (me : Me1)
 compares_as limits slots i a c me e idle idle' =
     subst (λ (m : Me1). Allows (Shows limits) slots i m 0 (λ n. n) (CompareMoves (step slots 0 0 0 none) m)) (sym e) (comparing limits slots i a c idle idle')
 
--- what the two passes had done before they met lies in one trace
+-- what the two passes had done before they met is in one trace
 pub traced : (a c : Knowledge) (m n j l : Me1) → m ≡ (alone a, []) → n ≡ (alone c, []) → j ≡ (seats_together m.0 n.0, m.1) → CompareMoves (step 0 0 0 0 none) j 0 l → HasTrace a.limits (a ∷ c ∷ [])
 traced a c m n j l left right pair compared =
     let t : HasTrace a.limits (one_step_on a ∷ one_step_on c ∷ []) =
@@ -117,7 +117,7 @@ traced a c m n j l left right pair compared =
 pub deals_as : (limits : Limits) (i : ℕ) (a c : Knowledge) (u : View) → u ≡ beside a c → Splits (Shows limits) i u (other_seats u) (first_seat u)
 deals_as limits i a c u e = subst (λ (w : View). Splits (Shows limits) i w (other_seats w) (first_seat w)) (sym e) (deals limits i a (c ∷ []) [])
 
--- what a comparison says, for the two passes
+-- what a comparison says about the two passes
 pub reported : (a c : Knowledge) (m r : Me1) (st : Step (Option WriterState)) (n : ℕ) → m ≡ (beside a c, []) → Compared st m n r → Compared st (beside a c, []) n r
 reported a c m r st n e t = subst (λ (x : Me1). Compared st x n r) e t
 

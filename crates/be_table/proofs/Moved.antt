@@ -1,4 +1,4 @@
--- What is known about a pass after a scan, and after it published.
+-- What is known about a pass after it has scanned, and after it has published.
 use Rattle.std.proofs.Common.{◌≡◌, ◌≢◌, ℕ, zero, suc, List, [], ◌∷◌, ◌++◌, true, false, refl, sym, ap, ◌∙◌, subst}
 use Rattle.be_journal.specs.declared.entries.Entry.{Entry}
 use Rattle.be_pages.specs.Place.{place_of}

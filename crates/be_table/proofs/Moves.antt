@@ -1,4 +1,4 @@
--- Each step of a reader is its event of the machine, and keeps the rule.
+-- Each step of a reader is its event of the machine, and preserves the rule.
 use Rattle.std.proofs.Common.{◌≡◌, ℕ, suc, ◌+◌, ◌-◌, ◌*◌, ◌<◌, ◌≤◌, List, length, set, Option, refl, sym, ap, ◌∙◌, subst, arith, IsTrue, slice_index}
 use mathlib.Core.Option.{none}
 use Rattle.atomic_table.specs.Table.{keeps, step, Allows}

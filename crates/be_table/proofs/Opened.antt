@@ -51,7 +51,8 @@ unswept l (Retired r) h = retired (nat_lt r l) h
     retired true z = z
     retired false z = z
 
--- if a whole scan leaves no page free, the write holds each page that no version from the lowest number on has
+-- if a whole scan leaves no page free, the write holds each page that belongs to no version from
+-- the lowest number on
 pub all_held : (old new : Work) (least : ℕ) → MakesScan old new least → ((p : ℕ) → p < length new.knows.places → place_of new.knows.places p ≢ Free)
     → (p : ℕ) → p < length new.knows.places → NoCommitReaches new.knows.seen least p → IsTrue (has new.knows.held p)
 all_held old new least h none p lp un =
@@ -61,7 +62,7 @@ all_held old new least h none p lp un =
     let y = unswept least (place_of old.knows.places p) (subst (λ z. IsTrue (is_in_hand z)) same x) in
     ap (λ l. has l p) h.held ∙ listed is_in_hand old.knows.places p ∙ tested is_in_hand old.knows.places p inside ∙ y
 
--- what a write does to the pages doesn't change what else holds for the pass
+-- what a write does to the pages doesn't change anything else that holds for the pass
 pub going_pass : (a : Knowledge) (scanned least : ℕ) (places : List Place) (words held : List ℕ) (steps : ℕ) → IsPass a → IsPass (record a { scanned = scanned; least = least; places = places; words = words; held = held; steps = steps })
 going_pass a scanned least places words held steps h = record { within = h.within; legal = h.legal; number_below = h.number_below; by_passes = h.by_passes; room = h.room; inside = h.inside; own_pages = h.own_pages; volumes = h.volumes; pin = h.pin; mine = h.mine; encoded = h.encoded }
 
@@ -78,7 +79,8 @@ no_room a log r e l h =
 pub has_room : (a : Knowledge) (log : Log) → log.entries ≡ entries a.seen → log.limit ≡ a.limits.commits → length log.entries < log.limit → length a.seen < a.limits.commits
 has_room a log e l lt = let long : length log.entries ≡ length a.seen = ap length e ∙ seen_length a.seen in omega arith
 
--- a write continues: the pass, the places and the page words change, and the journal and the version page stay
+-- a write continues: the pass, the places and the page words change, while the journal and the
+-- version page don't
 pub reopened : (w v : Inside) (c : Knowledge) → let a = pass_of w.base.me.0 in IsOpen w → v.table.now ≡ w.table.now → v.marks ≡ w.marks → v.reserved ≡ w.reserved → v.writer_state.journal ≡ w.writer_state.journal → v.writer_state.page ≡ w.writer_state.page
     → v.base.table_id ≡ w.base.table_id → v.base.me ≡ (alone c, (0, None) ∷ []) → c ≡ record a { scanned = c.scanned; least = c.least; places = c.places; words = c.words; held = c.held; steps = c.steps; history = c.history }
     → c.scanned ≡ 0 → length c.words ≡ length a.words → length c.places ≡ length a.places → writer_state_places v.writer_state ≡ c.places → LeftAreRetired v.writer_state

@@ -40,7 +40,7 @@ no_place f t o false e = refl
 no_place f t o true e = absurd (omega (arith, e))
 
 module _ (xs : List Place) (w : World) (s : Sound w) (shown : ShowsPlaces xs w) (count : length xs ≡ w.pages) where
-  -- the current version has the pages that the writer state says
+  -- the current version has the pages that the writer state says it has
   pub reach_shown : (q : ℕ) → q < length xs → w.reach w.current q ≡ is_current (place_of xs q)
   reach_shown q lt =
       let p : set_count w q ≡ bit (nat_lt q w.pages) = s.partition q in
@@ -53,7 +53,7 @@ module _ (xs : List Place) (w : World) (s : Sound w) (shown : ShowsPlaces xs w) 
       let past : nat_lt q w.pages ≡ false = le-ltb q w.pages (omega arith) in
       no_place (w.free q) (w.taken q) (Rattle.std.specs.Prelude.is_some (w.retired q)) (w.reach w.current q) (p ∙ ap bit past)
 
-  -- while nobody writes
+  -- while no pass writes
   pub begun : length xs ≤ 16384 → map undone_place xs ≡ xs → (q : ℕ) → page_state_among xs q ≡ at_start (w.reach w.current q)
   begun few idle q = elim (cases_lt q (length xs)) [
     | inl lt ↦
@@ -76,7 +76,7 @@ module _ (xs : List Place) (w : World) (s : Sound w) (shown : ShowsPlaces xs w) 
       nowhere true = refl
       nowhere false = refl
 
--- a page whose state is filled is one of the table
+-- a page whose state is filled is a page of the table
 pub filled_place : (xs : List Place) (q : ℕ) → page_state_among xs q ≡ Full → (q < length xs) × (place_of xs q ≡ Filled)
 filled_place xs q is = elim (cases_lt q (length xs)) [
   | inl lt ↦ (lt, by_place (place_of xs q) (nat_lt q 16384) (ap (λ x. if nat_lt q 16384 then page_state_at x else Nowhere) (sym (get_or_default xs q Free Current lt)) ∙ is))
@@ -138,13 +138,13 @@ swept_in l xs q = ap (λ s. if nat_lt q 16384 then s else Nowhere) (by xs q)
     by (x ∷ xs) zero = swept_page_state l x
     by (x ∷ xs) (suc k) = by xs k
 
--- if no page was found, the states stay the same
+-- if no page was found, the states are unchanged
 pub full_stays : {X : Type 0} (r : Result X Refusal) (old new : Work) → IfErr r (IsFullOf (FindsNone old new)) → OnErr r (page_state_in_work new ≡ page_state_in_work old)
 full_stays (Ok x) old new h = tt
 full_stays (Err e) old new h =
     let lies : (q : ℕ) → page_state_in_work new q ≡ page_state_in_work old q = λ q. ap (λ ps. page_state_among ps q) h.2.scan.places ∙ swept_in h.0 old.knows.places q in λ k q. lies q k
 
--- a readable page is one of the table, and its place says whether the write has taken it
+-- a readable page is a page of the table, and its place says whether the write has taken it
 pub readable_inside : (xs : List Place) (q : ℕ) → IsTrue (is_readable (page_state_among xs q)) → q < length xs
 readable_inside xs q read = elim (cases_lt q (length xs)) [
   | inl lt ↦ lt

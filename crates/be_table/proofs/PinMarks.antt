@@ -1,4 +1,4 @@
--- The pin in a seat stays while its pass sees more.
+-- The pin in a seat is unchanged while its pass sees more.
 use Rattle.std.proofs.Common.{◌≡◌, ℕ, List, [], length, Option, Some, refl, sym, ap, ◌∙◌, subst}
 use mathlib.Core.Option.{none}
 use Rattle.atomic_table.specs.Table.{Step, step}
@@ -16,7 +16,7 @@ use Rattle.be_table.specs.Steps.{IsPass, Gets, Moving, LookMoves}
 use Rattle.be_table.specs.declared.pass.Move.TheVariants.{Lock}
 use Rattle.be_table.proofs.Frames.{Me1, page-front}
 
--- what a step says depends on nothing of the step except its word
+-- what a step says depends only on the step's word
 abbrev pub any : Step (Option WriterState)
 any = step 0 0 0 0 none
 

@@ -1,4 +1,4 @@
--- A version is published.
+-- Publishing a version.
 use Rattle.std.proofs.Common.{◌≡◌, ◌≢◌, ℕ, zero, suc, ◌+◌, ◌*◌, ◌<◌, ◌≤◌, List, [], ◌∷◌, ◌++◌, length, set, Bool, false, not, ◌&&◌, ◌||◌, Option, Some, refl, sym, ap, ◌∙◌, subst, inl, inr, arith, map, take, slice_index, get_or, IsTrue, length-append, if◌then◌else◌, get_or-set_same, get_or-set_other, length-set}
 use Rattle.std.specs.Prelude.{slice_index_or}
 use Rattle.std.proofs.lemmas.Bool.{cases_lt}
@@ -135,7 +135,7 @@ older_encoded log c words n le h =
     let front : take n (entries (log ++ c ∷ [])) ≡ take n (entries log) = ap (take n) (entries-append log (c ∷ [])) ∙ take_front (entries log) (entries (c ∷ [])) n (let l = length-map log (λ (x : Commit). x.entry) in omega (arith, l, le)) in
     subst (λ (q : List ℕ × ℕ × List Entry). EncodesVolume q.0 (in_pages words) q.1 (replay q.2)) (λ k. (sym (reach-append log (c ∷ []) n le) k, sym (page-append log (c ∷ []) n le) k, sym front k)) h
 
--- a filled page is one of the new version
+-- a filled page belongs to the new version
 kept_filled : (xs : List Place) (v : ℕ) → v < length xs → place_of xs v ≡ Filled → IsTrue (has (pages_from is_of_next 0 xs) v)
 kept_filled xs v lt is = listed is_of_next xs v ∙ tested is_of_next xs v lt ∙ ap is_of_next is
 

@@ -12,7 +12,7 @@ use Rattle.be_table.specs.Steps.{IsPass}
 use Rattle.be_table.proofs.Pins.{page_inside, readable_pin}
 use Rattle.be_table.proofs.Reported.{reported_as, stepped_pass}
 
--- a readable page is one of the table
+-- a readable page is a page of the table
 pub readable_inside : (a : Knowledge) (q : ℕ) → IsPass a → IsTrue (is_readable (pinned_page_state a q)) → q < a.limits.pages
 readable_inside a q h r = let p = readable_pin a q r in page_inside a p.0 p.1 q h p.2 p.3
 

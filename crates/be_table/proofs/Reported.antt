@@ -1,4 +1,4 @@
--- What a seat says about its pass after the pass's own step.
+-- What a seat says about its pass after the pass has taken a step.
 use Rattle.std.proofs.Common.{◌≡◌, ℕ, ◌+◌, ◌-◌, ◌≤◌, [], length, sym, ap, ◌∙◌, subst}
 use Rattle.be_core.specs.declared.event.Phase.{Phase}
 use Rattle.be_core.specs.declared.event.Phase.TheVariants.{Idle, Looked, Announced, Pinned}
@@ -15,7 +15,7 @@ use Rattle.be_table.proofs.Frames.{Me1}
 pub phased : (a : Knowledge) (q : Phase) (steps : ℕ) → IsPass a → InTime (length a.seen) q → ((x n : ℕ) → q ≡ Pinned x n → ⊥) → IsPass (record a { phase = q; steps = steps })
 phased a q steps h t none = record { within = h.within; legal = h.legal; number_below = h.number_below; by_passes = h.by_passes; room = h.room; inside = h.inside; own_pages = h.own_pages; volumes = h.volumes; pin = t; mine = h.mine; encoded = λ x n e. absurd (none x n e) }
 
--- steps are counted, or the lock is found held, or it is given back
+-- steps are counted, the lock is found held, or the lock is released
 pub stepped_pass : (a : Knowledge) (steps : ℕ) → IsPass a → IsPass (record a { steps = steps })
 stepped_pass a steps h = record { within = h.within; legal = h.legal; number_below = h.number_below; by_passes = h.by_passes; room = h.room; inside = h.inside; own_pages = h.own_pages; volumes = h.volumes; pin = h.pin; mine = h.mine; encoded = h.encoded }
 

@@ -1,4 +1,4 @@
--- A scan, one reader slot after the other.
+-- A scan, one reader slot after another.
 use Rattle.std.proofs.Common.{◌≡◌, ◌≢◌, ℕ, suc, Bool, map, ◌+◌, ◌<◌, ◌≤◌, eq-eqb, ne_eqb, List, [], ◌∷◌, ◌++◌, length, cond, refl, sym, ap, ◌∙◌, subst, arith}
 use Rattle.be_table.specs.declared.pass.View.{View}
 use Rattle.std.proofs.Common.{zero, true, false, inl, inr, ⊎_elim, ◌==◌, if◌then◌else◌, slice_index, length-append, append_assoc}
@@ -29,11 +29,11 @@ scans_all-push a (m ∷ ns) n = scans_all-push (scans a m) ns n
 pub part_none : (passes : ℕ) (a : Knowledge) (l : ℕ) → 0 < passes → a.scanned ≡ 0 → l ≡ length a.seen → IsPart passes a a 0 l
 part_none passes a l some none is = record { same = refl; turn = λ _. none; waits = λ _. refl; whole = λ e. absurd (omega arith); begins = λ _. is; so_far = λ h. absurd (omega arith) }
 
--- the lowest number without a reader slot
+-- the lowest number before any reader slot has been read
 pub lowest_none : (current : ℕ) → IsLowestAnnounced current [] current
 lowest_none current = record { at_most = le_refl current; below = λ a h. absurd (let lt = h.1 in omega arith); one = inl refl }
 
--- the lowest number with one more reader slot
+-- the lowest number after one more reader slot
 pub lowest_more : (current : ℕ) (words : List ℕ) (least word : ℕ) → IsLowestAnnounced current words least → IsLowestAnnounced current (words ++ word ∷ []) (lowest_found least word)
 lowest_more current words least zero h = record {
   at_most = h.at_most;
@@ -53,7 +53,7 @@ lowest_more current words least (suc a) h = elim (leb_tells least a) [
   })
 ]
 
--- one more reader slot makes the lowest number no greater, and keeps the order of two
+-- one more reader slot never raises the lowest number, and preserves the order of two such numbers
 lowest_lower : (l n : ℕ) → lowest_found l n ≤ l
 lowest_lower l zero = le_refl l
 lowest_lower l (suc n) = omega arith
@@ -62,14 +62,14 @@ lowest_mono : (l c n : ℕ) → l ≤ c → lowest_found l n ≤ lowest_found c 
 lowest_mono l c zero h = h
 lowest_mono l c (suc n) h = omega arith
 
--- what the first j reader slots say about the lowest of the current number and the pass's own
+-- what the first j reader slots say about the lower of the current number and the pass's own
 pub record IsOwnPart (a : Knowledge) (j least : ℕ) : Type 0 where
   pub current : least ≤ length a.seen
   pub none : j ≡ 0 → least ≡ length a.seen
   pub own : a.number < j → least ≤ own_lowest a
   pub first : j ≡ 1 → a.number ≡ 0 → least ≡ own_lowest a
 
--- what no reader slot says about the pass's own
+-- what it says before any reader slot has been read
 pub own_none : (a : Knowledge) (l : ℕ) → l ≡ length a.seen → IsOwnPart a 0 l
 own_none a l is = record { current = omega arith; none = λ _. is; own = λ lt. absurd (omega arith); first = λ e. absurd (omega arith) }
 
@@ -162,14 +162,14 @@ part_step passes a m r j l n lt limits h f leaves =
     let s = with_history (pass_of m.0) (pass_of r.0).history in
     subst (λ (x : Knowledge). IsPart passes a x (j + 1) (lowest_found l n)) (sym (ap (λ (x : Me3). pass_of x.0) f)) (part_next passes a s j l n lt limits (part_history passes a (pass_of m.0) j l (pass_of r.0).history h) leaves)
 
--- what the scans so far have found stays found
+-- what the scans so far have found remains found
 found_on : (limits : Limits) (k : ℕ) (before after more : List Move) (j word : ℕ) → StartsWith more after → FoundAt limits k before after j word → FoundAt limits k before more j word
 found_on limits k before after more j word s f = record { upto = f.upto; front = starts_all f.upto after more f.front s; scans = f.scans; words = f.words; world = f.world; runs = f.runs; found = f.found }
   where
     starts_all : (x y z : List Move) → StartsWith y x → StartsWith z y → StartsWith z x
     starts_all x y z p q = (p.0 ++ q.0, q.1 ∙ ap (λ l. l ++ q.0) p.1 ∙ append_assoc x p.0 q.0)
 
--- one more is found, by the scan whose turn it is
+-- the scan whose turn it is finds one more
 pub found_more : (limits : Limits) (k j : ℕ) (before mid after : List Move) (ns : List ℕ) (n : ℕ) → length ns ≡ j → AreFound limits k before mid ns → StartsWith after mid → FoundAt limits k before after j n → AreFound limits k before after (ns ++ n ∷ [])
 found_more limits k j before mid after ns n long all s new i lt = dite (ℕ_discrete i j)
     (λ e. subst (λ (p : ℕ × ℕ). FoundAt limits k before after p.0 p.1) (λ q. (sym e q, sym (ap (slice_index (ns ++ n ∷ [])) (e ∙ sym long) ∙ at_end ns n) q)) new)

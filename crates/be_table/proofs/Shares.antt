@@ -1,4 +1,4 @@
--- The pages of a pool, shared among the versions and an open write.
+-- How the pages of a pool are shared among the versions and an open write.
 use Rattle.std.proofs.Common.{◌≡◌, ℕ, zero, suc, ◌+◌, ◌-◌, ◌*◌, ◌<◌, ◌≤◌, ◌==◌, ◌||◌, Bool, true, false, nat_lt, List, [], ◌∷◌, length, ap, sym, subst, ◌∙◌, refl, inl, inr, arith, cond}
 use Rattle.std.specs.Prelude.{IsTrue, slice_index_or}
 use Rattle.std.proofs.lemmas.Bool.{cases_eq, cases_lt}
@@ -48,7 +48,7 @@ one_of_them (suc n) p = elim (cases_eq p n) [
   | inr ne ↦ omega (arith, one_of_them n p, not_here p n ne)
 ]
 
--- the number of pages in a list is at most its length
+-- the number of pages in a list is at most the list's length
 none_of_none : (n : ℕ) → count_below (has []) n ≡ 0
 none_of_none zero = refl
 none_of_none (suc n) = omega (arith, none_of_none n)
@@ -78,7 +78,7 @@ right_false : (a b : Bool) → (a || b) ≡ false → b ≡ false
 right_false true b e = cc
 right_false false b e = e
 
--- a page that isn't reached is in none of the versions
+-- a page that isn't reached belongs to none of the versions
 unreached : (seen : List Commit) (first k j p : ℕ) → is_reached seen first k p ≡ false → j < k → has (reach_at seen (first + j)) p ≡ false
 unreached seen first zero j p e lt = absurd (omega (arith, lt))
 unreached seen first (suc k) j p e lt = elim (cases_eq j k) [
@@ -127,7 +127,7 @@ shared_now a spent =
     plus_none : (n : ℕ) → n + 0 ≡ n
     plus_none n = omega arith
 
--- pages that the write holds are counted as such
+-- pages that the write holds are counted as held
 in_hand_taken : (x : Place) → IsTrue (is_in_hand x) → is_taken (page_state_at x) ≡ true
 in_hand_taken Nowhere h = h
 in_hand_taken Reserved h = refl

@@ -1,4 +1,4 @@
--- The oldest number that a scan found announced, and where the pages are after the scan.
+-- The oldest announced number that a scan found, and the places of the pages after the scan.
 use Rattle.std.proofs.Common.{◌≡◌, ℕ, zero, suc, ◌<◌, ◌≤◌, List, [], ◌∷◌, ◌++◌, length, slice_index, true, Some, None, refl, sym, ap, ◌∙◌, subst, arith, length-append}
 use Rattle.std.specs.declared.option.Option.{Option}
 use mathlib.Core.Logic.{dite}
@@ -23,7 +23,7 @@ in_front [] n i lt = absurd (omega (arith, lt))
 in_front (x ∷ xs) n zero lt = refl
 in_front (x ∷ xs) n (suc i) lt = in_front xs n i (omega (arith, lt))
 
--- one more word: what holds for each word, by its place
+-- one more word: what holds for each word by its position
 each_word : (P : ℕ → ℕ → Type 0) (words : List ℕ) (n : ℕ) → ((k : ℕ) → k < length words → P k (slice_index words k)) → P (length words) n
     → (k : ℕ) → k < length (words ++ n ∷ []) → P k (slice_index (words ++ n ∷ []) k)
 each_word P words n front last k lt =
@@ -77,7 +77,7 @@ oldest_stays words o n a is le h =
           (λ b e. (omega (arith, e, is, le), λ before. absurd (omega (arith, before, low)))) k lt b word,
     )
 
--- a pass that holds the lock knows where the pages are after its history
+-- a pass that holds the lock knows the places of the pages after its history
 pub lies_at : (c : Knowledge) (P : World → Type 0) → c.writes ≡ true → Reaches c P → LieAt c.limits c.history c.places
 lies_at c P writes r = record { words = r.words; world = r.world; runs = r.runs; shown = r.known.shown writes }
 

@@ -38,12 +38,12 @@ rests_now k t = ([], tt, sym (append-nil t))
 makes_one : (k : ℕ) (h t : List Move) (m : Move) → Rests k h t → Makes k h (m ∷ []) (t ++ m ∷ [])
 makes_one k h t m r = (r.0, r.1, ap (λ l. l ++ m ∷ []) r.2)
 
--- moves, one list after the other
+-- moves, one list after another
 pub makes_more : (k : ℕ) (old own mid more new : List Move) → Makes k old own mid → Makes k mid more new → Makes k old (own ++ more) new
 makes_more k old [] mid more new a b = subst (λ (l : List Move). Makes k l more new) a b
 makes_more k old (m ∷ own) mid more new a b = (a.0, a.1, makes_more k ((old ++ a.0) ++ m ∷ []) own mid more new a.2 b)
 
--- the moves of another pass leave the others at rest
+-- the moves of another pass leave the rest at rest
 all_rest_on : (limits : Limits) (b : Board) (i j : ℕ) (a : Knowledge) (t : List Move) (m : Move) (u : List Knowledge) → j ≢ i → Fits limits b i a → mover m ≡ a.number → AllFit limits b j u → AllRest t u → AllRest (t ++ m ∷ []) u
 all_rest_on limits b i j a t m [] ne fa is f r = tt
 all_rest_on limits b i j a t m (x ∷ u) ne fa is f r = (rests_on x.number x.history t (m ∷ []) ((λ e. apart limits b i j a x ne fa f.0 (sym e ∙ is)), tt) r.0, all_rest_on limits b i j a t m u ne fa is f.2 r.1)
@@ -221,7 +221,7 @@ pub resting : (limits : Limits) (slots i : ℕ) (v : View) (carried : List (ℕ 
 resting limits slots i v carried word f event then by same rest s h sized at fits =
     let n = slice_index s.words word in rested limits s h word (f n) i v carried at (event n) (then n) (by s h.0 h.1 sized at fits) (same n) (rest n)
 
--- what is said may be said in another way
+-- what a step says may be restated
 pub retold : (limits : Limits) (slots i : ℕ) (me : Me1) (word : ℕ) (f : ℕ → ℕ) (then more : ℕ → Me1 → Type 0) → ((n : ℕ) (r : Me1) → then n r → more n r) → Allows (Shows limits) slots i me word f then → Allows (Shows limits) slots i me word f more
 retold limits slots i me word f then more g x s h sized at fits = let r = x s h sized at fits in (r.0, r.1, r.2, r.3, g (slice_index s.words word) _ r.4)
 
@@ -229,6 +229,6 @@ retold limits slots i me word f then more g x s h sized at fits = let r = x s h 
 pub as_me : (limits : Limits) (slots i : ℕ) (a : Knowledge) (carried : List (ℕ × Option WriterState)) (me : Me1) (word : ℕ) (f : ℕ → ℕ) (then : Me1 → ℕ → Me1 → Type 0) → me ≡ (alone a, carried) → Allows (Shows limits) slots i (alone a, carried) word f (then (alone a, carried)) → Allows (Shows limits) slots i me word f (then me)
 as_me limits slots i a carried me word f then e x = subst (λ (m : Me1). Allows (Shows limits) slots i m word f (then m)) (sym e) x
 
--- the pass of a seat that is known
+-- the pass of a seat whose view is known
 pub one_of : (a c : Knowledge) (h : List Move) (l : List (ℕ × Option WriterState)) (r : Me1) → r ≡ (alone c, l) → c.number ≡ a.number → c.history ≡ h → IsOne a h r
 one_of a c h l r e number history = (c, ap (λ (m : Me1). m.0) e, number, history)

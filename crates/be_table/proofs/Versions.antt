@@ -1,4 +1,4 @@
--- What a version encodes stays the same while its pages keep their words.
+-- What a version encodes is unchanged while its pages keep their words.
 use Rattle.std.proofs.Common.{◌≡◌, ℕ, zero, suc, ◌+◌, ne_eqb, slice_index, false, ◌<◌, ◌≤◌, List, [], ◌∷◌, ◌++◌, length, take, Bool, true, nat_lt, if◌then◌else◌, refl, sym, ap, ◌∙◌, inl, inr, arith, IsTrue}
 use Rattle.std.proofs.lemmas.Bool.{cases_lt}
 use Rattle.std.proofs.Math.ListN.{get_or-eq_default}
@@ -25,7 +25,7 @@ from_before : (b : Bool) → IsTrue (is_from_before (at_start b)) → IsTrue b
 from_before true h = refl
 from_before false h = absurd (cc)
 
--- on the version's pages the words are the same
+-- the words on the version's pages are the same
 pub encodes_same : (pages : List ℕ) (v w : ℕ → ℕ → ℕ) (page : ℕ) (volume : State) → ((q : ℕ) → IsTrue (has pages q) → w q ≡ v q) → EncodesVolume pages v page volume → EncodesVolume pages w page volume
 encodes_same pages v w page volume same h = record {
   version = version_stays start start v w clean was page volume h.version;
@@ -41,7 +41,7 @@ encodes_same pages v w page volume same h = record {
     was : IsUndone start start v w
     was = record { page_state = λ q. undone_start (has pages q); same_words = λ q h. same q (from_before (has pages q) h) }
 
--- the words of one page, which agree at its places
+-- the words of one page, given that they agree at its places
 pub clipped : (f g : ℕ → ℕ) → ((i : ℕ) → i < 512 → f i ≡ g i) → ◌≡◌ {A = ℕ → ℕ} (λ (i : ℕ). if nat_lt i 512 then f i else 0) (λ (i : ℕ). if nat_lt i 512 then g i else 0)
 clipped f g same = λ k i. at i k
   where
@@ -65,7 +65,7 @@ zero_page : (q : ℕ) → IsTrue (has (0 ∷ []) q) → q ≡ 0
 zero_page zero h = refl
 zero_page (suc q) h = absurd (let e : has (0 ∷ []) (suc q) ≡ false = rw (ne_eqb 0 (suc q) (λ z. absurd (omega arith))) refl in cc)
 
--- a list of 512 words has nothing beyond its end
+-- a list of 512 words has nothing past its end
 unclipped : (first : List ℕ) (f : ℕ → ℕ) → length first ≡ 512 → ((i : ℕ) → i < 512 → f i ≡ slice_index first i) → ◌≡◌ {A = ℕ → ℕ} (λ (i : ℕ). if nat_lt i 512 then f i else 0) (λ (i : ℕ). slice_index first i)
 unclipped first f long same = λ k i. at i k
   where
@@ -75,7 +75,7 @@ unclipped first f long same = λ k i. at i k
       | inr le ↦ rw (le-ltb i 512 le) (sym (get_or-eq_default first 0 (omega (arith, long, le))))
     ]
 
--- version 0 has only its page
+-- version 0 has only its one page
 first_alone : (w : ℕ → ℕ → ℕ) (volume : State) → IsVersion (λ q. at_start (has (0 ∷ []) q)) w 0 volume → EncodesVolume (0 ∷ []) w 0 volume
 first_alone w volume h = record {
   version = h;

@@ -64,7 +64,7 @@ module _ (a : Knowledge) (front : List Commit) (m n j l : Me1) (number seen : �
       reported_as (one_step_on (having_seen (one_step_on a) (longer a.seen front))) r number both (ap (λ (x : Me1). pass_of x.0) e ∙ ap (λ (x : Me1). pass_of (kept_seat x.0)) learnt.0)
       (record { number_is = t.number_is; seen_is = long; writes = t.writes; pass = stepped_pass (having_seen (one_step_on a) (longer a.seen front)) _ learnt.3 })
 
--- what a seat says from which a witness was made
+-- what a seat says after a witness was made from it
 pub reported_attested : (a : Knowledge) (m r : Me1) (number seen : ℕ) → m ≡ (alone a, []) → r ≡ (kept_seat m.0, m.1) → IsReported a number seen → IsReported (pass_of r.0) number seen
 reported_attested a m r number seen is e t =
     reported_as (one_step_on a) r number seen (ap (λ (x : Me1). pass_of x.0) e ∙ ap (λ (x : Me1). pass_of (kept_seat x.0)) is)

@@ -1,4 +1,4 @@
--- What a write does between its lock and its unlock.
+-- What a write does between taking and releasing the lock.
 use Rattle.std.proofs.Common.{◌≡◌, ◌≢◌, ℕ, zero, suc, ◌||◌, Bool, true, false, if◌then◌else◌, List, [], ◌∷◌, ◌++◌, refl, sym, ap, ◌∙◌, subst, eq-eqb, ne_eqb, append_assoc}
 use Rattle.std.proofs.Common.{◌⊎◌, inl, inr}
 use Rattle.std.specs.List.{list_any}
@@ -20,7 +20,7 @@ use Rattle.be_table.proofs.Scans.{makes_starts}
 
 -- ## The moves up to the last lock
 
--- a move of another pass isn't a lock of the pass k
+-- a move of another pass isn't a lock by pass k
 other_locks : (k : ℕ) (m : Move) → mover m ≢ k → is_lock_of k m ≡ false
 other_locks k (Look j) ne = refl
 other_locks k (Announce j) ne = refl
@@ -79,12 +79,12 @@ upto_locked k (m ∷ h) =
 pub upto_now : (k : ℕ) (old new : List Move) → Makes k old (Lock k ∷ []) new → upto_lock k new ≡ new
 upto_now k old new m = subst (λ (l : List Move). upto_lock k l ≡ l) (sym m.2) (upto_locked k (old ++ m.0))
 
--- a move that isn't a lock doesn't change it
+-- a move that isn't a lock doesn't change that part
 pub upto_one : (k : ℕ) (old new : List Move) (x : Move) → is_lock_of k x ≡ false → Makes k old (x ∷ []) new → upto_lock k new ≡ upto_lock k old
 upto_one k old new x other m =
     ap (upto_lock k) m.2 ∙ upto_more k (old ++ m.0) (x ∷ []) (ap (λ (b : Bool). b || false) other) ∙ upto_more k old m.0 (none_locks k m.0 m.1)
 
--- and so does work
+-- nor does work
 pub upto_work : (k : ℕ) (old own new : List Move) → AreWork k own → Makes k old own new → upto_lock k new ≡ upto_lock k old
 upto_work k old [] new w m = ap (upto_lock k) m
 upto_work k old (x ∷ own) new w m =
@@ -123,7 +123,7 @@ pub reasons_more : (limits : Limits) (k : ℕ) (old own mid more new : List Move
 reasons_more limits k old [] mid more new a b = subst (λ (l : List Move). MakesForReason limits k l more new) a b
 reasons_more limits k old (m ∷ own) mid more new a b = (a.0, a.1, a.2, reasons_more limits k ((old ++ a.0) ++ m ∷ []) own mid more new a.3 b)
 
--- without the reasons
+-- the same moves without their reasons
 pub reasons_left : (limits : Limits) (k : ℕ) (old own new : List Move) → MakesForReason limits k old own new → Makes k old own new
 reasons_left limits k old [] new a = a
 reasons_left limits k old (m ∷ own) new a = (a.0, a.1, reasons_left limits k ((old ++ a.0) ++ m ∷ []) own new a.3)
@@ -156,11 +156,11 @@ take_needs limits a p = ((λ before. tt), tt)
 
 -- ## A write that continues
 
--- a pass that has just taken the lock has done nothing with it
+-- a pass that has just taken the lock has done nothing with it yet
 pub worked_none : (limits : Limits) (k : ℕ) (h : List Move) → upto_lock k h ≡ h → HasWorked limits k h
 worked_none limits k h e = record { first = []; early = inl refl; begun = upto_lock k h; scanned = refl; own = []; work = tt; made = sym e }
 
--- nor has a pass that has also scanned once
+-- nor has a pass that has only scanned once since
 pub worked_first : (limits : Limits) (k : ℕ) (old new : List Move) → upto_lock k old ≡ old → Makes k old (scans_of k limits.passes) new → HasWorked limits k new
 worked_first limits k old new e m =
     let upto : upto_lock k new ≡ old = upto_work k old (scans_of k limits.passes) new (scans_work k limits.passes) m ∙ e in
@@ -178,7 +178,7 @@ worked_more limits k old own new w m h =
       made = reasons_more limits k h.begun h.own old own new h.made m;
     }
 
--- a whole scan has its reason, or comes first
+-- a whole scan either has its reason or comes first
 pub worked_scan : (limits : Limits) (k : ℕ) (old new : List Move) (none : Type 0) → none ⊎ (upto_lock k old ≡ old) → Makes k old (scans_of k limits.passes) new → (none → MakesForReason limits k old (scans_of k limits.passes) new)
     → HasWorked limits k old → HasWorked limits k new
 worked_scan limits k old new none (inl n) m r h = worked_more limits k old (scans_of k limits.passes) new (scans_work k limits.passes) (r n) h

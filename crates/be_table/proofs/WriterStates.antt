@@ -1,4 +1,4 @@
--- What a change of the writer state shows is the event's effect.
+-- The effect of a change of the writer state is the event's effect.
 use Rattle.std.proofs.Common.{◌≡◌, ℕ, zero, suc, ◌<◌, ◌≤◌, Bool, true, false, cond, nat_lt, if◌then◌else◌, ◌||◌, List, [], ◌∷◌, map, length, slice_set, count_by, Some, None, refl, sym, ap, ◌∙◌, subst, inl, inr, get_or-set_same, get_or-set_other, arith, IsTrue}
 use Rattle.std.proofs.lemmas.Bool.Decides.{eqb_tells}
 use Rattle.std.proofs.lemmas.List.{length-map}
@@ -71,7 +71,7 @@ one_more true y h = subst (λ b. 1 ≤ cond b 1 0) (sym (h refl)) (omega arith)
 one_more false true h = omega arith
 one_more false false h = omega arith
 
--- each page gets another place, and what is retired stays retired
+-- each page gets another place, and retired pages remain retired
 retired_more : (f : Place → Place) → ((x : Place) → is_retired x ≡ true → is_retired (f x) ≡ true) → (places : List Place) → count_by is_retired places ≤ count_by is_retired (map f places)
 retired_more f h [] = omega arith
 retired_more f h (x ∷ xs) =
@@ -121,7 +121,7 @@ shows-take places w s p i word inside unretired = record {
   retired = λ q. elim (eqb_tells q p) [ inl y ↦ rw (y.1, get_or-set_same places p Reserved Current inside) (s.retired p ∙ unretired) | inr n ↦ rw (get_or-set_other places p q Reserved Current n.1) (s.retired q) ];
 }
 
--- a place changes, and the sets stay the same
+-- a place changes, and the sets are unchanged
 pub shows-place : (places : List Place) (w : World) → ShowsPlaces places w → (p : ℕ) (x : Place) → p < length places → shows_free x ≡ shows_free (place_of places p) → shows_taken x ≡ shows_taken (place_of places p) → retired_with x ≡ retired_with (place_of places p)
     → ShowsPlaces (slice_set places p x) w
 shows-place places w s p x inside f t r = record {
@@ -130,7 +130,7 @@ shows-place places w s p x inside f t r = record {
   retired = λ q. elim (eqb_tells q p) [ inl y ↦ rw (y.1, get_or-set_same places p x Current inside) (s.retired p ∙ sym r) | inr n ↦ rw (get_or-set_other places p q x Current n.1) (s.retired q) ];
 }
 
--- a page that was taken goes back
+-- a page that was taken returns to the free ones
 pub shows-return : (places : List Place) (w : World) → ShowsPlaces places w → (p : ℕ) → p < length places → retired_with (place_of places p) ≡ None
     → ShowsPlaces (slice_set places p Free) (after_return w p)
 shows-return places w s p inside unretired = record {
@@ -139,7 +139,7 @@ shows-return places w s p inside unretired = record {
   retired = λ q. elim (eqb_tells q p) [ inl y ↦ rw (y.1, get_or-set_same places p Free Current inside) (s.retired p ∙ unretired) | inr n ↦ rw (get_or-set_other places p q Free Current n.1) (s.retired q) ];
 }
 
--- the lock is given back
+-- the lock is released
 pub shows-unlock : (places : List Place) (w : World) → ShowsPlaces places w → ShowsPlaces (map undone_place places) (after_unlock w)
 shows-unlock places w s = record {
   free = λ p. rw (s.free p, s.taken p, place-map undone_place refl places p) (freed (place_of places p));

@@ -1,10 +1,10 @@
--- How many pages of a pool versions and an open write have.
+-- How many of a pool's pages belong to versions and to an open write.
 use Rattle.std.specs.Prelude.{ℕ, zero, suc, ◌+◌, ◌-◌, ◌||◌, Bool, false, List, length}
 use Rattle.be_core.specs.Machine.{bit, has}
 use Rattle.be_table.specs.declared.pass.Commit.{Commit}
 use Rattle.be_table.specs.Rule.{reach_at}
 
--- one of `count` versions, from the first on, has the page
+-- one of the `count` versions from `first` on has the page
 abbrev pub is_reached : List Commit → (first count : ℕ) → ℕ → Bool
 is_reached seen first zero p = false
 is_reached seen first (suc k) p = has (reach_at seen (first + k)) p || is_reached seen first k p

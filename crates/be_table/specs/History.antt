@@ -7,7 +7,7 @@ use Rattle.be_journal.specs.declared.entries.Entry.{Entry}
 abbrev pub StartsWith : {A : Type 0} → List A → List A → Type 0
 StartsWith {A} log seen = (rest : List A) × (log ≡ seen ++ rest)
 
--- each entry is by one of this many passes
+-- each entry was written by one of `passes` passes
 unfoldable pub AreOfPasses : ℕ → List Entry → Type 0
 AreOfPasses passes [] = Unit {0}
 AreOfPasses passes (e ∷ es) = (e.by < passes) × AreOfPasses passes es

@@ -57,7 +57,7 @@ IsRead k m p i n v w = MayRead v k p i × (w ≡ v) × (n ≡ v.image m p i)
 abbrev pub IsUnpin : ℕ → ℕ → World → World → Type 0
 IsUnpin k n v w = MayUnpin v k × (w ≡ after_unpin v k)
 
--- it is a Lock only if the word was 0
+-- the step is a Lock only if it found 0
 abbrev pub IsLock : ℕ → ℕ → World → World → Type 0
 IsLock k n v w = MatchBool (n == 0) (MayLock v k × (w ≡ after_lock v k)) (w ≡ v)
 
@@ -71,7 +71,7 @@ IsScan k j n v w = MayScan v k j × (w ≡ after_scan v j) × (n ≡ announce_wo
 abbrev pub IsFill : (k p i word : ℕ) → ℕ → World → World → Type 0
 IsFill k p i word n v w = MayFill v k p i × (w ≡ after_fill v p i word)
 
--- a page that the write had taken goes back to the free ones
+-- a page that the write had taken returns to the free pages
 abbrev pub IsReturn : (k p : ℕ) → ℕ → World → World → Type 0
 IsReturn k p n v w = MayReturn v k p × (w ≡ after_return v p)
 
@@ -80,8 +80,8 @@ IsPublish k page given n v w = MayPublishAt v k page given × (w ≡ after_publi
 
 -- ## What a step does
 
--- As in `Allows`: whatever the table is, the seat can step and keep the rule. The machine that the
--- table shows then makes the event, which may depend on the number found.
+-- As in `Allows`, the seat can take the step in any state of the table, and the rule is preserved.
+-- The machine that the table shows then makes the event, which may depend on the number found.
 abbrev pub AllowsBy : Limits → ℕ → ℕ → Me (Option WriterState) View → ℕ → (ℕ → ℕ)
     → (ℕ → World → World → Type 0) → (ℕ → Me (Option WriterState) View → Type 0) → Type 0
 AllowsBy limits slots id me i f event then =
@@ -245,7 +245,7 @@ ArrivalIsNoEvent limits = (s : State (Option WriterState) View) (b : Board) → 
 
 -- ## The moves
 
--- an event as moves; a read changes nothing and is no move
+-- the moves of an event; a read changes nothing and has none
 abbrev pub moves_of : Event → List Move
 moves_of (events.Look k) = moves.Look k ∷ []
 moves_of (events.Announce k) = moves.Announce k ∷ []
@@ -281,8 +281,7 @@ abbrev pub UnusedAreZero : Type 0
 UnusedAreZero = (limits : Limits) (s : State (Option WriterState) View) (k : ℕ) → Shows limits s
     → IsUnused limits.passes k → slice_index s.words k ≡ 0
 
--- So a step stores nothing but 0 there, whatever it does to its seat: no word can serve as a lock
--- of another kind.
+-- a step may store only 0 there, whatever it does to its seat, so no word can serve as another lock
 abbrev pub UnusedStayZero : Type 0
 UnusedStayZero = (limits : Limits) (s : State (Option WriterState) View) (k n id : ℕ)
     (carried : List (ℕ × Option WriterState)) (v : View) (x : Act (Option WriterState))

@@ -21,8 +21,8 @@ pub record Opened : Type 0 where
   pub id : TableId
   pub limits : Limits
 
--- An open write: the table; what the pass knows; for how many operations of one entry there is
--- room, or 0; and how many pages the last whole scan left retired.
+-- An open write: its table, what its pass knows, the number of operations for which one entry has
+-- room (or 0), and the number of pages that the last whole scan left retired.
 pub record Work : Type 0 where
   pub table : Opened
   pub knows : Knowledge

@@ -8,7 +8,8 @@ use Rattle.be_table.specs.Seats.{IsReported, pin_of}
 abbrev pub reader_of : Inside → Pin
 reader_of p = record { table = p.table.now; knows = pass_of p.base.me.0 }
 
--- the seat is at the table and has nothing from the slot, and the marks are those of its pass
+-- the seat belongs to the table and holds nothing from the slot, and the marks are those of its
+-- pass
 pub record IsReader (p : Inside) : Type 0 where
   pub table_is : p.base.table_id ≡ p.table.now.id
   pub me_is : p.base.me ≡ (alone (pass_of p.base.me.0), [])

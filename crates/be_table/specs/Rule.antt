@@ -36,7 +36,7 @@ entries log = map (λ c. c.entry) log
 abbrev pub nothing : Commit
 nothing = record { entry = record { by = 0; ops = []; dones = [] }; page = 0; reach = [] }
 
--- the pages of version n; version 0 has only the page 0
+-- the pages of version n; version 0 has only page 0
 abbrev pub reach_at : List Commit → ℕ → List ℕ
 reach_at log zero = 0 ∷ []
 reach_at log (suc n) = (slice_index_or log n nothing).reach
@@ -63,20 +63,20 @@ current_word version page = version * 4294967296 + page
 abbrev pub HasCurrent : ℕ → World → Type 0
 HasCurrent n w = (page : ℕ) × (n ≡ current_word w.current page) × (page < 4294967296)
 
--- word i of the page p
+-- the place of word i of page p among the table's words
 abbrev pub word_place : ℕ → ℕ → ℕ
 word_place p i = 528 + 512 * p + i
 
--- at each place of each page, the list has the word
+-- the list holds the given word at each place of each page
 abbrev pub PagesAgree : ℕ → (ℕ → ℕ → ℕ) → List ℕ → Type 0
 PagesAgree pages words ws = (p i : ℕ) → p < pages → i < 512 → slice_index ws (word_place p i)
     ≡ words p i
 
--- where each page is
+-- the place of each page
 abbrev pub writer_state_places : WriterState → List Place
 writer_state_places writer_state = places writer_state.pool
 
--- at least as many pages as the last whole scan left retired are still retired
+-- no fewer pages are retired now than the last whole scan left
 abbrev pub LeftAreRetired : WriterState → Type 0
 LeftAreRetired writer_state = writer_state.left
     ≤ count_by is_retired (writer_state_places writer_state)
@@ -85,7 +85,8 @@ abbrev pub is_writer : Option Writer → ℕ → Bool
 is_writer None k = false
 is_writer (Some h) k = h.pass == k
 
--- a writer state that agrees with the table: the journal, the version page, and where each page is
+-- a writer state that agrees with the table: the journal, the version page, and the place of each
+-- page
 pub record AtHome (w : World) (log : List Commit) (writer_state : WriterState) : Type 0 where
   pub journal : writer_state.journal.entries ≡ entries log
   pub limit : writer_state.journal.limit ≡ w.commits
@@ -96,7 +97,7 @@ pub record AtHome (w : World) (log : List Commit) (writer_state : WriterState) :
       ≡ (writer_state_places writer_state)
   pub left : LeftAreRetired writer_state
 
--- while nobody holds the lock, the writer state lies in its slot and agrees with the table
+-- while no pass holds the lock, the writer state is in its slot and agrees with the table
 abbrev pub IsHome : Option Writer → World → List Commit → List (Maybe (Option WriterState)) → Type 0
 IsHome None w log homes = (writer_state : WriterState) × (homes ≡ some (Some writer_state) ∷ [])
     × AtHome w log writer_state
@@ -104,8 +105,8 @@ IsHome (Some h) w log homes = homes ≡ none ∷ []
 
 -- ## The first part: the table shows the state
 
--- a word before the pages that is neither the lock, nor the current version, nor the reader slot of
--- one of this many passes
+-- a word before the pages that isn't the lock, the current version or the reader slot of one of
+-- `passes` passes
 abbrev pub IsUnused : (passes k : ℕ) → Type 0
 IsUnused passes k = (k < 528) × (k ≢ 0) × (k ≢ 8) × ((j : ℕ) → j < passes → k ≢ 16 + 8 * j)
 
@@ -185,7 +186,7 @@ pub record Holds (b : Board) (a : Knowledge) : Type 0 where
   pub size : length a.words ≡ 528 + 512 * b.world.pages
   pub words : PagesAgree b.world.pages b.world.words a.words
 
--- the image of a pinned version, on each of its pages
+-- the list holds the image of a pinned version on each of its pages
 abbrev pub ImageIs : World → Phase → List ℕ → Type 0
 ImageIs w phase image = (x n p i : ℕ) → phase ≡ Pinned x n → IsTrue (w.reach n p) → i < 512
     → slice_index image (word_place p i) ≡ w.image n p i
@@ -208,7 +209,7 @@ abbrev pub IsAbsent : ℕ → List Knowledge → Type 0
 IsAbsent k [] = Unit {0}
 IsAbsent k (a ∷ v) = (a.number ≢ k) × IsAbsent k v
 
--- what each pass in a seat's view knows is true, and no pass is there twice
+-- what each pass in a seat's view knows is true, and no pass occurs twice
 abbrev pub AllFit : Limits → Board → ℕ → List Knowledge → Type 0
 AllFit limits b seat [] = Unit {0}
 AllFit limits b seat (a ∷ v) = Fits limits b seat a × IsAbsent a.number v × AllFit limits b seat v
@@ -228,7 +229,8 @@ ViewsFit limits b views = (seat : ℕ) (v : View) → get_elem? views seat ≡ s
 
 -- ## The fourth part: the trace
 
--- The moves lead from the first state to this one. No move after a pass's history is by that pass.
+-- The moves lead from the first state to this one. After the end of a pass's history, no move is by
+-- that pass.
 pub record IsTrace (limits : Limits) (w : World) (views : List View) (trace : List Move) : Type 0
   where
     pub words : ℕ → ℕ → ℕ
@@ -256,7 +258,7 @@ pub record IsAt (a : Knowledge) (w : World) : Type 0 where
   pub shown : a.writes ≡ true → ShowsPlaces a.places w
   pub image : ImageIs w a.phase a.image
 
--- after the pass's history the machine is as the pass knows it, and P holds for it
+-- after the pass's history the machine is as the pass knows it, and P holds of it
 pub record Reaches (a : Knowledge) (P : World → Type 0) : Type 0 where
   pub words : ℕ → ℕ → ℕ
   pub world : World
@@ -295,7 +297,7 @@ newcomer limits steps k = record {
   history = [];
 }
 
--- `n` passes from k on
+-- n new passes, numbered from k
 unfoldable pub newcomers : Limits → ℕ → ℕ → ℕ → List Knowledge
 newcomers limits steps k zero = []
 newcomers limits steps k (suc n) = newcomer limits steps k ∷ newcomers limits steps (suc k) n
@@ -310,7 +312,7 @@ beside a c = record { passes = a ∷ c ∷ []; fronts = [] }
 abbrev pub empty_view : View
 empty_view = record { passes = []; fronts = [] }
 
--- the view of the seat that has `n` passes from k on, before they are dealt
+-- the view of the seat that has the n passes from k on before they are dealt
 abbrev pub undealt : Limits → ℕ → ℕ → ℕ → View
 undealt limits steps k n = record { passes = newcomers limits steps k n; fronts = [] }
 
@@ -351,7 +353,7 @@ second_of v = first_of (drop 1 v.passes)
 
 -- ## Witnesses
 
--- the view of a witness that the journal began with this front
+-- the view of a witness that has seen this front of the journal
 abbrev pub witnessing : List Commit → View
 witnessing front = record { passes = []; fronts = front ∷ [] }
 
@@ -363,7 +365,7 @@ informed a front = record { passes = a ∷ []; fronts = front ∷ [] }
 abbrev pub front_of : View → List Commit
 front_of v = slice_index_or v.fronts 0 []
 
--- a seat keeps its passes, and a new seat has what the first of them has seen
+-- a seat keeps its passes, and a new seat gets what the first of them has seen
 abbrev pub kept_seat : View → View
 kept_seat v = record v { passes = map one_step_on v.passes }
 

@@ -1,4 +1,4 @@
--- What a table reports about itself.
+-- A table's report on itself.
 use Rattle.std.specs.Prelude.{◌≡◌, ℕ, suc, ◌<◌, ◌≤◌, List, length, count_by, slice_index, Option}
 use Rattle.std.specs.Prelude.{Some, None}
 use Rattle.be_core.specs.Machine.{World}
@@ -14,7 +14,7 @@ use Rattle.be_table.specs.Steps.{AreFound}
 use Rattle.be_table.specs.Trace.{RunsTo}
 
 -- The lowest announced number, and the first pass that has announced it. Each pass's word is the
--- number that it has announced plus 1, or 0.
+-- number that it has announced plus 1, or 0 if it has announced none.
 abbrev pub IsOldest : List ℕ → Option Announcement → Type 0
 IsOldest words None = (k : ℕ) → k < length words → slice_index words k ≡ 0
 IsOldest words (Some o) =
@@ -22,8 +22,8 @@ IsOldest words (Some o) =
     × ((k a : ℕ) → k < length words → slice_index words k ≡ suc a → (o.number ≤ a)
     × (k < o.pass → o.number < a))
 
--- the oldest of the numbers that a whole scan by the pass k found in the reader slots, one after
--- the other
+-- the lowest of the numbers that a whole scan by pass k found, one after another, in the reader
+-- slots
 pub record FindsOldest (limits : Limits) (k : ℕ) (before after : List Move)
     (reported : Option Announcement) : Type 0 where
   pub found : List ℕ
@@ -38,8 +38,8 @@ pub record LieAt (limits : Limits) (moves : List Move) (places : List Place) : T
   pub runs : RunsTo limits words moves world
   pub shown : ShowsPlaces places world
 
--- the status has the numbers of the limits, of the pages as the pass knows them, and of the journal
--- that it has seen
+-- the figures of the status are those of the limits, of the pages as the pass knows them, and of
+-- the journal that it has seen
 pub record Reports (a : Knowledge) (s : Status) : Type 0 where
   pub pages : s.pages ≡ a.limits.pages
   pub free : s.free ≡ count_by is_free a.places

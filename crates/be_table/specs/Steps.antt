@@ -91,7 +91,7 @@ unpins a = record a { phase = Idle; steps = a.steps + 1 }
 abbrev pub with_history : Knowledge → List Move → Knowledge
 with_history a history = record a { history = history }
 
--- the lowest number, after a reader slot was read
+-- the lowest number once one more reader slot has been read
 abbrev pub lowest_found : ℕ → ℕ → ℕ
 lowest_found l zero = l
 lowest_found l (suc n) = min l n
@@ -108,12 +108,12 @@ pub record IsLowestAnnounced (current : ℕ) (words : List ℕ) (least : ℕ) : 
   pub below : (a : ℕ) → Contains words (suc a) → least ≤ a
   pub one : (least ≡ current) ⊎ Contains words (suc least)
 
--- the pages from the page p on for which f holds
+-- the pages from p on for which f holds
 abbrev pub pages_from : (Place → Bool) → ℕ → List Place → List ℕ
 pages_from f p [] = []
 pages_from f p (x ∷ xs) = if f x then p ∷ pages_from f (suc p) xs else pages_from f (suc p) xs
 
--- a scan reads one reader slot; and a scan reads its last one
+-- a scan reads one more reader slot, or its last one
 abbrev pub scans_on : Knowledge → ℕ → Knowledge
 scans_on a n = record a { scanned = suc a.scanned; least = lowest_then a n; steps = a.steps + 1 }
 
@@ -126,7 +126,7 @@ scans_out a n = record a {
   steps = a.steps + 1;
 }
 
--- no version from l to the last that was seen has the page
+-- no version from l to the last one seen has the page
 abbrev pub NoCommitReaches : List Commit → ℕ → ℕ → Type 0
 NoCommitReaches seen l p = (n : ℕ) → l ≤ n → n ≤ length seen → IsFalse (has (reach_at seen n) p)
 
@@ -138,7 +138,7 @@ UnreachedAreFree a = (p : ℕ) → p < length a.places → NoCommitReaches a.see
 abbrev pub scans : Knowledge → ℕ → Knowledge
 scans a n = if suc a.scanned == a.limits.passes then scans_out a n else scans_on a n
 
--- a whole scan, or a part of one, given the words that it found
+-- a whole scan, or part of one, given the words that it found
 abbrev pub scans_all : Knowledge → List ℕ → Knowledge
 scans_all a [] = a
 scans_all a (n ∷ ns) = scans_all (scans a n) ns
@@ -151,7 +151,7 @@ fills a p i x = record a {
   steps = a.steps + 1;
 }
 
--- A word of a page is filled. A load reads whether the word is there already; if so, the load is
+-- A word of a page is filled. A load checks whether the word is there already; if so, the load is
 -- the fill. Otherwise a store follows.
 abbrev pub fill_steps : Knowledge → ℕ → ℕ → ℕ → ℕ
 fill_steps a p i x = if slice_index a.words (word_place p i) == x then 1 else 2
@@ -163,7 +163,7 @@ fills_word a p i x = record (fills a p i x) { steps = a.steps + fill_steps a p i
 abbrev pub takes_page : Knowledge → ℕ → Knowledge
 takes_page a p = record a { places = slice_set a.places p Reserved; steps = a.steps + 1 }
 
--- a page is given up; one that the write has taken is free at once
+-- a page is given up; one that the write has taken is free immediately
 abbrev pub gives_up : Knowledge → ℕ → Knowledge
 gives_up a p = record a {
   places = slice_set a.places p (given_place (place_of a.places p));
@@ -245,7 +245,7 @@ Gets m r =
     (r ≡ (alone c, (0, Some writer_state) ∷ m.1)) × StartsWith log a.seen × IsPass c
     × IsFound writer_state c
 
--- a pass whose try found the pass b holding the lock
+-- a pass whose attempt found pass b holding the lock
 abbrev pub finds_held : Knowledge → ℕ → Knowledge
 finds_held a b = record a { writers = b ∷ a.writers; steps = a.steps + 1 }
 
@@ -266,14 +266,15 @@ without_lock a = record a { writes = false; steps = a.steps + 1 }
 abbrev pub having_seen : Knowledge → List Commit → Knowledge
 having_seen a log = record a { seen = log; steps = a.steps + 1 }
 
--- the same after three steps: a join, a comparison and a split
+-- the pass has seen this journal after three steps: a join, a comparison and a split
 abbrev pub met : Knowledge → List Commit → Knowledge
 met a log = record a { seen = log; steps = a.steps + 3 }
 
 abbrev pub longer : List Commit → List Commit → List Commit
 longer p q = if ltb (length p) (length q) then q else p
 
--- the two passes of a seat have seen the longer of two journals, which contains the other
+-- the two passes of a seat have now seen the longer of their journals; the shorter is a prefix of
+-- it
 abbrev pub Compared : Step (Option WriterState) → Me (Option WriterState) View → ℕ
     → Me (Option WriterState) View → Type 0
 Compared st m n r =
@@ -281,8 +282,8 @@ Compared st m n r =
     (r ≡ (beside (having_seen a log) (having_seen c log), m.1)) × StartsWith log a.seen
     × StartsWith log c.seen × IsPass (having_seen a log) × IsPass (having_seen c log)
 
--- The pass of a seat has seen the longer of what it had seen and its seat's front, which contains
--- the other. The seat then has no front.
+-- The pass of a seat has now seen the longer of its own journal and its seat's front; the shorter
+-- is a prefix of it. The seat then has no front.
 abbrev pub Learned : Step (Option WriterState) → Me (Option WriterState) View → ℕ
     → Me (Option WriterState) View → Type 0
 Learned st m n r =
@@ -305,13 +306,14 @@ abbrev pub AllIdle : List Knowledge → Type 0
 AllIdle [] = Unit {0}
 AllIdle (a ∷ v) = (a.writes ≡ false) × AllIdle v
 
--- the journal contains what each pass has seen, and has exactly each pass's entries
+-- the journal begins with what each pass has seen, and its entries by that pass are exactly the
+-- pass's own
 abbrev pub KeepsSeen : List Entry → List Knowledge → Type 0
 KeepsSeen log [] = Unit {0}
 KeepsSeen log (a ∷ v) = StartsWith log (entries a.seen) × (by_pass a.number log ≡ a.mine)
     × KeepsSeen log v
 
--- the writer state lies in its slot
+-- the writer state is back in its slot
 abbrev pub Unlocked : Step (Option WriterState) → Me (Option WriterState) View → ℕ
     → Me (Option WriterState) View → Type 0
 Unlocked st m n r = let a = pass_of m.0 in r ≡ (alone (without_lock a), [])
@@ -378,7 +380,8 @@ abbrev pub PageGivenUp : Step (Option WriterState) → Me (Option WriterState) V
 PageGivenUp st m n r = let a = pass_of m.0 in (p : ℕ) → st.word ≡ word_place p 0 → r
     ≡ (alone (gives_up a p), m.1)
 
--- the pass s is the pass a after j reader slots of a scan, in which `least` is the lowest number
+-- s is the pass a after it has read j reader slots of a scan, in which `least` is the lowest number
+-- so far
 pub record IsPart (passes : ℕ) (a s : Knowledge) (j least : ℕ) : Type 0 where
   pub same : s ≡ record a {
     scanned = s.scanned;
@@ -395,7 +398,7 @@ pub record IsPart (passes : ℕ) (a s : Knowledge) (j least : ℕ) : Type 0 wher
   pub begins : j ≡ 0 → least ≡ length a.seen
   pub so_far : 0 < j → s.least ≡ least
 
--- the lowest of the current number and what the pass itself has announced
+-- the lower of the current number and the number that the pass itself has announced
 abbrev pub own_lowest : Knowledge → ℕ
 own_lowest a = lowest_found (length a.seen) (announce_word a.phase)
 
@@ -444,7 +447,7 @@ abbrev pub UnpinMoves : Step (Option WriterState) → Me (Option WriterState) Vi
 UnpinMoves st m n r = Moving (Unpin (pass_of m.0).number) (λ w. Unit {0}) (λ m r. Unpinned st m n r)
     m r
 
--- a try that finds the lock held is no move
+-- an attempt that finds the lock held is no move
 abbrev pub LockMoves : Step (Option WriterState) → Me (Option WriterState) View → ℕ
     → Me (Option WriterState) View → Type 0
 LockMoves st m n r = MatchBool (n == 0)
@@ -456,8 +459,8 @@ abbrev pub CompareMoves : Step (Option WriterState) → Me (Option WriterState) 
 CompareMoves st m n r = let a = pass_of m.0 in let c = second_of m.0 in Compared st m n r
     × HasTrace a.limits (a ∷ c ∷ [])
 
--- The number found is in the reader slot of the pass whose turn it is. Just before that the machine
--- was as the pass knew it.
+-- The number found is in the reader slot of the pass whose turn it is. Just before that, the
+-- machine was as the pass knew it.
 abbrev pub ScanMoves : Step (Option WriterState) → Me (Option WriterState) View → ℕ
     → Me (Option WriterState) View → Type 0
 ScanMoves st m n r =
@@ -477,7 +480,7 @@ abbrev pub FoundFillMoves : Step (Option WriterState) → Me (Option WriterState
     → Me (Option WriterState) View → Type 0
 FoundFillMoves st m n r = FillMoves st m n r × (n ≡ slice_index (pass_of m.0).words st.word)
 
--- a page is taken by a load of its first word, which is a fill with the word that is there
+-- a page is taken by a load of its first word, which is a fill with the word already there
 abbrev pub take_moves : Knowledge → ℕ → List Move
 take_moves a p = Fill a.number p 0 (slice_index a.words (word_place p 0)) ∷ []
 
@@ -489,12 +492,12 @@ TakeMoves st m n r =
     × (r ≡ (alone (takes_page (with_history a h) p), m.1)))
     × (n ≡ slice_index a.words st.word)
 
--- a word of a page is filled with what is there, and then with x if that is different
+-- a word of a page is filled with the word already there, and then with x if that is different
 abbrev pub fill_moves : Knowledge → ℕ → ℕ → ℕ → List Move
 fill_moves a p i x = let found = slice_index a.words (word_place p i) in Fill a.number p i found
     ∷ (if found == x then [] else Fill a.number p i x ∷ [])
 
--- A page that the write had taken goes back to the free ones. The machine learns of any other
+-- A page that the write had taken returns to the free pages. The machine learns of any other
 -- given-up page only later.
 abbrev pub given_moves : Knowledge → ℕ → List Move
 given_moves a p = if shows_taken (place_of a.places p) then Return a.number p ∷ [] else []
@@ -520,13 +523,13 @@ abbrev pub UnlockMoves : Step (Option WriterState) → Me (Option WriterState) V
 UnlockMoves st m n r = Moving (Unlock (pass_of m.0).number) (λ w. Unit {0})
     (λ m r. Unlocked st m n r) m r
 
--- the scans by the pass k of the reader slots before the j-th
+-- the moves with which pass k scans the reader slots before the j-th
 abbrev pub scans_of : ℕ → ℕ → List Move
 scans_of k zero = []
 scans_of k (suc j) = scans_of k j ++ Scan k j ∷ []
 
--- The j-th scan that the pass k made after `before` finds this word: it is the announcement of the
--- pass j in the machine after the moves up to that scan.
+-- The j-th scan that pass k made after `before` finds this word, which is the announcement of pass
+-- j in the machine after the moves up to that scan.
 pub record FoundAt (limits : Limits) (k : ℕ) (before after : List Move) (j word : ℕ) : Type 0 where
   pub upto : List Move
   pub front : StartsWith after upto

@@ -59,12 +59,12 @@ abbrev pub Run : World → List Move → World → Type 0
 Run w [] w' = w' ≡ w
 Run w (m ∷ ms) w' = MayMove w m × Run (after_move w m) ms w'
 
--- the same, from the start of a table with these words in its pages
+-- the moves lead to w from the start of a table with these words in its pages
 abbrev pub RunsTo : Limits → (ℕ → ℕ → ℕ) → List Move → World → Type 0
 RunsTo limits words moves w = Run (first_state limits.pages limits.passes limits.commits words)
     moves w
 
--- a list of moves that the machine makes from its first state, whatever words the pages then have
+-- a list of moves that the machine can make from its first state, with some words in its pages
 abbrev pub IsRun : Limits → List Move → Type 0
 IsRun limits moves = (words : ℕ → ℕ → ℕ) × (w : World) × RunsTo limits words moves w
 
@@ -73,24 +73,24 @@ abbrev pub NoneBy : ℕ → List Move → Type 0
 NoneBy k [] = Unit {0}
 NoneBy k (m ∷ ms) = (mover m ≢ k) × NoneBy k ms
 
--- The pass k makes these moves one after another, each after some moves of others. Its history thus
--- goes from `old` to `new`.
+-- Pass k makes these moves one after another, each possibly after moves of other passes. This takes
+-- its history from `old` to `new`.
 abbrev pub Makes : ℕ → List Move → List Move → List Move → Type 0
 Makes k old [] new = new ≡ old
 Makes k old (m ∷ ms) new = (others : List Move) × NoneBy k others
     × Makes k ((old ++ others) ++ m ∷ []) ms new
 
--- the pass k has made no move since its history
+-- pass k has made no move since the end of its history
 abbrev pub Rests : ℕ → List Move → List Move → Type 0
 Rests k history trace = (others : List Move) × NoneBy k others × (trace ≡ history ++ others)
 
--- the same for each of these passes
+-- none of these passes has made a move since the end of its history
 abbrev pub AllRest : List Move → List Knowledge → Type 0
 AllRest trace [] = Unit {0}
 AllRest trace (a ∷ v) = Rests a.number a.history trace × AllRest trace v
 
--- There is one list of moves. Each of these passes has a history that is a prefix of the list, with
--- no move of that pass after it.
+-- One list of moves has each of these passes' histories as a prefix. It has no move of a pass after
+-- that pass's history.
 pub record HasTrace (limits : Limits) (passes : List Knowledge) : Type 0 where
   pub trace : List Move
   pub runs : IsRun limits trace
@@ -111,12 +111,12 @@ is_lock_of k (Publish j page given) = false
 is_lock_of k (Unlock j) = false
 is_lock_of k (Return j p) = false
 
--- the moves up to the last one with which the pass k took the lock
+-- the moves up to and including the last one with which pass k took the lock
 abbrev pub upto_lock : ℕ → List Move → List Move
 upto_lock k [] = []
 upto_lock k (m ∷ ms) = if list_any (is_lock_of k) (m ∷ ms) then m ∷ upto_lock k ms else []
 
--- a scan, a fill or a return of a page, by the pass k
+-- a scan, a fill or a return of a page, by pass k
 abbrev pub IsWork : ℕ → Move → Type 0
 IsWork k (Look j) = ⊥
 IsWork k (Announce j) = ⊥
@@ -129,7 +129,7 @@ IsWork k (Publish j page given) = ⊥
 IsWork k (Unlock j) = ⊥
 IsWork k (Return j p) = j ≡ k
 
--- each of the moves is a scan, a fill or a return by the pass k
+-- each of the moves is a scan, a fill or a return by pass k
 abbrev pub AreWork : ℕ → List Move → Type 0
 AreWork k [] = Unit {0}
 AreWork k (m ∷ ms) = IsWork k m × AreWork k ms

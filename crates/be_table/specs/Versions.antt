@@ -16,18 +16,18 @@ abbrev pub at_start : Bool → PageState
 at_start true = Old
 at_start false = Nowhere
 
--- the words of pages, each of 512 places
+-- the words of pages with 512 words each, and 0 at any later place
 abbrev pub in_pages : (ℕ → ℕ → ℕ) → ℕ → ℕ → ℕ
 in_pages words q i = if nat_lt i 512 then words q i else 0
 
--- The version with these pages and words encodes the volume from its version page, and has exactly
--- the pages that are reached from there.
+-- The version with these pages and words encodes the volume from its version page, and its pages
+-- are exactly those reached from there.
 pub record EncodesVolume (pages : List ℕ) (words : ℕ → ℕ → ℕ) (page : ℕ) (volume : State) : Type 0
   where
     pub version : IsVersion (λ q. at_start (has pages q)) words page volume
     pub exact : (q : ℕ) → times q (reach words page) ≡ bit (has pages q)
 
--- This many pages can encode the volume: some of them do, with some words, 512 each.
+-- `pages` pages can encode the volume: some of them do so with some words, 512 per page.
 pub record CanEncode (pages : ℕ) (volume : State) : Type 0 where
   pub used : List ℕ
   pub words : ℕ → ℕ → ℕ
@@ -35,7 +35,7 @@ pub record CanEncode (pages : ℕ) (volume : State) : Type 0 where
   pub encoded : EncodesVolume used (in_pages words) page volume
   pub inside : (p : ℕ) → IsTrue (has used p) → p < pages
 
--- this many pages can encode the volume after each entry of the journal
+-- `pages` pages can encode the volume after each entry of the journal
 unfoldable pub CanEncodeEach : ℕ → List Entry → Type 0
 CanEncodeEach pages journal = (n : ℕ) → n < length journal
     → CanEncode pages (replay (take (suc n) journal))

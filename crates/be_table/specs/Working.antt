@@ -15,8 +15,8 @@ pub record HasNoneFree (limits : Limits) (moves : List Move) : Type 0 where
   pub runs : RunsTo limits words moves world
   pub none : (p : ℕ) → IsFalse (world.free p)
 
--- A whole scan begins with the reader slot of the pass 0, and its reason is that the machine has no
--- free page. Other moves need no reason.
+-- A whole scan begins with the reader slot of pass 0, for the reason that the machine has no free
+-- page. Other moves need no reason.
 abbrev pub HasReason : Limits → List Move → Move → Type 0
 HasReason limits before (Look j) = Unit {0}
 HasReason limits before (Announce j) = Unit {0}
@@ -30,16 +30,16 @@ HasReason limits before (Publish j page given) = Unit {0}
 HasReason limits before (Unlock j) = Unit {0}
 HasReason limits before (Return j p) = Unit {0}
 
--- The pass k makes these moves one after another, as in `Makes`, each with its reason.
+-- Pass k makes these moves one after another, as in `Makes`, each with its reason.
 abbrev pub MakesForReason : Limits → ℕ → List Move → List Move → List Move → Type 0
 MakesForReason limits k old [] new = new ≡ old
 MakesForReason limits k old (m ∷ ms) new = (others : List Move) × NoneBy k others
     × HasReason limits (old ++ others) m
     × MakesForReason limits k ((old ++ others) ++ m ∷ []) ms new
 
--- With the lock taken, the pass k goes from the history `old` to `new`. First it may make one whole
--- scan. Then it fills pages, returns pages and scans; each whole scan there begins when no page is
--- free.
+-- While it holds the lock, pass k extends its history from `old` to `new`. First it may make one
+-- whole scan. Then it fills pages, returns pages and scans; each of these whole scans begins when
+-- no page is free.
 pub record WorksOn (limits : Limits) (k : ℕ) (old new : List Move) : Type 0 where
   pub first : List Move
   pub early : (first ≡ []) ⊎ (first ≡ scans_of k limits.passes)
@@ -49,6 +49,6 @@ pub record WorksOn (limits : Limits) (k : ℕ) (old new : List Move) : Type 0 wh
   pub work : AreWork k own
   pub made : MakesForReason limits k begun own new
 
--- since it took the lock, the pass k has only worked
+-- since it took the lock, pass k has only scanned, filled and returned pages
 abbrev pub HasWorked : Limits → ℕ → List Move → Type 0
 HasWorked limits k history = WorksOn limits k (upto_lock k history) history

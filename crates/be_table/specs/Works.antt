@@ -1,4 +1,4 @@
--- What holds for each table and each open write, and what calls promise.
+-- What holds for every table and every open write, and what the calls promise.
 use Rattle.std.specs.Prelude.{◌≡◌, ◌≢◌, ◌⊎◌, ℕ, suc, ◌+◌, ◌<◌, false, List, [], ◌∷◌, length, map}
 use Rattle.std.specs.Prelude.{count_by, zero, IsTrue}
 use Rattle.atomic_table.specs.Seated.{TableId}
@@ -35,7 +35,7 @@ IsSeatOf t s = (s.blank ≡ false) × (s.table ≡ t.id) × (s.knows.limits ≡ 
 abbrev pub IsWitnessOf : Opened → WitnessFacts → Type 0
 IsWitnessOf t w = (w.blank ≡ false) × (w.table ≡ t.id)
 
--- seats of this table, for passes that have seen nothing, from the pass k on
+-- new seats of this table, for passes numbered from k that have seen nothing
 abbrev pub AreNewAt : TableId → Limits → ℕ → List SeatFacts → Type 0
 AreNewAt id limits k [] = Unit {0}
 AreNewAt id limits k (s ∷ ss) = ((s.blank ≡ false) × (s.table ≡ id)
@@ -52,25 +52,25 @@ AllAt id (s ∷ ss) = ((s.blank ≡ false) × (s.table ≡ id)) × AllAt id ss
 abbrev pub knows_of : SeatFacts → Knowledge
 knows_of s = s.knows
 
--- from a to c the pass has made these moves, in this order, and then the machine is as the pass
+-- between a and c the pass has made these moves in this order, and the machine is then as the pass
 -- knows it
 pub record Moves (a : Knowledge) (own : List Move) (c : Knowledge) : Type 0 where
   pub made : Makes a.number a.history own c.history
   pub at : Reaches c (λ w. Unit {0})
 
--- the same, and the pass has seen the journal up to the current number
+-- as in `Moves`, and the pass has seen the journal up to the current number
 pub record MovesNow (a : Knowledge) (own : List Move) (c : Knowledge) : Type 0 where
   pub made : Makes a.number a.history own c.history
   pub at : Reaches c (λ w. w.current ≡ length c.seen)
 
--- the pass has looked: it has seen a journal that contains what it had seen
+-- the pass has looked, and the journal that it has now seen contains what it had seen before
 pub record SeesMore (a c : Knowledge) : Type 0 where
   pub more : StartsWith c.seen a.seen
   pub moves : MovesNow a (Look a.number ∷ []) c
   pub same : c ≡ looks (with_history a c.history) c.seen
   pub pass : IsPass c
 
--- the same, and it now holds the lock
+-- as in `SeesMore`, and the pass now holds the lock
 pub record TakesLock (a c : Knowledge) : Type 0 where
   pub before : IsPass a
   pub more : StartsWith c.seen a.seen
@@ -91,18 +91,18 @@ pub record PinsCurrent (a c : Knowledge) : Type 0 where
       × (c ≡ pins (with_history a c.history) x c.seen c.image)
   pub pass : IsPass c
 
--- the pass made one try, which found that another pass of the table holds the lock; the refusal
+-- the pass made one attempt, which found another pass of the table holding the lock; the error
 -- names that pass
 abbrev pub FoundHeld : Refusal → Knowledge → Knowledge → Type 0
 FoundHeld r a c = (b : ℕ) × (r ≡ Busy b) × (b < a.limits.passes) × (b ≢ a.number)
     × (c ≡ finds_held a b)
 
--- why an entry has no room
+-- why there is no room for an entry
 abbrev pub HasNoRoom : Refusal → Knowledge → Type 0
 HasNoRoom r a = ((r ≡ CommitsSpent) × (length a.seen ≡ a.limits.commits))
     ⊎ ((r ≡ OutOfMemory) × (length a.seen < a.limits.commits))
 
--- the write has made a whole scan, in which `least` is the lowest number
+-- the write has made a whole scan, and `least` is the lowest number in it
 pub record MakesScan (old new : Work) (least : ℕ) : Type 0 where
   pub by : (found : List ℕ) × (length found ≡ old.knows.limits.passes)
       × (new.knows ≡ with_history (scans_all old.knows found) new.knows.history)
@@ -128,7 +128,7 @@ pub record MakesScan (old new : Work) (least : ℕ) : Type 0 where
     left = new.left;
   }
 
--- how many more pages are retired than the last whole scan left, when a scan is due
+-- how many more pages than the last whole scan left must be retired for a scan to be due
 abbrev pub due_after : ℕ → ℕ
 due_after zero = 1
 due_after (suc n) = 32
@@ -156,13 +156,13 @@ pub record TakesPage (old new : Work) (page : ℕ) : Type 0 where
   pub moves : Makes between.knows.number between.knows.history (take_moves between.knows page)
       new.knows.history
 
--- the write holds each page that no version from `least` on has
+-- the write holds each page that belongs to no version from `least` on
 abbrev pub HoldsUnreached : Knowledge → ℕ → Type 0
 HoldsUnreached a least = (p : ℕ) → p < a.limits.pages → NoCommitReaches a.seen least p
     → IsTrue (has a.held p)
 
--- in the machine after some prefix of the pass's history that includes the lock, the pass j had
--- announced this number
+-- after some prefix of the pass's history that includes the lock, pass j had announced this number
+-- in the machine
 pub record HadAnnounced (a : Knowledge) (j number : ℕ) : Type 0 where
   pub upto : List Move
   pub front : StartsWith a.history upto
@@ -172,15 +172,15 @@ pub record HadAnnounced (a : Knowledge) (j number : ℕ) : Type 0 where
   pub runs : RunsTo a.limits words upto world
   pub reported : announce_word (world.phases j) ≡ suc number
 
--- this is the current number, or some pass had announced it since the lock
+-- the current number, or one that some pass had announced at some point since the lock
 abbrev pub WasAnnounced : Knowledge → ℕ → Type 0
 WasAnnounced a least = (least ≡ length a.seen)
     ⊎ ((j : ℕ) × (j < a.limits.passes) × HadAnnounced a j least)
 
--- This is the lowest number of the write's last whole scan, and the write held each page that no
--- version from there on has. It is at most the current number and what the pass has announced; for
--- a table's only pass it is the lower of the two. If it isn't the current number, some pass had
--- announced it.
+-- `least` is the lowest number of the write's last whole scan, and the write held each page that
+-- belongs to no version from `least` on. It is at most the current number and at most what the pass
+-- has announced; in a table of one pass it is the lower of the two. If it isn't the current number,
+-- some pass had announced it.
 abbrev pub IsSpent : Knowledge → ℕ → Type 0
 IsSpent a least = (least ≡ a.least) × HoldsUnreached a least × IsOwnLowest a least
     × WasAnnounced a least
@@ -204,7 +204,7 @@ pub record FindsNone (old new : Work) (least : ℕ) : Type 0 where
 abbrev pub IsOpenRefused : Limits → Refusal → Type 0
 IsOpenRefused l r = ((r ≡ BadLimits) × AreBad l) ⊎ ((r ≡ OutOfMemory) × IsWithin l)
 
--- what a seat knows that has taken in these passes
+-- what a seat knows after it has taken in these passes
 pub record Gathered (known v : List Knowledge) : Type 0 where
   pub idle : AllIdle v
   pub all : (k : ℕ) → Has known k → Has v k

@@ -1,4 +1,4 @@
--- What the pages' places show about the machine's sets.
+-- What the places of the pages say about the machine's sets.
 use Rattle.std.specs.Prelude.{◌≡◌, ℕ, Bool, true, false, List, Option, Some, None}
 use Rattle.be_core.specs.Machine.{World}
 use Rattle.be_pages.specs.Place.{place_of}
@@ -24,7 +24,7 @@ shows_taken Current = false
 shows_taken GivenUp = false
 shows_taken (Retired r) = false
 
--- the number with which the page is retired
+-- the number with which the page was retired
 abbrev pub retired_with : Place → Option ℕ
 retired_with Free = None
 retired_with Reserved = None
@@ -33,7 +33,7 @@ retired_with Current = None
 retired_with GivenUp = None
 retired_with (Retired r) = Some r
 
--- the page is one of the current version
+-- the page belongs to the current version
 abbrev pub is_current : Place → Bool
 is_current Free = false
 is_current Reserved = false
@@ -48,7 +48,7 @@ pub record ShowsPlaces (places : List Place) (w : World) : Type 0 where
   pub taken : (p : ℕ) → w.taken p ≡ shows_taken (place_of places p)
   pub retired : (p : ℕ) → w.retired p ≡ retired_with (place_of places p)
 
--- the page is one of the version that the open write makes
+-- the page belongs to the version that the open write is making
 abbrev pub is_of_next : Place → Bool
 is_of_next Free = false
 is_of_next Reserved = false

@@ -1,4 +1,4 @@
--- What holds for each open write.
+-- What holds for every open write.
 use Rattle.std.specs.Prelude.{◌≡◌, ◌+◌, ◌*◌, ◌<◌, true, false, [], ◌∷◌, None, length}
 use Rattle.be_table.specs.declared.writing.Writing.TheInside.{Inside}
 use Rattle.be_table.specs.Place.{Work}
@@ -16,8 +16,8 @@ work_of w = record {
   left = w.writer_state.left;
 }
 
--- The seat is at the table with the slot. The writer state has what the pass has seen. Until it
--- publishes, the pass has only worked.
+-- The seat belongs to the table and carries its slot. The writer state matches what the pass has
+-- seen. Until it publishes, the pass has only scanned, filled and returned pages.
 pub record IsOpen (w : Inside) : Type 0 where
   pub table_is : w.base.table_id ≡ w.table.now.id
   pub me_is : w.base.me ≡ (alone (pass_of w.base.me.0), (0, None) ∷ [])

@@ -1,4 +1,4 @@
-//! How the versions and an open write share the pool, if no page is left.
+//! How the versions and an open write share the pool when no page is left.
 ghost use Rattle.std.specs.FinMap as map;
 ghost use Rattle.std.specs.Prelude.{ℕ, ◌+◌, ◌*◌, ◌≤◌, List, length};
 ghost use Rattle.be_core.specs.Machine.{has};
@@ -14,8 +14,8 @@ ghost use Rattle.be_volume.specs.Volume.{State};
 
 use be_paged::version_pages;
 
-/// If a write was refused because no page was left, the whole pool consisted of two parts: the
-/// pages of the versions from `least` on, and the pages that the write held.
+/// If a write was refused because no page was left, the whole pool consists of two parts: the pages
+/// of the versions from `least` on, and the pages that the write held.
 pub fn full_counts()
     ensures all { (a : Knowledge) (least : ℕ) → IsSpent a least
         → a.limits.pages ≤ reached a.seen least a.limits.pages
@@ -25,8 +25,8 @@ pub fn full_counts()
         + count_below (has a.held) a.limits.pages }
 {}
 
-/// A version that encodes a volume has at most one page for each five of its items, one for each
-/// index, and one more.
+/// A version that encodes a volume has at most one page per five items, one per index, and one
+/// more.
 pub fn encoded_counts()
     ensures { (pages : List ℕ) (words : ℕ → ℕ → ℕ) (page n : ℕ) (volume : State)
         → EncodesVolume pages words page volume
@@ -35,7 +35,8 @@ pub fn encoded_counts()
     version_pages();
 }
 
-/// Right after that, the pages that the write held at the scan are among those that it holds.
+/// If a write was refused because no page was left, the pages that it held at the scan are among
+/// those that it still holds.
 pub fn held_counts()
     ensures { (a : Knowledge) (n : ℕ) → HoldsStill a → n ≤ 16384
         → count_below (has a.held) n ≤ in_hand n (page_state_among a.places) }

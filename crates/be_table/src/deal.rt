@@ -1,4 +1,4 @@
-//! Dealing seats when a table opens, and gathering them when it closes.
+//! Deals seats when a table opens, and gathers them when it closes.
 ghost use Rattle.std.specs.Prelude.{◌≡◌, ◌≤◌, ◌<◌, ℕ, slice_index, [], length, map, vec_capacity};
 ghost use Rattle.std.specs.Prelude.{vec_len, ◌+◌};
 ghost use Rattle.be_table.specs.Rule.{IsWithin, empty_view, everyone};
@@ -34,7 +34,7 @@ pub(crate) fn deal(table: &Inner, rest: &mut Base, limits: Limits, seats: &mut V
     }
 }
 
-/// Writes the words of the first page to page 0.
+/// Copies the words of the first page to page 0.
 pub(crate) fn lay_first(words: &mut Vec<u64>, first: &[u64; PAGE_WORDS])
     requires { 528 + 512 ≤ vec_len words.old }
     ensures { (length words.new.items ≡ length words.old.items)

@@ -1,12 +1,13 @@
 //! What each step on a word does to the reclamation machine.
 //!
-//! The rule of the table says that the words, the writer state and what the passes know show one
-//! state of be_core's machine. The machine's invariant holds in it. The functions here do nothing.
-//! Their contracts say, in terms of definitions only, which event of the machine each step is.
+//! According to the table's rule, the words, the writer state and the passes' knowledge show one
+//! state of be_core's machine. The machine's invariant holds in that state. The functions here do
+//! nothing. Their contracts say, in terms of definitions only, which event of the machine each step
+//! makes.
 //!
-//! In every state of the table, a pass that may step can step. The state that the table shows
-//! before the step allows the event, and the state that it shows afterwards is the event's. A step
-//! whose word has no event leaves the machine as it was. The table's calls are proved from the same
+//! A pass that may step can step in every state of the table. The state that the table shows before
+//! the step allows the event, and the state that it shows afterwards is the event's result. A step
+//! whose word has no event leaves the machine unchanged. The table's calls are proved with the same
 //! lemmas.
 ghost use Rattle.std.specs.Prelude.{ℕ, List, Option};
 ghost use Rattle.be_table.specs.Laws.{GiveUpIsNoEvent, PublishIsItsEvent, UnlockIsItsEvent};
@@ -52,7 +53,7 @@ pub fn unpin()
         → UnpinIsItsEvent limits slots id a carried }
 {}
 
-/// A load of a word of a pinned version is Read, and finds the word that the page had when the
+/// A load of a word of a pinned version is Read, and finds the word that the page had when that
 /// version was published.
 pub fn pinned_read()
     ensures { (limits : Limits) (slots id : ℕ) (a : Knowledge)
@@ -81,7 +82,7 @@ pub fn fill()
         → FillIsItsEvent limits slots id a carried }
 {}
 
-/// A load of a word of a page that the writer holds is Fill, with the word that is there.
+/// A load of a word of a page that the writer holds is Fill, with the word already there.
 pub fn found_fill()
     ensures { (limits : Limits) (slots id : ℕ) (a : Knowledge)
         (carried : List (ℕ × Option WriterState))
@@ -95,15 +96,15 @@ pub fn own_read()
         → OwnReadIsNoEvent limits slots id a carried }
 {}
 
-/// The load that takes a page is Fill, with the word that is there.
+/// The load that takes a page is Fill, with the word already there.
 pub fn take()
     ensures { (limits : Limits) (slots id : ℕ) (a : Knowledge)
         (carried : List (ℕ × Option WriterState))
         → TakeIsItsEvent limits slots id a carried }
 {}
 
-/// The load that gives up a page is no event. A page that the write had taken goes back to the free
-/// ones, which is the writer's bookkeeping.
+/// The load that gives up a page is no event. A page that the write had taken returns to the free
+/// pages; that is the writer's own bookkeeping.
 pub fn give_up()
     ensures { (limits : Limits) (slots id : ℕ) (a : Knowledge)
         (carried : List (ℕ × Option WriterState))
@@ -123,18 +124,18 @@ pub fn unlock()
         → UnlockIsItsEvent limits slots id a writer_state }
 {}
 
-/// The load by which two passes of one seat compare what they have seen is no event.
+/// The load with which two passes in one seat compare what they have seen is no event.
 pub fn compare()
     ensures { (limits : Limits) (slots id : ℕ) (a c : Knowledge)
         (carried : List (ℕ × Option WriterState)) → CompareIsNoEvent limits slots id a c carried }
 {}
 
-/// The load that makes a witness is no event: what a pass has seen gets a seat without a pass.
+/// The load that makes a witness is no event: it gives what a pass has seen a seat without a pass.
 pub fn attest()
     ensures { (limits : Limits) (id : ℕ) (a : Knowledge) → AttestIsNoEvent limits id a }
 {}
 
-/// The load by which a pass takes in what a witness has seen is no event.
+/// The load with which a pass takes in what a witness has seen is no event.
 pub fn learn()
     ensures { (limits : Limits) (slots id : ℕ) (a : Knowledge) (front : List Commit)
         (carried : List (ℕ × Option WriterState)) → LearnIsNoEvent limits slots id a front carried }
@@ -146,33 +147,32 @@ pub fn split()
         (fronts : List (List Commit)) → SplitIsNoEvent limits id a v fronts }
 {}
 
-/// The load that joins two seats is no event: one seat has what both had, and the other has
-/// nothing.
+/// The load that joins two seats is no event: one seat gets what both had, and the other is left
+/// with nothing.
 pub fn join()
     ensures { (limits : Limits) (id : ℕ) (v : View) (other : ℕ) (w : View)
         → JoinIsNoEvent limits id v other w }
 {}
 
-/// The load that makes a seat without a pass is no event.
+/// The load that creates a seat without a pass is no event.
 pub fn arrive()
     ensures { (limits : Limits) → ArrivalIsNoEvent limits }
 {}
 
-/// The moves of a trace are the machine's events, except a read, which changes nothing and isn't a
-/// move.
+/// Every allowed event has the same effect as its moves; a read changes nothing and has no moves.
 pub fn events_are_moves()
     ensures { EventsAreMoves }
 {}
 
-/// Wherever a trace's moves lead, no page of a pinned version is free, taken or changed. Each
-/// prefix of them led somewhere.
+/// Wherever a trace's moves lead, no page of a pinned version is free, taken or changed. Every
+/// prefix of a run is a run.
 pub fn runs()
     ensures sound { RunsAreSound }
     ensures fronts { FrontsRun }
 {}
 
-/// Each of the first 528 words is 0 between any two steps, except the lock, the current version and
-/// the passes' reader slots. So no call can have its own lock there.
+/// All of the first 528 words are 0 between any two steps, except the lock, the current version and
+/// the passes' reader slots. So no call can keep a lock of its own there.
 pub fn unused_words()
     ensures zero { UnusedAreZero }
     ensures stay { UnusedStayZero }

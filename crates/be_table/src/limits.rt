@@ -1,32 +1,32 @@
-//! The limits of a table, which are set once, when it is made.
+//! The limits of a table, set once when the table is created.
 ghost use Rattle.std.specs.Prelude.{◌≡◌, true, false};
 ghost use Rattle.be_table.specs.Rule.{AreBad, IsWithin};
 
-/// How large a table may grow. Nothing in it grows beyond these numbers.
+/// How large a table may grow. Nothing in it exceeds these numbers.
 #[derive(Clone, Copy)]
 pub struct Limits {
-    /// Pages of the pool, of 512 words each: 8 to 16,384.
+    /// The pages in the pool, of 512 words each: 8 to 16,384.
     pub pages: u64,
-    /// Passes, each with a seat: 1 to 64.
+    /// The passes, each with its own seat: 1 to 64.
     pub passes: u64,
-    /// Entries that the journal may have: 1 to 4,294,967,295.
+    /// The entries that the journal may hold: 1 to 4,294,967,295.
     pub commits: u64,
 }
 
 impl Limits {
-    /// The fewest pages.
+    /// The minimum number of pages.
     pub const MIN_PAGES: u64 = 8;
 
-    /// The most pages.
+    /// The maximum number of pages.
     pub const MAX_PAGES: u64 = 16384;
 
-    /// The most passes.
+    /// The maximum number of passes.
     pub const MAX_PASSES: u64 = 64;
 
-    /// The most entries, so that a version's number fits into half a word.
+    /// The maximum number of entries, chosen so that a version's number fits into half a word.
     pub const MAX_COMMITS: u64 = 4294967295;
 
-    /// Whether a table may have these limits.
+    /// Returns `true` if a table may have these limits.
     pub fn are_within(&self) -> bool
         ensures within { result ≡ true → IsWithin self.now }
         ensures bad { result ≡ false → AreBad self.now }

@@ -1,7 +1,7 @@
 //! A reader of the version to which a pass is pinned.
 //!
-//! Its readable pages are the version's, with the words that they had when it was published. Each
-//! read is one load, and no other call is a step.
+//! Its readable pages are those of the version, with the words that they had when it was published.
+//! Each read is one load, and no other call takes a step.
 ghost use Rattle.std.specs.Prelude.{◌≡◌, ◌<◌, IsTrue, slice_index};
 ghost use Rattle.be_pages.specs.Pages.{is_readable};
 ghost use Rattle.be_table.specs.Reading.{pinned_page_state};
@@ -14,7 +14,7 @@ use crate::table::{PAGES, VersionTable};
 use be_pages::{Look, PAGE_WORDS};
 use std::marker::Model;
 
-/// A pinned pass that reads pages.
+/// A pinned pass as a reader of pages.
 pub struct PinnedLook<'a> {
     table: &'a VersionTable,
     base: Base,
@@ -44,7 +44,7 @@ impl<'a> PinnedLook<'a> {
         PinnedLook { table, base, marks }
     }
 
-    /// Word i of a page of the pinned version. One load.
+    /// Returns word `i` of a page of the pinned version. One load.
     fn read(&mut self, page: u64, i: usize) -> u64
         requires page { IsTrue (is_readable (pinned_page_state self.old.knows page)) }
         requires place { i < 512 }

@@ -1,9 +1,9 @@
 //! An open write as a page reader and a page writer.
 //!
-//! Trees are built on the traits of be_pages. This module states what an open write has in common
-//! with a page writer in memory: the state of each page, its words, and what no call changes. No
-//! call changes the table or the pass's number, limits, phase and what it has seen. The write stays
-//! unpublished, and the history up to its lock stays.
+//! The trees use the traits of be_pages. This module gives an open write the same contract as a
+//! page writer in memory: the state of each page, its words, and what no call changes. No call
+//! changes the table, the pass's number, limits and phase, or what the pass has seen. The write
+//! remains unpublished, and the history up to its lock is unchanged.
 
 use crate::writing::Writing;
 use be_pages::{Look, Room};

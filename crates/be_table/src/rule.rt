@@ -1,7 +1,7 @@
-//! The rule of the table, and the names of its steps.
+//! The rule of the table and the names of its steps.
 //!
-//! A step on a word is allowed if, in every state of the table, the rule still holds after it. The
-//! definition that the step's name carries says what the pass learns from it.
+//! A step on a word is allowed if it preserves the rule in every state of the table. The definition
+//! attached to the step's name says what the pass learns from it.
 ghost use Rattle.std.specs.Prelude.{[]};
 ghost use Rattle.be_table.specs.Rule.{Shows, everyone, first_seat, other_seats, seats_together};
 ghost use Rattle.be_table.specs.Rule.{empty_view, kept_seat, front_seat};
@@ -42,7 +42,7 @@ impl Play<Option<WriterState>, View> for Unlock {
     ghost then = { UnlockMoves };
 }
 
-/// The first pass of the view gets its own seat.
+/// Gives the first pass of the view its own seat.
 pub(crate) struct Deal;
 
 impl Split<View> for Deal {
@@ -57,14 +57,14 @@ impl Join<View> for Deal {
     ghost spent = { empty_view };
 }
 
-/// Two passes in one seat compare what they have seen.
+/// Compares what two passes in one seat have seen.
 pub(crate) struct Compare;
 
 impl Play<Option<WriterState>, View> for Compare {
     ghost then = { CompareMoves };
 }
 
-/// What the pass of the view has seen gets its own seat, without a pass.
+/// Gives what the view's pass has seen a seat of its own, without a pass.
 pub(crate) struct Attest;
 
 impl Split<View> for Attest {
@@ -73,14 +73,14 @@ impl Split<View> for Attest {
     ghost right = { front_seat };
 }
 
-/// The pass of a seat learns the front that its seat has.
+/// Lets a seat's pass learn the front that the seat holds.
 pub(crate) struct Learn;
 
 impl Play<Option<WriterState>, View> for Learn {
     ghost then = { Learned };
 }
 
-/// A new seat without a pass.
+/// Creates a seat without a pass.
 pub(crate) struct Arrive;
 
 impl Play<Option<WriterState>, View> for Arrive {
@@ -129,7 +129,7 @@ impl Play<Option<WriterState>, View> for Fill {
     ghost then = { FillMoves };
 }
 
-/// A load that fills a word with what is there.
+/// A load that fills a word with the value already there.
 pub(crate) struct FoundFill;
 
 impl Play<Option<WriterState>, View> for FoundFill {
@@ -148,7 +148,7 @@ impl Play<Option<WriterState>, View> for GiveUp {
     ghost then = { GiveUpMoves };
 }
 
-/// The entry and the version page of a publishing step. Each call chooses them.
+/// The entry and the version page of a step that publishes. Each call chooses them.
 pub(crate) trait NextVersion {
     ghost use Rattle.std.specs.Prelude.{ℕ};
     ghost use Rattle.be_journal.specs.declared.entries.Entry.{Entry};

@@ -1,8 +1,8 @@
 //! A pass's seat at the table.
 //!
-//! A seat is the right to step for one pass. No two seats have the same pass, so only its owner has
-//! what the pass knows. Besides that right it carries three things from its steps: the pass's
-//! number, how much of the journal the pass has seen, and its pin.
+//! A seat is the right to take steps for one pass. No two seats share a pass, so a pass's knowledge
+//! is available only to the owner of its seat. Along with that right it carries the pass's number,
+//! how much of the journal the pass has seen, and its pin.
 ghost use Rattle.std.specs.Prelude.{◌≡◌, ℕ, ◌<◌, true, false, [], length, IsTrue};
 ghost use Rattle.be_core.specs.Machine.{has};
 ghost use Rattle.be_core.specs.declared.event.Phase.TheVariants.{Pinned};
@@ -17,7 +17,8 @@ use std::mem;
 
 pub(crate) type Base = atomic_table::Seat<Option<WriterState>, View>;
 
-/// What a pass steps with. A seat that was moved out is blank, and can't step.
+/// The right to take steps for one pass. A seat that has been moved out is blank and can't take
+/// steps.
 #[derive(Drop)]
 pub struct Seat {
     badge: Badge<View>,
@@ -59,7 +60,7 @@ impl Seat {
         }
     }
 
-    /// The underlying seat, with the pass's marks.
+    /// Returns the underlying seat and the pass's marks.
     pub(crate) fn into_base(self) -> (Base, Marks)
         requires { self.blank ≡ false }
         ensures pass { (result.0.table_id ≡ self.table) × (result.0.me ≡ (alone self.knows, [])) }
@@ -71,7 +72,7 @@ impl Seat {
         (badge.into_seat(), marks)
     }
 
-    /// The pass's number, counted from 0.
+    /// Returns the pass's number, counting from 0.
     pub fn number(&self) -> u64
         requires { self.now.blank ≡ false }
         ensures { result ≡ self.now.knows.number }
@@ -79,7 +80,7 @@ impl Seat {
         self.marks.number
     }
 
-    /// How many entries of the journal the pass has seen.
+    /// Returns how many entries of the journal the pass has seen.
     pub fn seen(&self) -> u64
         requires { self.now.blank ≡ false }
         ensures { result ≡ length self.now.knows.seen }
@@ -87,7 +88,7 @@ impl Seat {
         self.marks.seen
     }
 
-    /// The number of the version to which the pass is pinned, if it is.
+    /// Returns the number of the version to which the pass is pinned, or `None` if it isn't pinned.
     pub fn pinned(&self) -> Option<u64>
         requires { self.now.blank ≡ false }
         ensures { result ≡ pinned_number self.now.knows.phase }
@@ -98,9 +99,9 @@ impl Seat {
         }
     }
 
-    /// The version page of the version to which the pass is pinned. The version's pages, with the
-    /// words that they had when it was published, encode the volume from there: the one after as
-    /// many entries as the version's number says.
+    /// Returns the version page of the version to which the pass is pinned. From there, the
+    /// version's pages, with the words that they had when it was published, encode a volume. It is
+    /// the volume after the first n entries of the journal, where n is the version's number.
     pub fn version_page(&self) -> u64
         requires seat { self.now.blank ≡ false }
         requires pinned { (x : ℕ) × (n : ℕ) × (self.now.knows.phase ≡ Pinned x n) }
@@ -120,8 +121,8 @@ impl Seat {
         }
     }
 
-    /// A law of one seat: what always holds for a pass holds for this one, because a contract can't
-    /// say so about a seat that it borrows. It does nothing.
+    /// A law of one seat: what holds for every pass holds for this one. A contract can't state this
+    /// about a seat that it borrows. It does nothing.
     pub fn is_pass(&self)
         requires { self.now.blank ≡ false }
         ensures { IsPass self.now.knows }
@@ -129,7 +130,7 @@ impl Seat {
         let _ = &self.badge;
     }
 
-    /// Moves the seat out, and leaves a blank one. No step.
+    /// Moves the seat out and leaves a blank one in its place. No step.
     pub fn move_out(&mut self) -> Seat
         ensures { (result ≡ self.old) × (self.new.blank ≡ true) }
     {

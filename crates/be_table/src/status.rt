@@ -1,4 +1,4 @@
-//! What a table reports about itself: how full it is, and who is pinned.
+//! A table's report on itself: how full it is, and which pass has the oldest pin.
 ghost use Rattle.std.specs.Prelude.{◌≡◌, ◌++◌, ◌∷◌, [], ℕ, List, length};
 ghost use Rattle.be_table.specs.Statuses.{IsOldest};
 
@@ -11,26 +11,26 @@ pub struct Announcement {
     pub pass: u64,
 }
 
-/// How full a table is, and whose pin is the oldest.
+/// How full a table is, and which pin is the oldest.
 #[derive(Clone, Copy)]
 pub struct Status {
-    /// Pages of the pool.
+    /// The pages in the pool.
     pub pages: u64,
-    /// Pages that a write may take.
+    /// The pages that a write may take.
     pub free: u64,
-    /// Pages of older versions that no write may take, because a pass has published the number of
-    /// such a version or an older one.
+    /// The pages of older versions that no write may take yet, because some pass has published the
+    /// number of such a version or of an older one.
     pub retired: u64,
-    /// Entries of the journal.
+    /// The entries in the journal.
     pub entries: u64,
-    /// The most entries that it may have.
+    /// The most entries that the journal may hold.
     pub commits: u64,
-    /// The lowest number in a reader slot, and the first pass that has published it. None if all
+    /// The lowest number in a reader slot, and the first pass that has published it. `None` if all
     /// slots are empty.
     pub oldest: Option<Announcement>,
 }
 
-/// What a scan found: the oldest active reader, and the oldest announcement. The oldest active
+/// The result of a scan: the oldest active reader and the oldest announcement. The oldest active
 /// reader is the lowest of the current number and the numbers in the reader slots.
 #[derive(Clone, Copy)]
 pub(crate) struct Found {
@@ -38,7 +38,7 @@ pub(crate) struct Found {
     pub oldest: Option<Announcement>,
 }
 
-/// The oldest of some announcements and that of one more pass, whose word is `found`.
+/// Returns the older of `oldest` and the announcement of one more pass, whose slot holds `found`.
 pub(crate) fn older(oldest: Option<Announcement>, found: u64, pass: u64) -> Option<Announcement>
     ensures { (words : List ℕ) → length words ≡ pass → IsOldest words oldest
         → IsOldest (words ++ found ∷ []) result }

@@ -1,8 +1,9 @@
-//! The table that the passes share, and the steps of readers.
+//! The table that passes share, and the steps that readers take.
 //!
-//! Word 0 is LOCK: 0 if free, otherwise the writer's pass + 1. Word 8 is CURRENT: the version's
-//! number times 2^32, plus its version page. Word 16 + 8 k is the reader slot of pass k: 0 if
-//! empty, otherwise the published number + 1. Word i of page p is word 528 + 512 p + i.
+//! Word 0 is LOCK: 0 if the lock is free, otherwise the writer's pass number + 1. Word 8 is
+//! CURRENT: the current version's number times 2^32, plus its version page. Word 16 + 8 k is the
+//! reader slot of pass k: 0 if empty, otherwise the published number + 1. Word i of page p is word
+//! 528 + 512 p + i.
 ghost use Rattle.std.specs.Prelude.{◌≡◌, ℕ, ◌<◌, false, length, map, MatchResult, IsTrue};
 ghost use Rattle.std.specs.Prelude.{slice_index};
 ghost use Rattle.be_core.specs.Machine.{has};
@@ -28,21 +29,21 @@ use be_value::Refusal;
 use std::alloc::Global;
 use std::marker::Model;
 
-/// 0 while no pass holds the lock, otherwise the writer's pass + 1.
+/// 0 while no pass holds the lock, otherwise the writer's pass number + 1.
 pub(crate) const LOCK: usize = 0;
 
 /// The current version: its number times 2^32, plus its version page.
 pub(crate) const CURRENT: usize = 8;
 
-/// The reader slot of pass k is the word ANNOUNCE + 8 * k, on its own cache line.
+/// Word ANNOUNCE + 8 * k is the reader slot of pass k, on its own cache line.
 pub(crate) const ANNOUNCE: usize = 16;
 
-/// Then come the pages, with `PAGE_WORDS` words each.
+/// The index of the first page's first word. Each page has `PAGE_WORDS` words.
 pub(crate) const PAGES: usize = 528;
 
 pub(crate) type Inner = Table<Option<WriterState>, View, Limits, Law, Global>;
 
-/// The words, the slot and the limits. Passes share it by a `&`.
+/// The words, the slot and the limits of a table. Passes share it through a `&`.
 #[derive(Drop)]
 pub struct VersionTable {
     pub(crate) table: Inner,
@@ -81,12 +82,12 @@ impl VersionTable {
     ghost use Rattle.be_table.specs.Works.{knows_of};
     ghost use Rattle.be_table.specs.declared.pass.Move.TheVariants as moves;
 
-    /// A table with an empty journal, and its passes' seats in the order of their numbers. Version
-    /// 0 has only the page `first`, which encodes the empty volume, at page 0. The other pages are
-    /// free.
+    /// Creates a table with an empty journal, and returns it with its passes' seats in the order of
+    /// their numbers. Version 0 consists only of page 0, which holds `first` and encodes the empty
+    /// volume. All other pages are free.
     ///
-    /// BadLimits exactly if a limit is out of range; OutOfMemory. Later only `reserve`,
-    /// `journal_text` and `entry` allocate memory.
+    /// Fails with BadLimits if a limit is out of range, and otherwise with OutOfMemory if memory
+    /// runs out. After that, only `reserve`, `journal_text` and `entry` allocate memory.
     pub fn open(
         alloc: Global,
         limits: Limits,
@@ -144,7 +145,7 @@ impl VersionTable {
         self.limits
     }
 
-    /// Looks at the journal up to now, and returns its length. One load.
+    /// Looks at the whole journal so far, and returns its length. One load.
     pub fn look(&self, seat: &mut Seat) -> u64
         requires { IsSeatOf self.now seat.old }
         ensures seat { IsSeatOf self.now seat.new }
@@ -158,8 +159,8 @@ impl VersionTable {
         version
     }
 
-    /// Publishes the number at which the pass looked, in its reader slot. From then on no scanning
-    /// write frees a page of that version or a later one. One store.
+    /// Publishes the number that the pass looked at, by storing it in the pass's reader slot. From
+    /// then on, no write's scan frees a page of that version or a later one. One store.
     pub fn announce(&self, seat: &mut Seat, number: u64)
         requires seat { IsSeatOf self.now seat.old }
         requires looked { seat.old.knows.phase ≡ Phase.Looked number }
@@ -177,8 +178,8 @@ impl VersionTable {
         *seat = Seat::of(base, marks);
     }
 
-    /// Pins the version that is current after the number was published; it may be later than that
-    /// number. Returns its number and its version page. One load.
+    /// Pins the version that is current after the number was published; it may be newer than that
+    /// number's version. Returns the pinned version's number and its version page. One load.
     pub fn look_again(&self, seat: &mut Seat) -> (u64, u64)
         requires seat { IsSeatOf self.now seat.old }
         requires announced { (x : ℕ) × (seat.old.knows.phase ≡ Phase.Announced x) }
@@ -214,8 +215,8 @@ impl VersionTable {
         *seat = Seat::of(base, marks);
     }
 
-    /// Takes the lock. If another pass holds it, the error is Busy with the pass that this try
-    /// found. One compare-exchange.
+    /// Takes the lock. If another pass holds it, fails with Busy and the pass that was found
+    /// holding it. One compare-exchange.
     pub fn lock(&self, seat: Seat) -> Result<Writing<'_>, (Seat, Refusal)>
         requires { IsSeatOf self.now seat }
         ensures { MatchResult result
@@ -233,7 +234,8 @@ impl VersionTable {
         }
     }
 
-    /// Word i of a page of the pinned version, as it was when that version was published. One load.
+    /// Returns word `i` of a page of the pinned version, as it was when that version was published.
+    /// One load.
     pub fn pinned_word(&self, seat: &mut Seat, page: u64, i: usize) -> u64
         requires seat { IsSeatOf self.now seat.old }
         requires pinned { (x : ℕ) × (n : ℕ) × (seat.old.knows.phase ≡ Phase.Pinned x n)
@@ -250,8 +252,8 @@ impl VersionTable {
         found
     }
 
-    /// A reader of the pinned version's pages, which encode the volume after as many entries of the
-    /// journal as the version's number says. No step.
+    /// Returns a reader of the pinned version's pages. They encode the volume after the first n
+    /// entries of the journal, where n is the version's number. No step.
     pub fn pinned_look(&self, seat: Seat) -> PinnedLook<'_>
         requires seat { IsSeatOf self.now seat }
         requires pinned { (x : ℕ) × (n : ℕ) × (seat.knows.phase ≡ Phase.Pinned x n) }
@@ -265,10 +267,10 @@ impl VersionTable {
         PinnedLook::of(self, seat)
     }
 
-    /// Lets two passes share what they have seen, in three steps: their seats are joined, a load
-    /// compares what they have seen, and the seats are split again. Both have then seen the longer
-    /// of their two prefixes of the journal. Returns its length. What the two have done so far lies
-    /// in one trace, and a meeting adds nothing to it.
+    /// Lets two passes share what they have seen, in three steps: it joins their seats, compares
+    /// what they have seen with one load, and splits the seats again. Both passes have then seen
+    /// the longer of their two prefixes of the journal. Returns its length. All that the two passes
+    /// have done so far is in one trace, and a meeting adds nothing to it.
     pub fn meet(&self, left: Seat, right: Seat) -> (Seat, Seat, u64)
         requires { IsSeatOf self.now left × IsSeatOf self.now right }
         ensures seats { IsSeatOf self.now result.0 × IsSeatOf self.now result.1 }
@@ -295,7 +297,8 @@ impl VersionTable {
         (Seat::of(first, marks), Seat::of(base, other_marks), both)
     }
 
-    /// A witness of all that the pass has seen of the journal, for any thread. One load.
+    /// Returns a witness of all that the pass has seen of the journal, for use on any thread. One
+    /// load.
     pub fn witness(&self, seat: &mut Seat) -> Witness
         requires { IsSeatOf self.now seat.old }
         ensures seat { IsSeatOf self.now seat.new × (seat.new.knows ≡ one_step_on seat.old.knows) }
@@ -307,9 +310,10 @@ impl VersionTable {
         Witness::of(front, marks.seen)
     }
 
-    /// Lets the pass and the witness share what they have seen, in three steps, as in a meeting:
-    /// the seats are joined, a load compares, and the witness gets a seat again. Both have then
-    /// seen the longer of their two prefixes of the journal. Returns its length. No move.
+    /// Lets the pass and the witness share what they have seen, in three steps as in `meet`: it
+    /// joins the seats, compares what they have seen with one load, and gives the witness a seat
+    /// again. Both have then seen the longer of their two prefixes of the journal. Returns its
+    /// length. No move.
     pub fn join(&self, seat: &mut Seat, witness: &mut Witness) -> u64
         requires { IsSeatOf self.now seat.old × IsWitnessOf self.now witness.old }
         ensures of { IsSeatOf self.now seat.new × IsWitnessOf self.now witness.new }
@@ -332,7 +336,7 @@ impl VersionTable {
         both
     }
 
-    /// Returns the journal, once all seats are back. Their passes may be pinned.
+    /// Returns the journal once all seats are back. The passes may still be pinned.
     pub fn close(self, seats: Vec<Seat>) -> Journal
         requires seats { AllAt self.id seats.items }
         requires all { (k : ℕ) → k < self.limits.passes → Has (map knows_of seats.items) k }
@@ -344,7 +348,7 @@ impl VersionTable {
         ensures trace { HasTrace self.limits (map knows_of seats.items) }
     {
         let VersionTable { table, limits: _ } = self;
-        // An empty seat takes in the others.
+        // An empty seat absorbs the others.
         let (_, mut rest) = table.shared.load_new_seat::<Arrive>(LOCK);
         gather(&table, &mut rest, seats);
         let mut closed = table.close_with(rest);

@@ -1,8 +1,8 @@
-//! Witnesses: what a pass has seen of the journal, for other passes.
+//! Witnesses: what a pass has seen of the journal, recorded for other passes.
 //!
-//! A pass makes a witness of what it has seen, and another thread may take it, over any channel. A
-//! pass there that joins it has then seen as much. So it pins that version or a later one, and its
-//! writes come after it.
+//! A pass makes a witness of what it has seen, and the witness can be sent to another thread over
+//! any channel. A pass on that thread that joins the witness has then seen at least as much. It
+//! therefore pins that version or a later one, and its writes come after it.
 ghost use Rattle.std.specs.Prelude.{◌≡◌, true, false, [], length};
 ghost use Rattle.be_table.specs.Rule.{front_of, witnessing};
 
@@ -12,8 +12,8 @@ use atomic_table::Badge;
 use std::marker::Model;
 use std::mem;
 
-/// A prefix of the journal that some pass has seen. A witness that was moved out is blank, and no
-/// pass may join it.
+/// A prefix of the journal that some pass has seen. A witness that has been moved out is blank, and
+/// no pass may join it.
 #[derive(Drop)]
 pub struct Witness {
     badge: Badge<View>,
@@ -32,7 +32,7 @@ impl Model for Witness {
     ghost invariant = { IsWitness };
 }
 
-/// Returns the same value. It compiles only if values of the type may go to another thread.
+/// Returns `value` unchanged. It compiles only if values of the type may be sent to another thread.
 fn sent<T: Send>(value: T) -> T
     ensures { result ≡ value }
 {
@@ -52,7 +52,7 @@ impl Witness {
         }
     }
 
-    /// The underlying seat, with the length of its front.
+    /// Returns the underlying seat and the length of its front.
     pub(crate) fn into_base(self) -> (Base, u64)
         requires { self.blank ≡ false }
         ensures front { (result.0.table_id ≡ self.table)
@@ -63,7 +63,7 @@ impl Witness {
         (badge.into_seat(), commits)
     }
 
-    /// How many entries of the journal were seen.
+    /// Returns how many entries of the journal were seen.
     pub fn seen(&self) -> u64
         requires { self.now.blank ≡ false }
         ensures { result ≡ length self.now.seen }
@@ -71,14 +71,14 @@ impl Witness {
         self.commits
     }
 
-    /// A law of the type: a witness may go to another thread. It does nothing.
+    /// A law of the type: a witness may be sent to another thread. It does nothing.
     pub fn may_move(self) -> Witness
         ensures { result ≡ self }
     {
         sent(self)
     }
 
-    /// Moves the witness out, and leaves a blank one. No step.
+    /// Moves the witness out and leaves a blank one in its place. No step.
     pub fn move_out(&mut self) -> Witness
         ensures { (result ≡ self.old) × (self.new.blank ≡ true) }
     {

@@ -1,6 +1,6 @@
-//! The writer state, which lies in the slot while nobody holds the lock.
+//! The writer state, which is in the slot while no pass holds the lock.
 //!
-//! The pass that holds the lock has the writer state and changes it as plain data. It contains no
+//! The pass that holds the lock owns the writer state and changes it as plain data. It contains no
 //! volume: the pages are the volume.
 ghost use Rattle.std.specs.Prelude.{◌≡◌, ◌≤◌, ℕ, count_by, map, length};
 ghost use Rattle.be_pages.specs.PagePool.{places};
@@ -15,13 +15,13 @@ use be_value::Refusal;
 use be_volume::{Done, Op};
 use std::alloc::{AllocError, Global};
 
-/// The journal, and where the pages of the current version and of older ones are.
+/// The journal, and the places of the pages of the current and older versions.
 #[derive(Drop)]
 pub struct WriterState {
     pub journal: Journal,
     /// The version page of the current version.
     pub page: u64,
-    /// Where each page is.
+    /// The place of each page.
     pub pool: PagePool,
     /// How many pages the last whole scan left retired.
     pub left: usize,
@@ -29,7 +29,7 @@ pub struct WriterState {
     pub space: Option<Box<Version>>,
 }
 
-/// A buffer for a version's contents.
+/// Allocates a buffer for a version's contents.
 pub(crate) fn first_space(alloc: Global) -> Result<Box<Version>, AllocError> {
     match Box::new(alloc, Version::new()) {
         Ok(space) => Ok(space),
@@ -49,7 +49,7 @@ impl WriterState {
         self.journal.reserve(count)
     }
 
-    /// Frees what the write has taken, and keeps what it has given up.
+    /// Frees the pages that the write has taken, and keeps those that it has given up.
     pub fn rest(&mut self)
         ensures { (self.new.journal ≡ self.old.journal) × (self.new.page ≡ self.old.page)
             × (places self.new.pool ≡ map undone_place (places self.old.pool))
@@ -68,8 +68,8 @@ impl WriterState {
         self.left = self.pool.retired();
     }
 
-    /// Appends the entry, with this version page. The filled pages become pages of the current
-    /// version, and those given up are retired. There has to be room for the entry.
+    /// Appends an entry with this version page. The filled pages become pages of the current
+    /// version, and those given up are retired. There must be room for the entry.
     pub fn append(&mut self, by: u64, ops: &[Op], dones: &[Done], page: u64)
         requires some { (1 ≤ length ops.now) × (length ops.now ≤ 64) }
         requires room { (length ops.now ≡ self.old.journal.reserved)
@@ -89,7 +89,7 @@ impl WriterState {
         self.page = page;
     }
 
-    /// The journal; the pool and the version page are dropped.
+    /// Returns the journal, and drops the pool and the version page.
     pub fn into_journal(self) -> Journal
         ensures { result ≡ self.journal }
     {

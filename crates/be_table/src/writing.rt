@@ -1,8 +1,8 @@
-//! An open write: the pass holds the lock and has the writer state.
+//! An open write: the pass holds the lock and owns the writer state.
 //!
-//! A write takes pages, fills them, gives pages up, and publishes. Until it publishes, others see
-//! nothing of it, and `unlock` undoes it. It has no `Drop`, so it can only end with `unlock`, and
-//! the writer state always comes back.
+//! A write takes pages, fills them, gives pages up, and publishes. Until it publishes, no other
+//! pass sees anything of it, and `unlock` undoes it. It has no `Drop`, so it can end only with
+//! `unlock`, and the writer state is always put back.
 ghost use Rattle.std.specs.Prelude.{map, get_or, slice_index, IsTrue, List, IfOk, IfErr, IfSome};
 ghost use Rattle.std.specs.Prelude.{IfNone, ◌≢◌, Ok, string_bytes, ◌≡◌, ◌≤◌, All, suc, ◌+◌, ◌*◌};
 ghost use Rattle.std.specs.Prelude.{◌^◌, ◌<◌, true, false, [], ◌∷◌, length, count_by, None};
@@ -40,23 +40,25 @@ use be_value::Refusal;
 use be_volume::{Done, Op};
 use std::marker::{Brand, Model};
 
-/// A retired page is only reused once a scan has freed it. A write that first lets the pool run
-/// empty goes through the memory of every page, although those given up last are still in the
-/// cache. A write gives up 6 to 16, all of which use the same few lines of the cache. So those of
-/// two or three writes are still in its nearest levels. While readers hold pages, scanning at every
-/// write frees nothing more and costs one load for each pass.
+/// A retired page can be reused only after a scan has freed it. If a write lets the pool run empty
+/// before it scans, it goes through the memory of every page, although the pages given up most
+/// recently are still in the cache. A write gives up 6 to 16 pages, all of which map to the same
+/// few lines of the cache. So the pages given up by the last two or three writes are still in the
+/// nearest levels of the cache. While readers hold pages, scanning at every write frees nothing
+/// more and costs one load per pass.
 const EARLY: usize = 32;
 
-/// How many more pages have to be retired than the last whole scan left, before a scan pays. If
-/// that scan left none, no reader holds pages, and each write scans. Then what the last write gave
-/// up is free, and each copy of a page can go to the page that it was copied from.
+/// How many pages must be retired, beyond those that the last whole scan left, before a scan pays.
+/// If that scan left none, no reader holds pages, and every write scans. The pages that the last
+/// write gave up are then free, so each page can be copied back to the page that it was copied
+/// from.
 fn due_after(left: usize) -> usize
     ensures { result ≡ due_after left }
 {
     if left == 0 { 1 } else { EARLY }
 }
 
-/// The lock is held by this pass. It has no `Drop`, so it ends with `unlock`.
+/// An open write, whose pass holds the lock. It has no `Drop`, so it ends only with `unlock`.
 pub struct Writing<'a> {
     table: &'a VersionTable,
     base: Base,
@@ -123,8 +125,8 @@ impl<'a> Writing<'a> {
         }
     }
 
-    /// The length of the journal, and the version page. However long the journal is, the volume has
-    /// 64 node numbers left. No step.
+    /// Returns the length of the journal and the version page. However long the journal is, the
+    /// volume still has 64 node numbers left. No step.
     pub fn current(&self) -> (u64, u64)
         ensures version { (result.0 ≡ length self.now.knows.seen)
             × (result.1 ≡ page_at self.now.knows.seen (length self.now.knows.seen)) }
@@ -133,7 +135,7 @@ impl<'a> Writing<'a> {
         (self.writer_state.journal.len(), self.writer_state.page)
     }
 
-    /// Takes out the buffer for a version's contents. The next write finds it if it is put back.
+    /// Takes out the buffer for a version's contents. If it is put back, the next write finds it.
     pub fn take_space(&mut self) -> Option<Box<Version>>
         ensures { self.new ≡ self.old }
     {
@@ -147,14 +149,15 @@ impl<'a> Writing<'a> {
         self.writer_state.space = space;
     }
 
-    /// The journal's text. OutOfMemory. No step.
+    /// Returns the journal's text. May fail with OutOfMemory. No step.
     pub fn journal_text(&self) -> Result<String, Refusal>
         ensures { Answers string_bytes result (Ok (lines_from 1 (entries self.now.knows.seen))) }
     {
         self.writer_state.journal.text()
     }
 
-    /// The journal's entry with this index, from 0, as a copy. OutOfMemory. No step.
+    /// Returns a copy of the journal entry at index `i`, counting from 0. May fail with
+    /// OutOfMemory. No step.
     pub fn entry(&self, i: u64) -> Result<Entry, Refusal>
         requires { i < length self.now.knows.seen }
         ensures ok { IfOk result (λ entry. entry ≡ get_or (entries self.now.knows.seen) i entry) }
@@ -163,7 +166,8 @@ impl<'a> Writing<'a> {
         Ok(self.writer_state.journal.get(i).to_entry()?)
     }
 
-    /// Word i of a page, as the current version has it or as this write filled it. One load.
+    /// Returns word `i` of a page, as it is in the current version or as this write filled it. One
+    /// load.
     pub fn own_word(&mut self, page: u64, i: usize) -> u64
         requires place { (page < length self.old.knows.places) × (i < 512) }
         ensures write { self.new ≡ record self.old { knows = one_step_on self.old.knows } }
@@ -174,7 +178,7 @@ impl<'a> Writing<'a> {
         table.table.shared.load::<OwnWord>(&mut self.base, word)
     }
 
-    /// Whether this write has taken a page. No step.
+    /// Returns `true` if this write has taken a page. No step.
     pub fn is_taken(&self, page: u64) -> bool
         requires page { page < length self.now.knows.places }
         ensures { result ≡ is_in_hand (place_of self.now.knows.places page) }
@@ -182,9 +186,9 @@ impl<'a> Writing<'a> {
         self.writer_state.pool.is_in_hand(page)
     }
 
-    /// Writes word i of a page that this write took. One load, and one store if the word isn't
-    /// there yet. A page that is reused has many of its words already, and a store costs far more
-    /// than a load.
+    /// Writes word `i` of a page that this write took. One load, and one store unless the word is
+    /// there already. A reused page already has many of the words, and a store costs far more than
+    /// a load.
     pub fn fill(&mut self, page: u64, i: usize, word: u64)
         requires open { self.old.knows.published ≡ false }
         requires taken { (page < length self.old.knows.places)
@@ -202,8 +206,8 @@ impl<'a> Writing<'a> {
         self.writer_state.pool.fill(page);
     }
 
-    /// Writes word i of a page in which this write has filled a word, as `fill` does. The page's
-    /// place need not be looked up.
+    /// Does what `fill` does, for a page in which this write has already filled a word. It saves
+    /// looking up the page's place.
     pub fn refill(&mut self, page: u64, i: usize, word: u64)
         requires open { self.old.knows.published ≡ false }
         requires filled { (page < length self.old.knows.places)
@@ -220,8 +224,8 @@ impl<'a> Writing<'a> {
         fill_word(self.table, &mut self.base, page, i, word);
     }
 
-    /// Gives a page up. A page that this write took is free at once; a page of the current version
-    /// keeps its words until a scan frees it. One load.
+    /// Gives a page up. A page that this write took is free immediately; a page of the current
+    /// version keeps its words until a scan frees it. One load.
     pub fn give_up(&mut self, page: u64)
         requires open { self.old.knows.published ≡ false }
         requires held { (page < length self.old.knows.places)
@@ -240,8 +244,8 @@ impl<'a> Writing<'a> {
         self.writer_state.pool.give_up(page);
     }
 
-    /// Takes the page that was freed last, if one is free. It takes a page that is spared for a
-    /// copy only if there is no other.
+    /// Takes the most recently freed page, if any page is free. A page that is spared for a copy is
+    /// taken only if there is no other.
     fn take_free(&mut self) -> Option<u64>
         requires open { self.old.knows.published ≡ false }
         ensures some { IfSome result (λ page. (page < length self.old.knows.places)
@@ -264,9 +268,9 @@ impl<'a> Writing<'a> {
         Some(page)
     }
 
-    /// Takes a free page for a copy of a page: the one that this page was copied from, if that is
-    /// free and spared. While readers hold pages, what a write gives up isn't free at the next
-    /// write. Then it takes the page that `take_free` would take.
+    /// Takes a free page to hold a copy of `page`: the page that `page` was copied from, if that is
+    /// free and spared. While readers hold pages, the pages that one write gives up aren't free at
+    /// the next. In that case it takes the page that `take_free` would take.
     fn take_free_like(&mut self, page: u64) -> Option<u64>
         requires open { self.old.knows.published ≡ false }
         ensures some { IfSome result (λ page. (page < length self.old.knows.places)
@@ -289,10 +293,11 @@ impl<'a> Writing<'a> {
         Some(copy)
     }
 
-    /// Takes the free page that was freed last. It takes a page that is spared for a copy only if
-    /// there is no other. If none is free, it scans. If none is free after the scan either, the
-    /// error is Full with the lowest number that the scan found. This write then holds each page
-    /// that no version from that number on has. One load; with a scan, also the scan's loads.
+    /// Takes the most recently freed page. A page that is spared for a copy is taken only if there
+    /// is no other. If no page is free, it scans first. If none is free after the scan either, it
+    /// fails with Full and the lowest number that the scan found. This write then holds every page
+    /// that belongs to no version with that number or a higher one. One load, plus the scan's loads
+    /// if it scans.
     pub fn take(&mut self) -> Result<u64, Refusal>
         requires open { self.old.knows.published ≡ false }
         ensures ok { IfOk result (λ page. TakesPage self.old self.new page) }
@@ -308,10 +313,10 @@ impl<'a> Writing<'a> {
         }
     }
 
-    /// Takes a free page for a copy of a page: the one that this page was copied from, which has
-    /// most of the words already. That one has to be free and spared, and the last whole scan must
-    /// have left no page to readers. Otherwise it takes the page that `take` would take, at the
-    /// same cost.
+    /// Takes a free page to hold a copy of `page`: the page that `page` was copied from, most of
+    /// whose words are the same. That page must be free and spared, and the last whole scan must
+    /// have left no page retired. Otherwise it takes the page that `take` would take, at the same
+    /// cost.
     pub fn take_like(&mut self, page: u64) -> Result<u64, Refusal>
         requires open { self.old.knows.published ≡ false }
         ensures ok { IfOk result (λ page. TakesPage self.old self.new page) }
@@ -323,9 +328,9 @@ impl<'a> Writing<'a> {
         self.take()
     }
 
-    /// Whether a scan pays even if pages are free. More pages have to be retired than the last
-    /// whole scan had to leave for readers: one more if it left none, and otherwise 32 more. Those
-    /// that it left are no more than are retired now. No step.
+    /// Returns `true` if a scan pays even though pages are free. It does once the retired pages
+    /// outnumber those that the last whole scan had to leave for readers, by 1 if it left none and
+    /// by 32 otherwise. There are never fewer retired pages than that scan left. No step.
     pub fn is_scan_due(&self) -> bool
         ensures due { result ≡ true → self.now.left + due_after self.now.left
             ≤ count_by is_retired self.now.knows.places }
@@ -338,9 +343,9 @@ impl<'a> Writing<'a> {
     }
 
     /// Reads every reader slot once. Returns the lowest of the numbers there and the current
-    /// number; the pages that were retired with a smaller number are then free. One load for each
-    /// pass, and work for each page that becomes free. It may be called right after the lock, or if
-    /// no page is free.
+    /// number; pages that were retired with a lower number are then free. One load per pass, and
+    /// work for each page that becomes free. It may be called right after the lock is taken, or
+    /// when no page is free.
     pub fn scan(&mut self) -> u64
         requires open { self.old.knows.published ≡ false }
         requires reason { HasReasonToScan self.old }
@@ -364,7 +369,7 @@ impl<'a> Writing<'a> {
         found
     }
 
-    /// The table's numbers as they are now, with this announcement. No step.
+    /// Returns the table's current figures, with this announcement. No step.
     fn count(&self, oldest: Option<Announcement>) -> Status
         ensures reports { Reports self.now.knows result }
         ensures oldest { result.oldest ≡ oldest }
@@ -380,8 +385,8 @@ impl<'a> Writing<'a> {
         }
     }
 
-    /// Scans, and returns how full the table is then, and the oldest of the announcements that the
-    /// scan found. It costs what `scan` costs.
+    /// Scans, then returns how full the table is and the oldest announcement that the scan found.
+    /// It costs the same as `scan`.
     pub fn status(&mut self) -> Status
         requires open { self.old.knows.published ≡ false }
         requires reason { HasReasonToScan self.old }
@@ -395,8 +400,8 @@ impl<'a> Writing<'a> {
         self.count(found.oldest)
     }
 
-    /// Makes room for one entry of `count` operations. CommitsSpent if the journal is at its limit;
-    /// OutOfMemory. Both leave the write as it was.
+    /// Makes room for one entry of `count` operations. Fails with CommitsSpent if the journal has
+    /// reached its limit, or with OutOfMemory. Either error leaves the write unchanged.
     #[tactic(auto, using(crate::proofs::Opened::no_room, crate::proofs::Opened::has_room))]
     pub fn reserve(&mut self, count: usize) -> Result<(), Refusal>
         requires open { self.old.knows.published ≡ false }
@@ -411,17 +416,17 @@ impl<'a> Writing<'a> {
         Ok(())
     }
 
-    /// A page whose state is filled is a page of the table. It does nothing.
+    /// A law: a filled page is a page of the table. It does nothing.
     fn is_filled(&self, page: u64)
         requires { page_state_among self.now.knows.places page ≡ Full }
         ensures { (page < length self.now.knows.places)
             × (place_of self.now.knows.places page ≡ Place.Filled) }
     {}
 
-    /// Enters a write into the journal, with the version of the pages that the write keeps. The
-    /// version has to encode the volume after the entry, and to reach exactly these pages. Returns
+    /// Enters a write into the journal, with the version made of the pages that the write keeps.
+    /// The version must encode the volume after the entry and reach exactly these pages. Returns
     /// the journal's length, which is the new version's number. One store, and work for each page
-    /// that the write took or gave up; no memory is allocated.
+    /// that the write took or gave up; allocates no memory.
     pub fn publish(&mut self, page: u64, ops: &[Op], dones: &[Done]) -> u64
         requires open { self.old.knows.published ≡ false }
         requires count { (1 ≤ length ops.now) × (length ops.now ≤ 64) }
@@ -459,7 +464,8 @@ impl<'a> Writing<'a> {
         version
     }
 
-    /// Gives the writer state and the lock back. What wasn't published is undone. One store.
+    /// Puts the writer state back and releases the lock. Anything not yet published is undone. One
+    /// store.
     pub fn unlock(self) -> Seat
         ensures seat { IsSeatOf self.entry.table result }
         ensures pass { result.knows ≡ without_lock
@@ -485,7 +491,7 @@ impl<'a> Writing<'a> {
     }
 }
 
-/// The operations are valid operations of the program, as their types guarantee.
+/// A law: the operations are valid operations of the program, as their types guarantee.
 fn all_valid(ops: &[Op])
     ensures { All IsOperation ops.now }
 {
@@ -494,7 +500,7 @@ fn all_valid(ops: &[Op])
     }
 }
 
-/// The store to CURRENT, which is the one step at which the write takes effect.
+/// The store to CURRENT, the single step at which the write takes effect.
 fn store_version<E: NextVersion>(
     table: &VersionTable,
     base: &mut Base,
@@ -546,7 +552,7 @@ fn report_taken(table: &VersionTable, base: &mut Base, page: u64)
     table.table.shared.load::<TakePage>(base, at);
 }
 
-/// Stores a word of a page that the write holds, if it isn't there already.
+/// Stores a word in a page that the write holds, unless it is there already.
 fn fill_word(table: &VersionTable, base: &mut Base, page: u64, i: usize, word: u64)
     requires seat { base.old.table_id ≡ table.now.id }
     requires pass { (base.old.me.0 ≡ alone (pass_of base.old.me.0))
@@ -573,7 +579,7 @@ fn fill_word(table: &VersionTable, base: &mut Base, page: u64, i: usize, word: u
     }
 }
 
-/// Loads the reader slot of the pass whose turn it is.
+/// Loads the reader slot of the pass whose turn it is in the scan.
 fn read_announcement(table: &VersionTable, base: &mut Base, pass: u64) -> u64
     requires seat { base.old.table_id ≡ table.now.id }
     requires pass { MayReadAnnouncement table.now.limits base.old.me pass }

@@ -1,7 +1,7 @@
 //! A call that is tried twice.
 
-/// What the call returns or, if it ran out of memory, what a second try returns. So a test passes
-/// even if any one request for memory is refused.
+/// Returns what the call returns or, if the call runs out of memory, what a second try returns. So
+/// a test passes even if any single request for memory is refused.
 #[macro_export]
 macro_rules! again {
     ($call:expr) => {

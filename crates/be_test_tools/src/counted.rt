@@ -16,7 +16,7 @@ pub struct Counted<P> {
 }
 
 impl<P: Drop> Counted<P> {
-    /// Counts accesses to these pages, from 0.
+    /// Counts accesses to these pages, beginning at 0.
     pub fn new(pages: P) -> Counted<P>
         ensures { result.pages ≡ pages }
     {

@@ -1,7 +1,8 @@
-//! Worked examples, as texts in the script language. Every form of a volume gives these replies:
-//! the plain one, the one in pages, and the shared store.
+//! Worked examples, as text in the script language. Every form of a volume gives these replies: the
+//! plain volume, the volume in pages, and the shared store.
 
-/// An index has only what is set after it was made, and a set moves a pair.
+/// An index contains only attributes that are set after it was created, and setting an attribute
+/// again moves its pair.
 const INDEX_MADE_LATER: &str = "new / set 1 size LONG 5 / mkindex size LONG => node 1 / ok / ok
 query size==5 => nodes
 set 1 size LONG 5 / query size==5 => ok / nodes 1
@@ -22,7 +23,7 @@ query n>2147483646 / query n==-0 / query n!=0 => nodes 3 / nodes 1 / nodes 2 3 4
 query n!=abc / query n<99999999999999999999 => nodes / nodes
 set 1 n LONG 2147483648 => bad line";
 
-/// One of these texts is as long as a text may be.
+/// One of these strings has the maximum length.
 pub const TEXTS: &str =
     "mkindex t CSTR / new / new / new / new => ok / node 1 / node 2 / node 3 / node 4
 set 1 t CSTR a / set 2 t CSTR ab / set 3 t CSTR \"\" => ok / ok / ok
@@ -88,8 +89,8 @@ set 1 u ULNG 4294967295 / query u>=0 / get 1 u => ok / nodes 2 / ULNG 4294967295
 mkindex n LONG / set 1 n LONG 5 => ok / ok
 query n<9223372036854775808 / query n==00000000000000000005 => nodes 1 / nodes 1";
 
-/// Lists of several operations, separated by `;`. A script has batches for these, so the shared
-/// store gets no such list.
+/// Lists of several operations, separated by `;`. Scripts use batches for these, so the shared
+/// store isn't given any such list.
 pub const LISTS: &str = r#"mkindex k LONG => ok
 new;set 1 k LONG 5 => node 1 / ok
 set 1 k LONG 6;drop 9 => refused 2 NoNode

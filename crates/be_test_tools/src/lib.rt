@@ -1,10 +1,9 @@
-//! What the tests of several crates share.
+//! Tools that the tests of several crates share.
 //!
-//! There are worked examples as texts, the loop over their lines, and the texts of replies. There
-//! are also pages that count accesses, a writer that fails, a list with spare capacity, and the
-//! second try of a call.
+//! They include worked examples as text, the loop over their lines, the text of replies, pages that
+//! count accesses, a writer that fails, a list with spare capacity, and a second try of a call.
 //!
-//! As a library it is proved only once. A test checks results and needs no contract, so most
+//! As a library, it is proved only once. A test checks results and needs no contract, so most
 //! functions here have none.
 #![tactic(auto)]
 

@@ -4,14 +4,14 @@ use be_value::Refusal;
 use std::alloc::Global;
 use std::test::Fail;
 
-/// Anything that replies to requests.
+/// Anything that can reply to requests.
 pub trait Answers {
-    /// The reply to a request, with an LF after each line. The only error is `OutOfMemory`, after
-    /// which nothing has changed.
+    /// The reply to a request, with an LF after each line. The only error is `OutOfMemory`, which
+    /// leaves everything unchanged.
     fn reply(&mut self, alloc: Global, request: &str) -> Result<String, Refusal>;
 }
 
-/// What is expected after the lines of this reply, or `None` if other lines were expected.
+/// The expected text after the lines of this reply, or `None` if other lines were expected.
 pub fn beyond<'a>(expected: &'a str, reply: &str) -> Option<&'a str> {
     let mut expected = expected;
     for line in reply.lines() {
@@ -24,7 +24,7 @@ pub fn beyond<'a>(expected: &'a str, reply: &str) -> Option<&'a str> {
     Some(expected)
 }
 
-/// The reply to a request, which is repeated if it runs out of memory.
+/// The reply to a request. If memory runs out, the request is repeated.
 fn reply_to<A: Answers>(alloc: Global, answers: &mut A, request: &str) -> Result<String, Refusal> {
     match answers.reply(alloc, request) {
         Err(Refusal::OutOfMemory) => answers.reply(alloc, request),
@@ -32,7 +32,7 @@ fn reply_to<A: Answers>(alloc: Global, answers: &mut A, request: &str) -> Result
     }
 }
 
-/// Whether requests have the expected replies.
+/// Whether requests get the expected replies.
 fn replies<A: Answers>(
     alloc: Global,
     answers: &mut A,
@@ -50,8 +50,8 @@ fn replies<A: Answers>(
     Ok(expected.is_empty())
 }
 
-/// Fails unless each request in these lines has the expected reply. A request that runs out of
-/// memory is repeated, so a test passes even if any one request for memory is refused.
+/// Fails unless each request in these lines gets the expected reply. A request that runs out of
+/// memory is repeated, so a test passes even if any single request for memory is refused.
 pub fn check_lines<A: Answers>(alloc: Global, answers: &mut A, lines: &str) -> Result<(), Fail> {
     for line in lines.lines() {
         let Some((requests, expected)) = line.split_once(" => ") else {

@@ -1,7 +1,7 @@
 //! The longest reply to a script's line.
 use std::alloc::{AllocError, Global};
 
-/// A script that makes a node with 64 attributes and lists them, and its replies.
+/// A script that creates a node with 64 attributes and lists them, with its replies.
 fn list_with_script(alloc: Global) -> Result<(String, String), AllocError> {
     let name = "\\n".repeat(alloc, 61)?;
     let value = "\\n".repeat(alloc, 255)?;
@@ -20,9 +20,9 @@ fn list_with_script(alloc: Global) -> Result<(String, String), AllocError> {
     Ok((script, replies))
 }
 
-/// A script that lists 64 attributes with the longest names and values, and its replies, the last
-/// of which has 41,289 bytes. Each LF in a name or value is printed as two characters. Both are
-/// made again after running out of memory.
+/// A script that lists 64 attributes with the longest names and values, with its replies, the last
+/// of which has 41,289 bytes. Each LF in a name or value is printed as two characters. If memory
+/// runs out, both are built again.
 pub fn longest_list(alloc: Global) -> Result<(String, String), AllocError> {
     match list_with_script(alloc) {
         Err(_) => list_with_script(alloc),

@@ -1,5 +1,5 @@
-//! Lists of operations, and the texts of what calls return, in the script language. Each is made
-//! again after running out of memory.
+//! Lists of operations, and the text of what calls return, in the script language. If memory runs
+//! out, each is built again.
 use be_journal::done_text;
 use be_script_language::{Reply, Request, read_line, reply_text};
 use be_value::Refusal;
@@ -18,8 +18,8 @@ fn read_list(alloc: Global, list: &str) -> Result<Vec<Op>, Refusal> {
     Ok(ops)
 }
 
-/// The operations of a list, each a line of a script, separated by `;`. `BadLimits` if one of them
-/// isn't an operation.
+/// The operations of a list, each a line of a script, separated by `;`. Returns `BadLimits` if one
+/// of them isn't an operation.
 pub fn list_of(alloc: Global, list: &str) -> Result<Vec<Op>, Refusal> {
     match read_list(alloc, list) {
         Err(Refusal::OutOfMemory) => read_list(alloc, list),

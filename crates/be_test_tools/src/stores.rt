@@ -1,5 +1,5 @@
-//! What the tests of the store and of its table share: limits, names, and the journal of two
-//! passes.
+//! What the tests of the store and of its table share: limits, names, and checks on the journal of
+//! two passes.
 ghost use Rattle.std.specs.Prelude.{◌≡◌, ◌∷◌, [], IfOk};
 
 use be_journal::{EntryView, Journal};
@@ -8,7 +8,7 @@ use be_volume::Done;
 use std::alloc::{AllocError, Global};
 use std::str;
 
-/// Limits (pages, passes and commits), one of which is just out of range.
+/// Limits (pages, passes and commits), of which one is just out of range.
 pub const OUTSIDE_LIMITS: [(u64, u64, u64); 6] = [
     (7, 1, 1),
     (16385, 1, 1),
@@ -18,13 +18,13 @@ pub const OUTSIDE_LIMITS: [(u64, u64, u64); 6] = [
     (8, 1, 4_294_967_296),
 ];
 
-/// One of 256 names of two letters, from `aa` on.
+/// One of 256 names of two letters, beginning with `aa`.
 pub fn numbered(number: u8) -> Result<Name, Refusal> {
     let letters = [b'a' + number / 16, b'a' + number % 16];
     Name::new(str::from_utf8(&letters).unwrap_or(""))
 }
 
-/// A list of two. After running out of memory, it is tried again.
+/// A list of these two elements. If memory runs out, it is built again.
 pub fn pair_of<T: Drop>(alloc: Global, first: T, second: T) -> Result<Vec<T>, AllocError>
     ensures { IfOk result (λ list. list.items ≡ first ∷ second ∷ []) }
 {
@@ -37,7 +37,7 @@ pub fn pair_of<T: Drop>(alloc: Global, first: T, second: T) -> Result<Vec<T>, Al
     Ok(list)
 }
 
-/// The first and the second of a list of two.
+/// The two elements of a list, in order.
 pub fn both_of<T: Drop>(mut list: Vec<T>) -> Result<(T, T), Refusal>
     ensures { IfOk result (λ both. list.items ≡ both.0 ∷ both.1 ∷ []) }
 {
@@ -47,7 +47,7 @@ pub fn both_of<T: Drop>(mut list: Vec<T>) -> Result<(T, T), Refusal>
     }
 }
 
-/// Whether the journal is legal. After running out of memory, it is checked again.
+/// Whether the journal is legal. If memory runs out, it is checked again.
 pub fn is_legal(journal: &Journal) -> Result<bool, Refusal> {
     match journal.check() {
         Err(Refusal::OutOfMemory) => journal.check(),
@@ -61,7 +61,8 @@ fn answers_node(entry: &EntryView<'_>, node: u64) -> bool {
     entry.len() == 1 && matches!(steps.next(), Some((_, Done::Node(it))) if it == node)
 }
 
-/// The number of entries by the pass, if each entry's outcome is the node with the entry's number.
+/// The number of entries that the pass made, if each entry's outcome is the node with the entry's
+/// number.
 fn count_by(journal: &Journal, pass: u64) -> u64 {
     let mut count: u64 = 0;
     for i in 0..journal.len() {
@@ -76,7 +77,7 @@ fn count_by(journal: &Journal, pass: u64) -> u64 {
     count
 }
 
-/// Whether the journal is legal and has exactly a hundred new nodes by each of the passes 0 and 1.
+/// Whether the journal is legal, and passes 0 and 1 each created exactly a hundred nodes in it.
 pub fn has_hundred_by_each(journal: &Journal) -> Result<bool, Refusal> {
     let is_whole = journal.len() == 200
         && count_by(journal, 0) == 100

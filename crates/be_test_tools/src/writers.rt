@@ -1,9 +1,9 @@
-//! What tests write to: a writer that fails, and a list with spare capacity.
+//! Destinations that tests write to: a writer that fails, and a list with spare capacity.
 use std::alloc::{AllocError, Global};
 use std::io::{self, Write};
 
-/// A writer that takes one byte per write while it has room, and then fails or takes nothing. It
-/// needs no memory: it compares each byte with the expected one.
+/// A writer that accepts one byte per write while it has room, and then fails or accepts nothing.
+/// It needs no memory, because it only compares each byte with the expected one.
 #[derive(Drop)]
 pub struct Narrow<'a> {
     expected: &'a [u8],
@@ -13,7 +13,8 @@ pub struct Narrow<'a> {
 }
 
 impl Narrow<'_> {
-    /// A writer that expects these bytes and takes `room` of them. Then it fails, or takes nothing.
+    /// A writer that expects these bytes and accepts `room` of them. After that, it fails or
+    /// accepts nothing.
     pub fn new(expected: &[u8], room: usize, fails: bool) -> Narrow<'_> {
         Narrow {
             expected,
@@ -23,8 +24,8 @@ impl Narrow<'_> {
         }
     }
 
-    /// Whether writing may end like this. It ends well once everything expected is written, or with
-    /// a failed write once a prefix of it has filled the room.
+    /// Whether writing may end like this: successfully once everything expected has been written,
+    /// or with a failed write once a prefix of it has filled the room.
     pub fn may_end(&self, well: bool, by_write: bool) -> bool {
         let has_all = self.expected.is_empty();
         let is_so = if has_all {
@@ -37,8 +38,8 @@ impl Narrow<'_> {
 }
 
 impl Write for Narrow<'_> {
-    /// Takes the first byte, if there is room, and compares it with the expected one. Without room
-    /// it returns an error or 0.
+    /// Accepts the first byte, if there is room, and compares it with the expected byte. Without
+    /// room, it returns an error or 0.
     fn write(&mut self, buf: &[u8]) -> io::Result<usize> {
         let Some(byte) = buf.first() else {
             return Ok(0);
@@ -62,7 +63,8 @@ impl Write for Narrow<'_> {
     }
 }
 
-/// Whether this may have been written: one of the two texts, or a prefix of one if memory ran out.
+/// Whether this may have been written: one of the two strings, or a prefix of one of them if memory
+/// ran out.
 pub fn may_write(written: &str, well: bool, by_memory: bool, texts: [&str; 2]) -> bool {
     let [one, other] = texts;
     (well && (written == one || written == other))
@@ -70,7 +72,7 @@ pub fn may_write(written: &str, well: bool, by_memory: bool, texts: [&str; 2]) -
 }
 
 /// An empty list with capacity for 256 bytes, to which a test can write without requesting memory.
-/// After running out of memory, it is tried again.
+/// If memory runs out, it is created again.
 pub fn list_with_room(alloc: Global) -> Result<Vec<u8>, AllocError> {
     match Vec::with_capacity(alloc, 256) {
         Ok(list) => Ok(list),

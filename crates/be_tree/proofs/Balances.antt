@@ -1,4 +1,4 @@
--- A node that is settled, on the way up a tree.
+-- A node that is settled on the way up a tree.
 use Rattle.std.proofs.Common.{◌≡◌, ℕ, zero, suc, ◌+◌, ◌-◌, ◌<◌, ◌≤◌, ◌⊎◌, List, [], ◌∷◌, ◌++◌, Bool, true, eqb, length, get_or, map, take, drop, All, IsTrue, ap, sym, subst, ◌∙◌, refl, inl, inr, arith, length-append, length-drop}
 use Rattle.std.specs.List.{take-map, drop-map}
 use Rattle.std.proofs.Math.Seq.{take-length, take-suc}
@@ -34,7 +34,7 @@ use Rattle.be_tree_reading.proofs.Shape.Below.{all_left, all_right, below_left, 
 use Rattle.be_tree_reading.proofs.Shape.Roots.{tree_over}
 use Rattle.be_tree.proofs.Ways.{IsPopped, rising_inside, step_leads, way_pop, whole_push}
 
--- lists with a cut replaced by others
+-- lists in which others replace a cut
 pub map_spliced : {A B : Type 0} (f : A → B) (cut : Cut) (xs more : List A) → map f (spliced cut xs more) ≡ spliced cut (map f xs) (map f more)
 map_spliced f cut xs more =
     map-append f (take cut.at xs) (more ++ drop (cut.at + cut.gone) xs)
@@ -126,7 +126,7 @@ module _ {S K : Type 0} (kept_of : S → K) (page_state_of : S → ℕ → PageS
         rising = rising_inside (words_of start) front (beside (suc level) (words_of start) step ps) (subst IsRising (whole_beside ps) h.rising);
       }
 
-  -- after it was settled
+  -- after the node was settled
   module _ (settled : Settled) (new : S) (s : IsSettled kept_of page_state_of words_of step level given (beside (suc level) (words_of start) step (pairs_below level (words_of mid) (pairs_of (words_of mid) given slots))) settled start new) where
     now_same : words_of new step.page ≡ words_of start step.page
     now_same =
@@ -208,7 +208,7 @@ module _ {S K : Type 0} (kept_of : S → K) (page_state_of : S → ℕ → PageS
     pub can_settle : words_of new step.page 1 + length settled.branches.items ≤ 12 + settled.cut.gone → CanBeSpliced (page_state_of new) (words_of new) step.page settled.cut given settled.branches.items
     can_settle few = record { is_page = now_page; in_use = now_kept; in_range = now_range; few = few; ready = now_ready; off = now_off; key_fits = h.key_fits }
 
-    -- and they were
+    -- and they were put there
     module _ (to : ℕ) (last : S) (put : IsSpliced kept_of page_state_of words_of step.page settled.cut given settled.branches.items to new last)
         (enough : minimum_at front (suc level) ≤ length (spliced settled.cut (items_of (words_of start step.page)) (pairs_of (words_of new) given settled.branches.items))) where
       items_are : items_of (words_of last to) ≡ spliced settled.cut (items_of (words_of start step.page)) (pairs_of (words_of new) given settled.branches.items)
@@ -247,7 +247,7 @@ module _ {S K : Type 0} (kept_of : S → K) (page_state_of : S → ℕ → PageS
       settled_tree new_root final h =
           subst (λ qs. BecomesTree kept_of page_state_of words_of (pages (words_of start) root) qs new_root start final) (ap (λ n. whole (words_of start) front (pairs_at n (words_of last) to)) up ∙ settled_whole) h
 
-    -- the page above is an unwritten node in turn
+    -- the page above is now an unwritten node
     module _ (out : List Slot) (read : S) (same : IsUnchanged kept_of page_state_of words_of new read) (is : out ≡ spliced settled.cut (loaded step.page (words_of new step.page 1)) settled.branches.items) where
       out_pairs : pairs_of (words_of read) given out ≡ spliced settled.cut (items_of (words_of start step.page)) (pairs_of (words_of new) given settled.branches.items)
       out_pairs =
@@ -303,7 +303,7 @@ module _ {S K : Type 0} (kept_of : S → K) (page_state_of : S → ℕ → PageS
         some = λ some. omega (arith, out_count, s.gone, s.some, above_tree.node.enough, minimum_six front (suc level) some, items_count (words_of start step.page));
       }
 
--- or one that may be the root
+-- or a node that may be the root
 pub minimum_front : (above : List Step) (m level n : ℕ) → m < length above → 2 ≤ n → (eqb m 0 ≡ true) ⊎ (6 ≤ n) → minimum_at (take m above) (suc level) ≤ n
 minimum_front above zero level n lt two six = omega (arith, two)
 minimum_front [] (suc m) level n lt two six = absurd (omega (arith, lt))
@@ -387,7 +387,7 @@ steps_above xs i lt =
     let e : length (take (length xs - i) xs) - 1 ≡ length xs - (i + 1) = omega (arith, length-take-le (length xs - i) xs (omega arith)) in
     ap (λ n. take n (take (length xs - i) xs)) e ∙ take-take (length xs - (i + 1)) (length xs - i) xs (omega arith)
 
--- an unwritten node, after its page's level was read
+-- an unwritten node after its page's level was read
 module _ {S K : Type 0} (kept_of : S → K) (page_state_of : S → ℕ → PageState) (words_of : S → ℕ → ℕ → ℕ) (root : ℕ) (above : List Step) (was level : ℕ) (given : Pair) (slots : List Slot) (room read : S)
     (same : IsUnchanged kept_of page_state_of words_of room read) (is : level ≡ words_of room was 0) (start : S) (h : IsInHand kept_of page_state_of words_of root above was given slots (level_of (words_of start was)) start room) where
   level_is : level_of (words_of start was) ≡ level

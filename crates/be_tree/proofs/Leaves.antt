@@ -37,7 +37,7 @@ put_first : (pair : Pair) (items : List Pair) → ((d : Pair) → 0 < length ite
 put_first pair [] above = refl
 put_first pair (x ∷ xs) above = ap (λ r. put_before r pair x xs (put pair xs)) (above x (omega arith))
 
--- a put into a leaf's items
+-- putting a pair into a leaf's items
 module _ (page_state : ℕ → PageState) (words : ℕ → ℕ → ℕ) (items : List Pair) (below : IsBelow 0 page_state words items) (pair : Pair) where
   pub put_equal : (at : ℕ) → at < length items → key_cmp (get_or items at pair).key pair.key ≡ Equal → put pair items ≡ spliced (record { at = at; gone = 1 }) items (pair ∷ [])
   put_equal at lt same =
@@ -59,7 +59,7 @@ module _ (page_state : ℕ → PageState) (words : ℕ → ℕ → ℕ) (items :
       ∙ ap (λ xs. xs ++ (pair ∷ drop (suc m) items)) (sym (take-suc items m pair lt))
       ∙ ap (λ n. take (suc m) items ++ (pair ∷ drop n items)) e
 
--- a removal of a key from them
+-- removing a key from them
 pub without_equal : (items : List Pair) → IsRising items → (k : List ℕ) (at : ℕ) (d : Pair) → at < length items → key_cmp (get_or items at d).key k ≡ Equal → without k items ≡ spliced (record { at = at; gone = 1 }) items []
 without_equal items rising k at d lt same =
     let e : suc at ≡ at + 1 = omega arith in
@@ -110,7 +110,7 @@ module _ {S K : Type 0} (kept_of : S → K) (page_state_of : S → ℕ → PageS
       } in
       subst (λ n. IsChanged kept_of page_state_of words_of root above (record { was = leaf; page = to; same_minimum = b }) n start mid) (sym is_leaf) here
 
--- how a change of a tree is one of the leaf at the end of a path
+-- how a change of a tree is a change of the leaf at the end of a path
 pub record ChangesLeaf (change : List Pair → List Pair) (page_state : ℕ → PageState) (words : ℕ → ℕ → ℕ) (root : ℕ) (above : List Step) (leaf : ℕ) : Type 0 where
   pub all : change (pairs words root) ≡ whole words above (change (items_of (words leaf)))
   pub tree : IsTreeAt 0 (minimum_at above 0) page_state words leaf
@@ -142,7 +142,7 @@ without_leaf k page_state words root above leaf way for is_leaf =
       pairs_rise = subst IsRising (sym is) tree.below.rising;
     }
 
--- how a change of a tree follows from one of its leaf's items
+-- how a change of a tree follows from a change of its leaf's items
 module _ (change : List Pair → List Pair) (rises : (xs : List Pair) → IsRising xs → IsRising (change xs)) (page_state : ℕ → PageState) (words : ℕ → ℕ → ℕ) (root : ℕ) (above : List Step) (leaf : ℕ) (cut : Cut) (more : List Pair)
     (leafy : ChangesLeaf change page_state words root above leaf) (is : change (items_of (words leaf)) ≡ spliced cut (items_of (words leaf)) more) where
   pub all_is : change (pairs words root) ≡ whole words above (spliced cut (items_of (words leaf)) more)
@@ -151,7 +151,7 @@ module _ (change : List Pair → List Pair) (rises : (xs : List Pair) → IsRisi
   pub all_rise : IsRising (whole words above (spliced cut (items_of (words leaf)) more))
   all_rise = subst IsRising all_is (rises (pairs words root) leafy.pairs_rise)
 
--- how many items there then are
+-- how many items there are then
 pub length_spliced : (cut : Cut) (items more : List Pair) → cut.at + cut.gone ≤ length items → length (spliced cut items more) + cut.gone ≡ length items + length more
 length_spliced cut items more in_range =
     omega (arith, in_range, length-append (take cut.at items) (more ++ drop (cut.at + cut.gone) items), length-append more (drop (cut.at + cut.gone) items), length-take-le cut.at items (omega (arith, in_range)), length-drop (cut.at + cut.gone) items)
@@ -194,7 +194,7 @@ module _ {S K : Type 0} (kept_of : S → K) (page_state_of : S → ℕ → PageS
       subst (λ ps. BecomesTree kept_of page_state_of words_of (pages (words_of start) root) ps new_root start new)
       (ap (λ n. whole (words_of start) above (pairs_below n (words_of read) (pairs_of (words_of read) given slots))) is_leaf ∙ hand_all) h
 
--- what a path says about a put, if its leaf has no pair with the key, and if it has one
+-- what a path says about a put, whether or not its leaf has a pair with the key
 pub record PutsAt (page_state : ℕ → PageState) (words : ℕ → ℕ → ℕ) (root : ℕ) (path : Path) (pair : Pair) (cut : Cut) : Type 0 where
   pub leafy : ChangesLeaf (put pair) page_state words root path.above.items path.leaf
   pub in_range : cut.at + cut.gone ≤ length (items_of (words path.leaf))

@@ -1,4 +1,4 @@
--- The items of unwritten nodes: as slots, and of one page or two neighbours under one parent.
+-- The items of unwritten nodes: as slots, and from one page or two neighbours under one parent.
 pub mod Slots
 pub mod PageStates
 pub mod SlotLists

@@ -1,4 +1,4 @@
--- A branch to a changed page is written above it.
+-- Writing the branch to a changed page above it.
 use Rattle.std.proofs.Common.{◌≡◌, ◌≢◌, ℕ, suc, ◌+◌, ◌-◌, ◌<◌, ◌≤◌, ◌^◌, ◌⊎◌, List, [], ◌∷◌, ◌++◌, Bool, true, length, get_or, take, drop, ap, sym, subst, ◌∙◌, refl, inl, inr, arith, length-append, length-drop}
 use Rattle.std.proofs.lemmas.List.{length-take-le}
 use Rattle.be_pages.specs.declared.room.PageState.{PageState}

@@ -1,4 +1,4 @@
--- Taking a key out of a tree, and giving up a tree.
+-- Removing a key from a tree, and giving up a tree.
 pub mod Removes
 pub mod Rests
 pub mod Clears

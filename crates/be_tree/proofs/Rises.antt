@@ -1,4 +1,4 @@
--- A page of a tree that has become another one, and how those above it change.
+-- A page of a tree that has become another page, and how the pages above it change.
 use Rattle.std.proofs.Common.{◌≡◌, ℕ, suc, ◌+◌, ◌<◌, ◌≤◌, ◌⊎◌, List, [], ◌∷◌, ◌++◌, length, get_or, take, drop, IsTrue, ap, sym, subst, ◌∙◌, refl, inl, inr, arith}
 use Rattle.std.proofs.lemmas.Bool.{cases_lt}
 use Rattle.std.proofs.lemmas.List.{append-nil, length-take-le}
@@ -153,7 +153,7 @@ module _ (level least page at : ℕ) (page_state : ℕ → PageState) (words : �
           let old : StartsAt k (here ++ Z) = subst (λ A. StartsAt k (A ++ (here ++ Z))) none (subst (StartsAt k) old_parts starts) in
           subst (λ A. StartsAt k (A ++ (ps ++ Z))) (sym none) (starts_append k ps Z (keeps k (first_part k (item_at (words page) (item_place at)).key here Z named old)))
 
--- the smallest number of items of the page at the end of a path from a page
+-- the minimum number of items of the page at the end of a path from a page
 abbrev pub end_minimum : List Step → ℕ → ℕ
 end_minimum [] least = least
 end_minimum (step ∷ below) least = 6
@@ -165,7 +165,7 @@ around_is words page level step ps is up =
     ap (λ p. pairs_below (level_of (words p)) words (take step.at (items_of (words p))) ++ (ps ++ pairs_below (level_of (words p)) words (drop (suc step.at) (items_of (words p))))) is
     ∙ ap (λ n. pairs_below n words (take step.at (items_of (words page))) ++ (ps ++ pairs_below n words (drop (suc step.at) (items_of (words page))))) up
 
--- a page stays when something below it changes but keeps its lowest key
+-- a page is unchanged when something below it changes but keeps its lowest key
 pub record Stays {S K : Type 0} (kept_of : S → K) (page_state_of : S → ℕ → PageState) (words_of : S → ℕ → ℕ → ℕ) (level least page : ℕ) (ps : List Pair) (start now : S) : Type 0 where
   pub node : BecomesNode kept_of page_state_of words_of (pages_at level (words_of start) page) level least page start now
   pub pairs_are : pairs_at level (words_of now) page ≡ ps

@@ -89,7 +89,7 @@ module _ {S K : Type 0} (kept_of : S → K) (page_state_of : S → ℕ → PageS
       let after = pages_below level (words_of mid) (pairs_of (words_of mid) given slots) in
       (kept_after kept_of page_state_of words_of before after was start mid h.node.swaps was_tree.page_once was_tree.page_in_use, given_up_page kept_of page_state_of words_of before after was start mid h.node.swaps was_tree.page_once was_tree.page_in_use)
 
-  -- and what writing it makes
+  -- and what writing it produces
   pub alone_settled : (us : List Pair) (new : S) → Becomes kept_of page_state_of words_of (was ∷ pages_below level (words_of mid) (pairs_of (words_of mid) given slots)) (pairs_below level (words_of mid) (pairs_of (words_of mid) given slots)) (suc level) us mid new
       → Becomes kept_of page_state_of words_of (pages_below (suc level) (words_of start) (items_of (words_of start step.page))) (beside (suc level) (words_of start) step (pairs_below level (words_of mid) (pairs_of (words_of mid) given slots))) (suc level)
       (spliced (record { at = step.at; gone = 1 }) (items_of (words_of start step.page)) us) start new
@@ -142,7 +142,7 @@ module _ {S K : Type 0} (kept_of : S → K) (page_state_of : S → ℕ → PageS
         (left_parts ∙ ap (λ p. pairs_below (suc level) (words_of start) (take i (items_of (words_of start step.page))) ++ ((pairs_at level (words_of start) p ++ pairs_below level (words_of mid) (pairs_of (words_of mid) given slots)) ++ pairs_below (suc level) (words_of start) (drop (i + 2) (items_of (words_of start step.page))))) (sym l_is))
         h.rising joined
 
-  -- the first of which is the child
+  -- two neighbours, the first of which is the child
   module _ (r : ℕ) (lt : step.at + 2 ≤ words_of start step.page 1) (r_is : r ≡ child (item_at (words_of start step.page) (item_place (step.at + 1)))) where
     pub right_neighbours : AreNeighbours level (page_state_of start) (words_of start) was r
     right_neighbours = two_neighbours (suc level) level 2 step.page (page_state_of start) (words_of start) refl h.tree step.at lt was r (sym h.is_child) r_is

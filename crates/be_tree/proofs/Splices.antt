@@ -1,4 +1,4 @@
--- Pages' items while one page's words are written.
+-- The items of pages while the words of one page are written.
 use Rattle.std.proofs.Common.{◌≡◌, ◌≢◌, ℕ, ◌+◌, ◌-◌, ◌<◌, ◌≤◌, ◌⊎◌, ◌==◌, if◌then◌else◌, IsTrue, List, [], ◌++◌, length, map, take, drop, get_or, ap, sym, subst, ◌∙◌, inl, inr, refl, arith, length-append, length-drop}
 use Rattle.std.proofs.lemmas.Bool.{cases_eq, cases_lt}
 use Rattle.std.proofs.lemmas.Bool.Decides.{nat_tests}
@@ -78,7 +78,7 @@ module _ {S K : Type 0} (kept_of : S → K) (page_state_of : S → ℕ → PageS
     | inr ne ↦ (ap (λ u. item_at u place) (only.others from ne), subst (λ u. IsItem u place) (sym (only.others from ne)) item)
   ]
 
-  -- words are written after others
+  -- words are written after other words
   pub only_then : (a b x y : ℕ) (new : S) → OnlyWrites kept_of page_state_of words_of page a b now new → x ≤ lo → x ≤ a → hi ≤ y → b ≤ y → OnlyWrites kept_of page_state_of words_of page x y old new
   only_then a b x y new more xlo xa hiy by = record {
     kept = more.kept ∙ only.kept;
@@ -100,13 +100,13 @@ module _ (page : ℕ) (s t : ℕ → PageState) (v w : ℕ → ℕ → ℕ) (sta
   off_pair given (Branch child) off = branch_same v w child (words child off)
   off_pair given New off = refl
 
--- a page that was free isn't a ready slot's
+-- a page that was free isn't the page of a ready slot
 pub off_free : (page : ℕ) (s : ℕ → PageState) (v : ℕ → ℕ → ℕ) (slot : Slot) → s page ≡ Free → IsReady s v slot → IsOff page slot
 off_free page s v (At at from) free ready = λ e. false≢true (ap is_readable (sym free) ∙ ap (λ q. is_readable (s q)) (sym e) ∙ ready.0)
 off_free page s v (Branch child) free ready = λ e. false≢true (ap is_readable (sym free) ∙ ap (λ q. is_readable (s q)) (sym e) ∙ ready.0)
 off_free page s v New free ready = tt
 
--- a page after the room in a cut's place was filled
+-- a page after the room in place of a cut was filled
 module _ (u v w : ℕ → ℕ) (cut : Cut) (slots : List Slot) (f : Slot → Pair) (gap : HasGap u v cut (length slots)) (in_range : cut.at + cut.gone ≤ u 1)
     (stored : (k : ℕ) (d : Slot) → k < length slots → IsStored w (cut.at + k) (f (get_or slots k d)))
     (before : (j : ℕ) → j < item_place cut.at → w j ≡ v j) (after : (j : ℕ) → item_place (cut.at + length slots) ≤ j → w j ≡ v j) where

@@ -12,7 +12,7 @@ use Rattle.be_tree_reading.specs.Tree.{pairs}
 abbrev pub pairs_of_all : (words : ℕ → ℕ → ℕ) (roots : List ℕ) → List Pair
 pairs_of_all words roots = flat_map (λ root. pairs words root) roots
 
--- this many pairs are enough for a tree on this level: each branch of its root has at least 6 ^
+-- enough pairs for a tree whose root is on this level: each branch of the root has at least 6 ^
 -- level pairs
 abbrev pub CanBeHigh : (level count : ℕ) → Type 0
 CanBeHigh level count = (level ≡ 0) ⊎ (2 * 6 ^ level ≤ count)
@@ -26,11 +26,11 @@ abbrev pub in_hand : ℕ → (page_state : ℕ → PageState) → ℕ
 in_hand zero page_state = 0
 in_hand (suc n) page_state = one_of (is_taken (page_state n)) + in_hand n page_state
 
--- it holds at most `most` pages more than before
+-- the write holds at most `most` more pages than before
 abbrev pub TakesAtMost : ℕ → (old new : ℕ → PageState) → Type 0
 TakesAtMost most old new = (n : ℕ) → in_hand n new ≤ in_hand n old + most
 
--- it holds fewer than `most` pages more than before
+-- the write holds fewer than `most` more pages than before
 abbrev pub TakesFewer : ℕ → (old new : ℕ → PageState) → Type 0
 TakesFewer most old new = (n : ℕ) → in_hand n new < in_hand n old + most
 

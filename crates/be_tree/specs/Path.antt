@@ -18,13 +18,14 @@ use Rattle.be_tree_reading.specs.Tree.{Becomes, BecomesTree, IsTree, IsTreeAt, c
 use Rattle.be_tree_reading.specs.Tree.{minimum_of_root}
 use Rattle.be_tree_reading.specs.Tree.{pages, pages_at, pages_below, pairs, pairs_at, pairs_below}
 
--- a step of a path: one of an inner page's branches
+-- a step of a path: an inner page and one of its branches
 pub record IsStep (words : ℕ → ℕ → ℕ) (page : ℕ) (step : Step) : Type 0 where
   pub is_page : step.page ≡ page
   pub inner : 0 < level_of (words page)
   pub in_range : step.at < words page 1
 
--- from this page, each step's branch leads to the next step's page, and the last step's to `last`
+-- from this page, each step's branch leads to the next step's page, and the last step's branch to
+-- `last`
 abbrev pub IsWay : (words : ℕ → ℕ → ℕ) (page : ℕ) → List Step → (last : ℕ) → Type 0
 IsWay words page [] last = page ≡ last
 IsWay words page (step ∷ below) last = IsStep words page step
@@ -74,19 +75,19 @@ PutsInto kept_of page_state_of words_of root pair result old new =
     IfOk result (λ to. BecomesTree kept_of page_state_of words_of (pages (words_of old) root)
     (put pair (pairs (words_of old) root)) to old new)
 
--- a page's pairs, with these replacing the ones below a step
+-- a page's pairs, with these replacing those below a step
 abbrev pub around : (words : ℕ → ℕ → ℕ) → Step → List Pair → List Pair
 around words step ps =
     pairs_below (level_of (words step.page)) words (take step.at (items_of (words step.page)))
     ++ (ps ++ pairs_below (level_of (words step.page)) words
     (drop (suc step.at) (items_of (words step.page))))
 
--- a tree's pairs, with these replacing the ones below a path
+-- a tree's pairs, with these replacing those below a path
 abbrev pub whole : (words : ℕ → ℕ → ℕ) → List Step → List Pair → List Pair
 whole words [] ps = ps
 whole words (step ∷ below) ps = around words step (whole words below ps)
 
--- the smallest number of items of the page at the end of a path
+-- the minimum number of items of the page at the end of a path
 abbrev pub minimum_at : List Step → (level : ℕ) → ℕ
 minimum_at [] level = minimum_of_root level
 minimum_at (step ∷ below) level = 6
@@ -95,7 +96,8 @@ minimum_at (step ∷ below) level = 6
 abbrev pub KeepsMinimum : List Pair → List Pair → Type 0
 KeepsMinimum before after = (k : List ℕ) → StartsAt k before → StartsAt k after
 
--- the pages in use before have become those of a well-formed tree from this page on this level down
+-- the pages in use before have become those of a well-formed tree that starts at this page on this
+-- level
 pub record BecomesNode {S K : Type 0} (kept_of : S → K) (page_state_of : S → ℕ → PageState)
     (words_of : S → ℕ → ℕ → ℕ)
     (before : List ℕ) (level least : ℕ) (page : ℕ) (old new : S) : Type 0 where
@@ -117,7 +119,7 @@ pub record IsChanged {S K : Type 0} (kept_of : S → K) (page_state_of : S → �
       (pairs_at level (words_of now) changed.page)
   pub rising : IsRising (whole (words_of start) above (pairs_at level (words_of now) changed.page))
 
--- if slots replace a cut of a leaf, the leaf has enough items and the tree's keys ascend; if
+-- after slots replace a cut of a leaf, the leaf has enough items and the tree's keys ascend; if
 -- `same_minimum` is set, the first key is unchanged
 pub record IsEdit (words : ℕ → ℕ → ℕ) (above : List Step) (leaf : ℕ) (edit : Edit) (given : Pair)
     (slots : List Slot) : Type 0 where

@@ -16,7 +16,7 @@ use Rattle.be_tree.specs.Splicing.{spliced}
 use Rattle.be_tree_reading.specs.Tree.{Becomes, BecomesTree, IsTreeAt, child, pages, pages_below}
 use Rattle.be_tree_reading.specs.Tree.{pairs_below}
 
--- an inner page's pairs, with these replacing the ones below one of its items
+-- an inner page's pairs, with these replacing those below one of its items
 abbrev pub beside : (level : ℕ) (words : ℕ → ℕ → ℕ) → Step → List Pair → List Pair
 beside level words step ps =
     pairs_below level words (take step.at (items_of (words step.page)))
@@ -39,8 +39,8 @@ pub record IsChildInHand {S K : Type 0} (kept_of : S → K) (page_state_of : S �
   pub rising : IsRising (beside (suc level) (words_of start) step
       (pairs_below level (words_of now) (pairs_of (words_of now) given slots)))
 
--- what was below the step's page has become what is below its items with other branches among them,
--- which have these pairs
+-- what was below the step's page has become what is below its items, some of which are now other
+-- branches; together they have these pairs
 pub record IsSettled {S K : Type 0} (kept_of : S → K) (page_state_of : S → ℕ → PageState)
     (words_of : S → ℕ → ℕ → ℕ)
     (step : Step) (level : ℕ) (given : Pair) (all : List Pair) (settled : Settled) (start now : S) :
@@ -79,7 +79,7 @@ pub record IsAbove {S K : Type 0} (kept_of : S → K) (page_state_of : S → ℕ
   pub few : length slots ≤ 13
   pub some : 0 < length above → 5 ≤ length slots
 
--- the tree is whole and has these pairs; or the page above is an unwritten node in turn, which
+-- either the tree is complete and has these pairs, or the page above is now an unwritten node that
 -- makes a tree with them
 abbrev pub IsTurned : {S K : Type 0} → (S → K) → (S → ℕ → PageState) → (S → ℕ → ℕ → ℕ) → (root : ℕ)
     (above : List Step) (given : Pair) (all : List Pair) → Turn → (start now : S) → Type 0
@@ -90,8 +90,8 @@ IsTurned kept_of page_state_of words_of root above given all (Above page slots) 
     slots.items
     all start now
 
--- how many pages are taken until an unwritten node at the end of this many steps is settled: two if
--- the page above is now unwritten, otherwise also one for each step
+-- how many pages are taken until an unwritten node at the end of this many steps is settled: two,
+-- plus one for each step unless the page above is now unwritten
 abbrev pub taken_for : Turn → (steps : ℕ) → ℕ
 taken_for (Whole new) steps = steps + 2
 taken_for (Above page slots) steps = 2

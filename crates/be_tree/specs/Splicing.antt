@@ -1,4 +1,4 @@
--- A page's items, some of which are replaced by others.
+-- A page's items, some of which are replaced with others.
 use Rattle.std.specs.Prelude.{◌≡◌, ◌≢◌, ℕ, ◌+◌, ◌<◌, ◌≤◌, List, [], ◌∷◌, ◌++◌, length, take, drop}
 use Rattle.std.specs.Prelude.{All, IsTrue}
 use Rattle.be_pages.specs.declared.room.PageState.{PageState}
@@ -10,7 +10,7 @@ use Rattle.be_tree_reading.specs.Pair.{Pair}
 use Rattle.be_tree_reading.specs.Page.{IsPage, IsPairAt, item_at, item_place, items_of, level_of}
 use Rattle.be_tree.specs.Slot.{IsOff, IsReady, pairs_of}
 
--- a list with others replacing a cut
+-- a list in which others replace a cut
 abbrev pub spliced : {A : Type 0} → Cut → List A → List A → List A
 spliced cut xs more = take cut.at xs ++ (more ++ drop (cut.at + cut.gone) xs)
 
@@ -32,7 +32,7 @@ abbrev pub WritesItems : {S K : Type 0} → (S → K) → (S → ℕ → PageSta
 WritesItems kept_of page_state_of words_of page from to old new =
     OnlyWrites kept_of page_state_of words_of page (item_place from) (item_place to) old new
 
--- a page has another's items, with room for `more` in a cut's place
+-- a page has another's items, with room for `more` in place of a cut
 pub record HasGap (from to : ℕ → ℕ) (cut : Cut) (more : ℕ) : Type 0 where
   pub same_level : to 0 ≡ from 0
   pub count : to 1 + cut.gone ≡ from 1 + more
@@ -59,7 +59,7 @@ pub record CanBeSpliced (page_state : ℕ → PageState) (words : ℕ → ℕ �
   pub off : All (IsOff page) slots
   pub key_fits : length given.key ≤ 264
 
--- a page has become one that has these slots' items in a cut's place
+-- a page has become one that has these slots' items in place of a cut
 pub record IsSpliced {S K : Type 0} (kept_of : S → K) (page_state_of : S → ℕ → PageState)
     (words_of : S → ℕ → ℕ → ℕ)
     (page : ℕ) (cut : Cut) (given : Pair) (slots : List Slot) (to : ℕ) (old new : S) : Type 0 where

@@ -18,21 +18,21 @@ abbrev pub AreReady : (page_state : ℕ → PageState) (words : ℕ → ℕ → 
 AreReady page_state words given slots = All (IsReady page_state words) slots
     × (length given.key ≤ 264)
 
--- and what is below its items is well formed
+-- as in `AreReady`, and what is below the items is well formed
 abbrev pub IsWritable : {S : Type 0} → (S → ℕ → PageState) → (S → ℕ → ℕ → ℕ) → (now : S)
     → (level : ℕ) (given : Pair) → List Slot → Type 0
 IsWritable page_state_of words_of now level given slots =
     IsBelow level (page_state_of now) (words_of now) (pairs_of (words_of now) given slots)
     × AreReady (page_state_of now) (words_of now) given slots
 
--- a page that is in use, but not below the node
+-- a page that is in use but not below the node
 abbrev pub IsApart : {S : Type 0} → (S → ℕ → PageState) → (S → ℕ → ℕ → ℕ) → (now : S)
     → (level : ℕ) (given : Pair) → List Slot → (page : ℕ) → Type 0
 IsApart page_state_of words_of now level given slots page =
     IsTrue (is_kept (page_state_of now page)) ×
     (times page (pages_below level (words_of now) (pairs_of (words_of now) given slots)) ≡ 0)
 
--- two different such pages
+-- two different pages that are in use but not below the node
 abbrev pub AreApart : {S : Type 0} → (S → ℕ → PageState) → (S → ℕ → ℕ → ℕ) → (now : S)
     → (level : ℕ) (given : Pair) → List Slot → (left right : ℕ) → Type 0
 AreApart page_state_of words_of now level given slots left right =
@@ -58,7 +58,7 @@ Packs kept_of page_state_of words_of level given slots pages result old new =
     IfOk result (λ branches. Replaces kept_of page_state_of words_of level given slots pages
     (pairs_of (words_of new) given branches.items) old new)
 
--- or they have become a tree's pages, with this root
+-- as in `Replaces`, but they have become the pages of a tree with this root
 abbrev pub ReplacesTree : {S K : Type 0} → (S → K) → (S → ℕ → PageState) → (S → ℕ → ℕ → ℕ)
     → (level : ℕ) (given : Pair) → List Slot → (page root : ℕ) → S → S → Type 0
 ReplacesTree kept_of page_state_of words_of level given slots page root old new =
@@ -67,7 +67,7 @@ ReplacesTree kept_of page_state_of words_of level given slots page root old new 
     (pairs_below level (words_of old) (pairs_of (words_of old) given slots)) root old new
 
 -- If a write is refused, undoing it restores what was there when it began, and no page was left to
--- take. The write holds at most `most` pages more than before, and fewer if it is refused.
+-- take. The write holds at most `most` more pages than before, and fewer if it is refused.
 abbrev pub Refuses : {S K A : Type 0} → (S → K) → (S → ℕ → PageState) → (S → ℕ → ℕ → ℕ)
     → (full : S → ℕ → Type 0) → (most : ℕ) → Result A Refusal → S → S → Type 0
 Refuses kept_of page_state_of words_of full most result old new =

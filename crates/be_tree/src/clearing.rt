@@ -7,9 +7,9 @@ ghost use Rattle.be_tree_reading.specs.Tree.{IsTree, IsTreeAt, pages, pages_at, 
 use be_pages::Room;
 use be_tree_reading::{HEADER_WORDS, ITEM_WORDS, child_at};
 
-/// Gives up each page of a tree. A page that was there when the write began keeps its words until
-/// the write is kept, so undoing the write brings the tree back. It gives each page up once, reads
-/// the inner pages, and takes none.
+/// Gives up each page of a tree. A page that existed when the write began keeps its words until the
+/// write is kept, so undoing the write restores the tree. It gives up each page once, reads the
+/// inner pages, and takes no pages.
 pub fn clear<R: Room>(room: &mut R, root: u64)
     requires tree { IsTree (R.page_state room.old) (R.words room.old) root }
     requires open { IsTrue (R.is_open (R.kept room.old)) }

@@ -1,4 +1,4 @@
-//! How many pages trees have, and how high they are.
+//! How many pages trees have, and how many levels.
 //!
 //! Each page except a root has at least six items, so a tree has few pages. These functions are
 //! laws: their bodies are empty, and their contracts are the laws.
@@ -12,14 +12,14 @@ ghost use Rattle.be_tree_reading.specs.Tree.{IsTree, level_of_root, pages, pairs
 
 use be_pages::Look;
 
-/// A tree has at most one page for each five of its pairs, and one more for the remaining pairs.
+/// A tree has at most one page per five of its pairs, plus one for the remainder.
 pub fn tree_pages()
     ensures { (page_state : ℕ → AnyPageState) (words : ℕ → ℕ → ℕ) (root : ℕ)
         → IsTree page_state words root → 5 * length (pages words root) ≤ length (pairs words root)
         + 4 }
 {}
 
-/// The same for several trees, each of which may have remaining pairs.
+/// The same bound for several trees, each of which may have a remainder.
 pub fn forest_pages()
     ensures { (page_state : ℕ → AnyPageState) (words : ℕ → ℕ → ℕ) (roots : List ℕ)
         → AreTrees page_state words roots
@@ -27,8 +27,7 @@ pub fn forest_pages()
         + 4 * length roots }
 {}
 
-/// A tree has a level only if it has enough pairs: a leaf, or at least two times 6 to the power of
-/// the level.
+/// A tree whose root is above the leaves, on level n, has at least 2 * 6^n pairs.
 pub fn tree_level()
     ensures { (page_state : ℕ → AnyPageState) (words : ℕ → ℕ → ℕ) (root : ℕ)
         → IsTree page_state words root → CanBeHigh (level_of_root words root)
@@ -43,8 +42,8 @@ pub fn takes_add()
         → TakesFewer (a + b) s u }
 {}
 
-/// If pages in use are replaced, a write gets at most as many more pages as are then in use. If all
-/// pages that it held were among those in use, they still are.
+/// If pages in use are replaced, the number of pages that a write gains is at most the number in
+/// use afterwards. If all pages that the write held were among those in use, they still are.
 pub fn swaps_take<L: Look>()
     ensures takes { (before after : List ℕ) (old new : L)
         → Swaps L.kept L.page_state L.words before after old new
@@ -54,7 +53,7 @@ pub fn swaps_take<L: Look>()
         → HasInHand (L.page_state old) before → HasInHand (L.page_state new) after }
 {}
 
-/// A write holds at most as many pages as a list that has them all.
+/// A write holds no more pages than a list that contains them all.
 pub fn few_in_hand()
     ensures { (page_state : ℕ → AnyPageState) (ps : List ℕ) → HasInHand page_state ps → (n : ℕ)
         → in_hand n page_state ≤ length ps }

@@ -1,10 +1,11 @@
-//! Puts a pair into a tree.
+//! Inserts a pair into a tree.
 //!
 //! # Full pages
-//! A full leaf shares items with its left neighbour, which takes all that it can hold. If that one
-//! is full too, the leaf is split. The first of the two pages takes as many items as leave six for
-//! the second. A page above that gets one branch too many does the same. So ascending keys produce
-//! full pages. An insertion writes at most two pages per level, and three at the root.
+//! A full leaf shares its items with its left neighbour, which takes all that it can hold. If the
+//! neighbour is full too, the leaf is split. The first of the two pages takes all that it can hold,
+//! but leaves at least six items for the second. An inner page that gains one branch too many is
+//! treated the same way. So ascending keys produce full pages. An insertion writes at most two
+//! pages per level, and three at the root.
 ghost use Rattle.std.specs.Prelude.{◌+◌, ◌≤◌, length, IfOk, OnErr, IfErr, IsTrue};
 ghost use Rattle.be_pages.specs.Pages.{KeepsStart};
 ghost use Rattle.be_pages.specs.Refusal.{IsFullOf};
@@ -20,9 +21,9 @@ use crate::writing::write_first_root;
 use be_pages::Room;
 use be_value::Refusal;
 
-/// Puts a pair into a tree, replacing any pair with its key, and returns the new root. The old
-/// tree's pages that the new one doesn't have are given up; those that this write had taken before
-/// may be overwritten. After an error, undoing the write brings the tree back.
+/// Inserts a pair into a tree, replacing any pair with the same key, and returns the new root. The
+/// old tree's pages that the new one doesn't share are given up; those that this write had taken
+/// earlier may be overwritten. After an error, undoing the write restores the tree.
 pub fn insert<R: Room>(room: &mut R, root: u64, key: &[u8], payload: &[u8]) -> Result<u64, Refusal>
     requires tree { IsTree (R.page_state room.old) (R.words room.old) root }
     requires key_fits { length key.now ≤ 264 }

@@ -1,4 +1,4 @@
-//! Puts a pair where a path leads.
+//! Inserts a pair where a path leads.
 ghost use Rattle.std.specs.Prelude.{◌≡◌, ◌≤◌, IsTrue, Ok, Err, length};
 ghost use Rattle.be_tree.specs.Counting.{most_taken};
 ghost use Rattle.be_tree.specs.Path.{IsPathFor, IsPathTo, PutsInto};
@@ -16,7 +16,7 @@ use arrayvec::ArrayVec;
 use be_pages::Room;
 use be_tree_reading::MOST_ITEMS;
 
-/// Puts a pair where a path to its key leads, and returns the new root.
+/// Inserts a pair where a path to its key leads, and returns the new root.
 pub(crate) fn put_on<R: Room>(room: &mut R, root: u64, path: &Path, pair: &Item) -> NewRoot
     requires path { IsPathTo (R.page_state room.old) (R.words room.old) root pair.now.key path.now }
     requires key_fits { length pair.now.key ≤ 264 }
@@ -46,7 +46,7 @@ fn put_over<R: Room>(room: &mut R, root: u64, path: &Path, at: usize, pair: &Ite
     change_leaf(room, root, path, edit, &[Slot::New], pair)
 }
 
-/// Puts a pair between two others, if no pair has its key.
+/// Inserts a pair between two others if no pair has its key.
 fn put_in<R: Room>(room: &mut R, root: u64, path: &Path, at: usize, pair: &Item) -> NewRoot
     requires path { IsPathFor R.page_state R.words room.old root pair.now path.now (Err at) }
     requires open { IsTrue (R.is_open (R.kept room.old)) }
@@ -64,7 +64,7 @@ fn put_in<R: Room>(room: &mut R, root: u64, path: &Path, at: usize, pair: &Item)
     change_leaf(room, root, path, edit, &[Slot::New], pair)
 }
 
-/// Puts a pair into a full leaf.
+/// Inserts a pair into a full leaf.
 #[inline(never)]
 fn overflow<R: Room>(room: &mut R, root: u64, path: &Path, at: usize, pair: &Item) -> NewRoot
     requires path { IsPathFor R.page_state R.words room.old root pair.now path.now (Err at) }

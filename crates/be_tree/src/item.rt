@@ -27,7 +27,7 @@ impl Model for Item {
 }
 
 impl Item {
-    /// The item of a key and a payload.
+    /// Creates the item of a key and a payload.
     pub(crate) fn new(key: &[u8], payload: &[u8]) -> Item
         requires { length key.now + length payload.now ≤ 328 }
         ensures key { result.key ≡ key.now }
@@ -57,7 +57,7 @@ impl Item {
         &self.bytes[self.key_len..]
     }
 
-    /// The key, and the payload after it.
+    /// The key followed by the payload.
     pub(crate) fn bytes(&self) -> &[u8]
         ensures value { result.now ≡ self.now.key ++ self.now.payload }
         ensures fits { length result.now ≤ 328 }
@@ -72,7 +72,7 @@ impl Item {
         self.key_len
     }
 
-    /// The page of a branch.
+    /// The page to which a branch leads.
     #[tactic(auto, unfolding(be_tree_reading::specs::Tree::child))]
     pub(crate) fn child(&self) -> u64
         requires { length self.now.payload ≡ 8 }

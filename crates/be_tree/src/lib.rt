@@ -1,23 +1,23 @@
 //! Copy-on-write B+trees over pages of words.
 //!
-//! # Who has the pages
-//! be_tree_reading says what a tree is, and be_pages what a page is for a reader (`Look`) and for a
-//! write (`Room`). A tree reads words through the one, and takes, fills and gives up pages through
-//! the other. So trees work the same in a test's vector and in the shared table, and nothing here
-//! knows about versions or other threads.
+//! # Who owns the pages
+//! be_tree_reading defines what a tree is, and be_pages what a page is for a reader (`Look`) and
+//! for a write (`Room`). A tree reads words through `Look`, and takes, fills and gives up pages
+//! through `Room`. So trees work the same way in a test's vector and in the shared table, and
+//! nothing here knows about versions or other threads.
 //!
 //! # How a tree changes
-//! `insert` and `remove` go down to a leaf, write it and the pages above it, and return the root of
-//! a new tree. The new tree shares all other pages with the old one. A page that was there when the
-//! write began isn't changed: its node is written to a page that is taken for it, and the old one
-//! is given up. A page that the write has taken before is overwritten in place, so a second change
-//! nearby usually takes no page. `clear` gives up each page of a tree.
+//! `insert` and `remove` descend to a leaf, write it and the pages above it, and return the root of
+//! a new tree. The new tree shares all other pages with the old one. A page that existed when the
+//! write began isn't changed: its node is written to a newly taken page, and the old page is given
+//! up. A page that the write has already taken is overwritten in place, so a second change nearby
+//! usually takes no page. `clear` gives up each page of a tree.
 //!
 //! # What is proved
-//! `insert`, `remove` and `clear` are put, removal and the empty list, on the list that
-//! be_tree_reading decodes from the words. The old tree's pages that the new one doesn't have are
-//! given up. Those that only the new one has were taken, and no other page has changed. `laws` says
-//! what follows for other trees in the same pages.
+//! On the list that be_tree_reading decodes from the words, `insert` puts a pair, `remove` removes
+//! one, and `clear` leaves the empty list. The old tree's pages that the new tree doesn't share are
+//! given up. Those that only the new tree has were taken, and no other page has changed. `laws`
+//! says what follows for other trees in the same pages.
 #![tactic(auto)]
 
 mod clearing;

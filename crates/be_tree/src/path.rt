@@ -1,7 +1,7 @@
 //! The path down to a key.
 //!
-//! A change goes down a tree once. It keeps the page on each level and the branch that it took
-//! there, so it goes up again without another search.
+//! A change descends a tree once. It keeps the page and the branch taken on each level, so it can
+//! go up again without another search.
 ghost use Rattle.std.specs.Prelude.{◌≡◌, ◌<◌, [], IfOk, IfErr, IsTrue};
 ghost use Rattle.std.specs.declared.cmp.Ordering.TheVariants.{Equal};
 ghost use Rattle.be_pages.specs.Pages.{IsUnchanged, is_readable};
@@ -37,12 +37,13 @@ pub(crate) struct Path {
     pub(crate) above: ArrayVec<Step, 13>,
     /// The leaf's page.
     pub(crate) leaf: u64,
-    /// The number of the leaf's item that has the key, or how many items have lower keys.
+    /// `Ok` with the number of the leaf's item that has the key, or `Err` with the number of items
+    /// that have lower keys.
     pub(crate) place: Result<usize, usize>,
 }
 
 impl Path {
-    /// An empty path, to be filled.
+    /// Creates an empty path, to be filled.
     pub(crate) fn new() -> Path
         ensures { result.above.items ≡ [] }
     {
@@ -54,11 +55,11 @@ impl Path {
     }
 }
 
-/// A changed tree's root, or why the tree wasn't changed.
+/// The root of a changed tree, or the reason why the tree wasn't changed.
 pub(crate) type NewRoot = Result<u64, Refusal>;
 
-/// The place of a key among a page's items: the number of the item that has it, or how many have
-/// lower keys.
+/// Returns `Ok` with the number of the item that has the key, or `Err` with the number of items
+/// that have lower keys.
 fn search_number<L: Look>(look: &mut L, page: u64, key: &[u8], first: u64) -> Result<usize, usize>
     requires readable { IsTrue (is_readable (L.page_state look.old page)) }
     requires page { IsPage (L.words look.old page) }
@@ -75,7 +76,7 @@ fn search_number<L: Look>(look: &mut L, page: u64, key: &[u8], first: u64) -> Re
     }
 }
 
-/// Goes down to a key in a tree that isn't empty, and keeps the path in `path`, which has to be
+/// Descends to a key in a tree that isn't empty, and records the path in `path`, which must be
 /// empty. It costs one descent.
 pub(crate) fn find_path<L: Look>(look: &mut L, root: u64, key: &[u8], path: &mut Path)
     requires tree { IsTree (L.page_state look.old) (L.words look.old) root }

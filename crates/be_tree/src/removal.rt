@@ -1,13 +1,13 @@
-//! Takes a key out of a tree.
+//! Removes a key from a tree.
 //!
 //! # Neighbours
 //! A page that is left with fewer than six items is rewritten together with a neighbour under the
-//! same parent. That is the next page if there is one. The items of both go to one page if they
-//! fit, otherwise to two. So no page is left with too few items, and thin pages are joined. A
-//! removal writes at most two pages per level.
+//! same parent. The neighbour is the next page if there is one. The items of both go to one page if
+//! they fit, otherwise to two. So no page is left with too few items, and sparse pages are merged.
+//! A removal writes at most two pages per level.
 //!
 //! # Absent keys
-//! Nothing is written on the way down, so if the leaf doesn't have the key, nothing has changed.
+//! Nothing is written on the way down, so if the key isn't in the leaf, nothing has changed.
 ghost use Rattle.std.specs.Prelude.{◌≡◌, IfOk, OnErr, IfErr, IsTrue, None, Ok};
 ghost use Rattle.be_pages.specs.Pages.{IsUnchanged, KeepsStart};
 ghost use Rattle.be_pages.specs.Refusal.{IsFullOf};
@@ -20,8 +20,8 @@ use crate::taking::take_out;
 use be_pages::Room;
 use be_value::Refusal;
 
-/// Takes a key out of a tree, and returns the new root. An absent key gives the same root and takes
-/// no page. After an error, undoing the write brings the tree back.
+/// Removes a key from a tree, and returns the new root. If the key is absent, the root is the same
+/// and no page is taken. After an error, undoing the write restores the tree.
 pub fn remove<R: Room>(room: &mut R, root: u64, key: &[u8]) -> Result<u64, Refusal>
     requires tree { IsTree (R.page_state room.old) (R.words room.old) root }
     requires open { IsTrue (R.is_open (R.kept room.old)) }

@@ -1,8 +1,8 @@
-//! Changes the pages above a changed page, as far as necessary.
+//! Changes the pages above a changed page as far as necessary.
 //!
-//! A page that is copied gets another number, so the branch to it changes. If a page's lowest key
-//! changes, the branch above has to have the new key. If neither happens, the pages above stay as
-//! they are.
+//! A page that is copied gets a new number, so the branch to it changes. If a page's lowest key
+//! changes, the branch above it must get the new key. If neither happens, the pages above are left
+//! unchanged.
 ghost use Rattle.std.specs.Prelude.{◌≡◌, ◌+◌, ◌<◌, ◌⊎◌, IfOk, IsTrue, length, true};
 ghost use Rattle.be_tree_reading.specs.Page.{items_of, level_of};
 ghost use Rattle.be_tree.specs.Path.{IsChanged, IsEdit, IsWayIn, whole};
@@ -23,23 +23,23 @@ use be_value::Refusal;
 pub(crate) struct Changed {
     /// The page before the change.
     pub(crate) was: u64,
-    /// The page that now has the items: the same one, or its copy.
+    /// The page that now has the items: the same page, or its copy.
     pub(crate) page: u64,
     /// Whether the lowest key below it is known to be unchanged.
     pub(crate) same_minimum: bool,
 }
 
-/// Whether the lowest key below a page is known to be unchanged, after the child of branch `at` was
-/// changed.
+/// Returns `true` if the lowest key below a page is known to be unchanged after the child of branch
+/// `at` was changed.
 fn keeps_minimum(child: Changed, at: usize) -> bool
     ensures { result ≡ true → (0 < at) ⊎ (child.same_minimum ≡ true) }
 {
     child.same_minimum || at > 0
 }
 
-/// Writes the branches to a changed page and to those above it that change with it, the lowest
-/// first, and returns the new root. If a page was changed in place and keeps its lowest key,
-/// nothing above it changes.
+/// Writes the branch to a changed page, then, from the bottom up, the branches to the pages above
+/// that change with it, and returns the new root. If a page was changed in place and its lowest key
+/// is the same, nothing above it changes.
 pub(crate) fn rise<R: Room>(
     room: &mut R,
     root: u64,
@@ -86,14 +86,14 @@ pub(crate) fn rise<R: Room>(
 }
 
 /// Which items of a leaf are left out, and whether its first key is known to be unchanged after
-/// others were put in their place.
+/// others replace them.
 #[derive(Clone, Copy)]
 pub(crate) struct Edit {
     pub(crate) cut: Cut,
     pub(crate) same_minimum: bool,
 }
 
-/// Replaces a cut of the leaf at the end of a path by slots, and returns the new root.
+/// Replaces a cut of the leaf at the end of a path with slots, and returns the new root.
 pub(crate) fn change_leaf<R: Room>(
     room: &mut R,
     root: u64,

@@ -1,11 +1,11 @@
-//! Settles nodes that have too many or too few items: such a node is split, or shares items with a
-//! neighbour, or joins one.
+//! Settles nodes that have too many or too few items: such a node is split, shares items with a
+//! neighbour, or is merged with one.
 //!
 //! If a node has thirteen items and its left neighbour has room, the items of both are written
 //! together. The neighbour takes all that it can hold. If it has no room, the node is split. If a
-//! node has five items, they are written together with those of a neighbour, the next one if there
-//! is one. They go to one page if they fit, otherwise to two. So the page above gets one branch
-//! more or fewer, or as many as before, and may itself become too large or too small.
+//! node has five items, they are written together with those of a neighbour, which is the next one
+//! if there is one. They go to one page if they fit, otherwise to two. As a result the page above
+//! may gain or lose a branch, and may itself become too large or too small.
 ghost use Rattle.std.specs.Prelude.{◌≡◌, ◌≤◌, ◌+◌, ◌-◌, ◌<◌, ◌⊎◌, ◌++◌, suc, take, drop};
 ghost use Rattle.std.specs.Prelude.{length, true, IfOk, IsTrue};
 ghost use Rattle.be_pages.specs.Pages.{IsUnchanged, is_readable};
@@ -41,7 +41,8 @@ pub(crate) struct Settled {
 /// How an unwritten node was settled, or why it wasn't.
 type Settling = Result<Settled, Refusal>;
 
-/// Writes an unwritten node that is too large to two pages. Its page is the child at a step.
+/// Splits an unwritten node that is too large into two pages. The node's page is the child at a
+/// step.
 fn settle_split<R: Room>(room: &mut R, step: Step, was: u64, node: Node<'_>) -> Settling
     requires child { (start : R) × IsChildInHand R.kept R.page_state R.words step was node.level
         node.pair.now node.slots.now start room.old }
@@ -113,7 +114,7 @@ fn settle_right<R: Room>(room: &mut R, step: Step, was: u64, node: Node<'_>) -> 
     Ok(Settled { cut, branches })
 }
 
-/// Whether there is a child before the step's that has room for an item.
+/// Returns `true` if there is a child before the step's that has room for an item.
 fn left_has_room<R: Room>(room: &mut R, step: Step, was: u64, node: Node<'_>) -> bool
     requires child { (start : R) × IsChildInHand R.kept R.page_state R.words step was node.level
         node.pair.now node.slots.now start room.old }
@@ -129,7 +130,7 @@ fn left_has_room<R: Room>(room: &mut R, step: Step, was: u64, node: Node<'_>) ->
     count_of(room, left) < MOST_ITEMS
 }
 
-/// Settles an unwritten node, whose page is the child at a step.
+/// Settles an unwritten node whose page is the child at a step.
 fn settle_child<R: Room>(room: &mut R, step: Step, was: u64, node: Node<'_>) -> Settling
     requires child { (start : R) × IsChildInHand R.kept R.page_state R.words step was node.level
         node.pair.now node.slots.now start room.old }
@@ -162,7 +163,7 @@ fn leave_one(slots: &mut ArrayVec<Slot, 24>, cut: Cut)
     }
 }
 
-/// The slots of a page's items, with others replacing a cut.
+/// Returns the slots of a page's items, with others replacing a cut.
 fn slots_with<L: Look>(look: &mut L, page: u64, settled: Settled) -> ArrayVec<Slot, 24>
     requires readable { IsTrue (is_readable (L.page_state look.old page)) }
     requires page { IsPage (L.words look.old page) }
@@ -191,7 +192,7 @@ fn insert_all(slots: &mut ArrayVec<Slot, 24>, at: usize, mut more: ArrayVec<Slot
     }
 }
 
-/// Replaces the slot at a place by others. If it is replaced by a single one, as usual, no other
+/// Replaces the slot at a place with others. If a single slot replaces it, as is usual, no other
 /// slot is moved.
 fn replace_at(slots: &mut ArrayVec<Slot, 24>, at: usize, mut more: ArrayVec<Slot, 2>)
     requires in_range { at < length slots.old.items }
@@ -210,7 +211,8 @@ fn replace_at(slots: &mut ArrayVec<Slot, 24>, at: usize, mut more: ArrayVec<Slot
     }
 }
 
-/// Whether a page may have this many items: a root needs two branches, any other page six items.
+/// Returns `true` if a page may have this many items: a root needs two branches, and any other page
+/// needs six items.
 fn fits(count: usize, is_root: bool) -> bool
     ensures most { result ≡ true → count ≤ 12 }
     ensures least { result ≡ true → 2 ≤ count }
@@ -225,13 +227,13 @@ fn fits(count: usize, is_root: bool) -> bool
 /// What happened to an unwritten node when it was settled.
 #[derive(Drop)]
 pub(crate) enum Turn {
-    /// The tree is whole, and has this root.
+    /// The tree is complete and has this root.
     Whole(u64),
-    /// The page above now has too many items or too few. These slots are to be written for it.
+    /// The page above now has too many or too few items. These slots are to be written for it.
     Above(u64, ArrayVec<Slot, 24>),
 }
 
-/// Settles an unwritten node that isn't the root, and writes what is above it if possible.
+/// Settles an unwritten node that isn't the root, and writes the pages above it if possible.
 fn settle_once<R: Room>(
     room: &mut R,
     root: u64,
@@ -276,7 +278,7 @@ fn settle_once<R: Room>(
     Ok(Turn::Above(step.page, slots))
 }
 
-/// Settles an unwritten node, and the pages above it that then have too many items or too few.
+/// Settles an unwritten node, and each page above it that is left with too many or too few items.
 /// Writes the other pages above, and returns the new root.
 #[inline(never)]
 pub(crate) fn settle<R: Room>(

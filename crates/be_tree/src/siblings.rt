@@ -7,7 +7,7 @@ use crate::slot::Slot;
 use arrayvec::ArrayVec;
 use be_pages::Look;
 
-/// A page's number of items.
+/// Returns the number of items on a page.
 pub(crate) fn count_of<L: Look>(look: &mut L, page: u64) -> usize
     requires readable { IsTrue (is_readable (L.page_state look.old page)) }
     requires page { IsPage (L.words look.old page) }

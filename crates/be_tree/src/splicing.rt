@@ -1,8 +1,8 @@
-//! Replaces some of a page's items by others.
+//! Replaces some of a page's items with others.
 //!
 //! A page that this write has taken is changed in place: the items after the cut are moved up or
-//! down, and the others stay. A page that was there when the write began keeps its words: its items
-//! are copied to a page that is taken for them, directly to their new places.
+//! down, and the others are left where they are. A page that existed when the write began keeps its
+//! words: its items are copied to a newly taken page, directly to their new places.
 ghost use Rattle.std.specs.Prelude.{◌≡◌, ℕ, ◌+◌, ◌^◌, ◌<◌, ◌≤◌, All, IsTrue, length};
 ghost use Rattle.std.specs.Prelude.{IfErr, IfOk, OnErr, slice_index_or};
 ghost use Rattle.be_pages.specs.declared.room.PageState.TheVariants.{Free, Taken, Filled};
@@ -58,7 +58,7 @@ fn copy_up<R: Room>(room: &mut R, page: u64, first: usize, at: usize, count: usi
     }
 }
 
-/// Moves items within a page, so that none is overwritten before it is copied.
+/// Moves items within a page, in an order in which none is overwritten before it is copied.
 fn move_items<R: Room>(room: &mut R, page: u64, first: usize, at: usize, count: usize)
     requires filled { R.page_state room.old page ≡ Filled }
     requires in_page { (at + count ≤ 12) × (first + count ≤ 12) }
@@ -74,14 +74,14 @@ fn move_items<R: Room>(room: &mut R, page: u64, first: usize, at: usize, count: 
     copy_down(room, page, first, page, at, count);
 }
 
-/// The items of a node that are left out: `gone` of them from number `at` on.
+/// The items of a node that are left out: `gone` of them, starting at number `at`.
 #[derive(Clone, Copy)]
 pub(crate) struct Cut {
     pub(crate) at: usize,
     pub(crate) gone: usize,
 }
 
-/// Moves the items after a cut, on a page that this write has taken, to make room for `more` items
+/// On a page that this write has taken, moves the items after a cut to make room for `more` items
 /// in the cut's place.
 fn open_here<R: Room>(room: &mut R, page: u64, cut: Cut, more: usize)
     requires filled { R.page_state room.old page ≡ Filled }
@@ -99,9 +99,9 @@ fn open_here<R: Room>(room: &mut R, page: u64, cut: Cut, more: usize)
     move_items(room, page, next, cut.at + more, rest);
 }
 
-/// Takes a page for the copy of a page on this level. From level 2 on, it asks for the page that
-/// this one was copied from, which has most of the words already. Lower pages have usually left the
-/// cache by then, so a page that was freed last is nearer.
+/// Takes a page to hold a copy of a page on this level. From level 2 up, it asks for the page that
+/// this one was copied from, most of whose words are the same. On lower levels, that page has
+/// usually left the cache by then, so the page that was freed last is more likely to be in it.
 fn take_copy<R: Room>(room: &mut R, page: u64, level: u64) -> Result<u64, Refusal>
     requires open { IsTrue (R.is_open (R.kept room.old)) }
     ensures page { IfOk result (λ copy. (copy < 2 ^ 32) × (R.page_state room.old copy ≡ Free)) }
@@ -118,8 +118,8 @@ fn take_copy<R: Room>(room: &mut R, page: u64, level: u64) -> Result<u64, Refusa
     room.take_like(page)
 }
 
-/// Copies a page to one that is taken for it, with room for `more` items in a cut's place, and
-/// returns the copy.
+/// Copies a page to a newly taken one, with room for `more` items in a cut's place, and returns the
+/// copy.
 fn open_copy<R: Room>(room: &mut R, page: u64, cut: Cut, more: usize) -> Result<u64, Refusal>
     requires in_use { IsTrue (is_kept (R.page_state room.old page)) }
     requires page { IsPage (R.words room.old page) }
@@ -144,7 +144,7 @@ fn open_copy<R: Room>(room: &mut R, page: u64, cut: Cut, more: usize) -> Result<
     Ok(copy)
 }
 
-/// Writes the items of slots one after another, from item number `at` of a page on.
+/// Writes the items of slots one after another, starting at item number `at` of a page.
 pub(crate) fn store_slots<R: Room>(room: &mut R, page: u64, at: usize, slots: &[Slot], pair: &Item)
     requires filled { R.page_state room.old page ≡ Filled }
     requires in_page { at + length slots.now ≤ 12 }
@@ -169,8 +169,8 @@ pub(crate) fn store_slots<R: Room>(room: &mut R, page: u64, at: usize, slots: &[
     }
 }
 
-/// Replaces a cut by slots. This happens on the page itself if this write has taken it, otherwise
-/// on a copy, and the page is given up. Returns the page that now has the items.
+/// Replaces a cut with slots. If this write has taken the page, it is changed in place; otherwise a
+/// copy is changed, and the page is given up. Returns the page that now has the items.
 pub(crate) fn splice<R: Room>(
     room: &mut R,
     page: u64,

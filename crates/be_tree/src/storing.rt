@@ -21,8 +21,8 @@ use arrayvec::ArrayVec;
 use be_pages::{Look, Room};
 use be_tree_reading::{HEADER_WORDS, ITEM_WORDS, LENGTH_BITS, word_from};
 
-/// Writes bytes into a page's words from a place on, eight per word, with zeros after the last
-/// byte. The page has a filled word.
+/// Writes bytes into a page's words from a place on, eight per word, and pads the last word with
+/// zeros. The page must have a filled word.
 pub(crate) fn store_bytes<R: Room>(room: &mut R, page: u64, at: usize, bytes: &[u8])
     requires filled { R.page_state room.old page ≡ Filled }
     requires in_page { at + words_for (length bytes.now) ≤ 512 }
@@ -59,7 +59,7 @@ pub(crate) fn store_item<R: Room>(room: &mut R, page: u64, at: usize, item: &Ite
 }
 
 /// Copies an item's words to this place of a page that has a filled word. Does nothing if the item
-/// is there already.
+/// is already there.
 #[inline(always)]
 pub(crate) fn copy_item<R: Room>(room: &mut R, page: u64, at: usize, from: u64, place: usize)
     requires filled { R.page_state room.old page ≡ Filled }
@@ -82,7 +82,7 @@ pub(crate) fn copy_item<R: Room>(room: &mut R, page: u64, at: usize, from: u64, 
     }
 }
 
-/// The first `skip` bytes of a word, followed by the first bytes of a number.
+/// Returns the first `skip` bytes of a word, followed by the first bytes of a number.
 #[inline(always)]
 fn joined(first: u64, number: u64, skip: usize) -> u64
     requires { (0 < skip) × (skip < 8) }
@@ -92,8 +92,8 @@ fn joined(first: u64, number: u64, skip: usize) -> u64
     (first >> (64 - 8 * skip) << (64 - 8 * skip)) + (number >> (8 * skip))
 }
 
-/// Writes the first `skip` bytes of a word, then a number in the next eight bytes. The rest of the
-/// last word is zeros.
+/// Writes the first `skip` bytes of a word, followed by the eight bytes of a number. The rest of
+/// the last word is filled with zeros.
 #[inline(always)]
 fn store_number<R: Room>(room: &mut R, page: u64, at: usize, first: u64, skip: usize, number: u64)
     requires filled { R.page_state room.old page ≡ Filled }
@@ -114,8 +114,8 @@ fn store_number<R: Room>(room: &mut R, page: u64, at: usize, first: u64, skip: u
     room.refill(page, at + 1, number << (64 - 8 * skip));
 }
 
-/// A word whose first `bytes` bytes are those of a page's word. If `bytes` is 0, the page isn't
-/// read.
+/// Returns a word whose first `bytes` bytes are those of a page's word. If `bytes` is 0, the page
+/// isn't read.
 #[inline(always)]
 fn begun_word<L: Look>(look: &mut L, page: u64, at: usize, bytes: usize) -> u64
     requires readable { IsTrue (is_readable (L.page_state look.old page)) }
@@ -173,7 +173,7 @@ pub(crate) fn store_slot<R: Room>(room: &mut R, page: u64, at: usize, slot: Slot
     }
 }
 
-/// Writes the slots for a page's items into an empty list.
+/// Fills an empty list with the slots of a page's items.
 pub(crate) fn fill_slots<L: Look>(look: &mut L, page: u64, slots: &mut ArrayVec<Slot, 24>)
     requires readable { IsTrue (is_readable (L.page_state look.old page)) }
     requires page { IsPage (L.words look.old page) }

@@ -1,4 +1,4 @@
-//! Takes out the item that a path leads to.
+//! Removes the item that a path leads to.
 ghost use Rattle.std.specs.Prelude.{◌≡◌, IsTrue, Ok, length};
 ghost use Rattle.be_tree.specs.Counting.{most_taken};
 ghost use Rattle.be_tree.specs.Path.{IsPathAt, TakesOut, minimum_at};
@@ -15,7 +15,8 @@ use arrayvec::ArrayVec;
 use be_pages::Room;
 use be_tree_reading::MINIMUM_ITEMS;
 
-/// Takes out the item that a path leads to, which has number `at`, and returns the new root.
+/// Removes the item that a path leads to, which is number `at` of its leaf, and returns the new
+/// root.
 pub(crate) fn take_out<R: Room>(
     room: &mut R,
     root: u64,
@@ -40,7 +41,7 @@ pub(crate) fn take_out<R: Room>(
     change_leaf(room, root, path, edit, &[], &none)
 }
 
-/// Takes an item out of a leaf that has only as many as it needs.
+/// Removes an item from a leaf that has only the minimum number of items.
 #[inline(never)]
 fn underflow<R: Room>(room: &mut R, root: u64, key: &[u8], path: &Path, at: usize) -> NewRoot
     requires path { IsPathAt R.page_state R.words room.old root key.now path.now (Ok at) }
@@ -56,7 +57,7 @@ fn underflow<R: Room>(room: &mut R, root: u64, key: &[u8], path: &Path, at: usiz
     settle(room, root, &path.above, path.leaf, slots, &none)
 }
 
-/// The smallest number of items of a leaf below these pages.
+/// Returns the minimum number of items of a leaf below these pages.
 fn minimum_of_leaf(above: &[Step]) -> usize
     ensures { result ≡ minimum_at above.now 0 }
 {

@@ -1,7 +1,7 @@
 //! Writes unwritten nodes to new pages.
 //!
-//! This is for nodes that have too many or too few items. Their items are on one page or on two,
-//! and go to one or two pages that are taken for them. The pages where they were are given up.
+//! Such a node has too many or too few items. The items are on one or two pages, and go to one or
+//! two newly taken pages. The pages where they were are given up.
 ghost use Rattle.std.specs.Prelude.{◌≡◌, ◌+◌, ◌-◌, ◌^◌, ◌<◌, ◌≤◌, [], ◌∷◌};
 ghost use Rattle.std.specs.Prelude.{length, take, All, IfOk};
 ghost use Rattle.std.specs.Prelude.{IsTrue};
@@ -81,7 +81,7 @@ pub(crate) fn write_branch<R: Room>(room: &mut R, old: u64, node: Node<'_>) -> R
     Ok(page)
 }
 
-/// Writes an unwritten node to two pages, its first `cut` items to the first, and returns the
+/// Writes an unwritten node to two pages, with its first `cut` items on the first, and returns the
 /// pages. Gives up the old page.
 fn write_parts<R: Room>(
     room: &mut R,
@@ -112,8 +112,8 @@ fn write_parts<R: Room>(
     Ok((left, right))
 }
 
-/// How many items the first of two pages takes: all that it can hold, as long as six are left for
-/// the second.
+/// Returns how many items the first of two pages takes: all that it can hold, as long as six are
+/// left for the second.
 fn first_of_two(len: usize) -> usize
     requires { (12 < len) × (len ≤ 24) }
     ensures first { (6 ≤ result) × (result ≤ 12) }
@@ -126,8 +126,8 @@ fn first_of_two(len: usize) -> usize
     }
 }
 
-/// Writes an unwritten node to one page or to two, and returns the branches to them. Gives up the
-/// old page.
+/// Writes an unwritten node to one or two pages, and returns the branches to them. Gives up the old
+/// page.
 pub(crate) fn pack<R: Room>(
     room: &mut R,
     old: u64,
@@ -158,7 +158,8 @@ pub(crate) fn pack<R: Room>(
     Ok(branches)
 }
 
-/// The same for an unwritten node whose items are on two neighbouring pages. Gives up both.
+/// Does the same as `pack` for an unwritten node whose items are on two neighbouring pages. Gives
+/// up both pages.
 pub(crate) fn pack_two<R: Room>(
     room: &mut R,
     left: u64,
@@ -238,8 +239,9 @@ pub(crate) fn write_root<R: Room>(room: &mut R, old: u64, node: Node<'_>) -> Res
     Ok(top + 1)
 }
 
-/// Writes what is left of a root as a tree, and returns its root: 0 if nothing is left. If one
-/// branch of an inner root is left, the new root is its page. Gives up the old root's page.
+/// Writes what is left of a root as a tree, and returns the tree's root: 0 if nothing is left. If
+/// an inner root has only one branch left, the new root is that branch's page. Gives up the old
+/// root's page.
 pub(crate) fn write_rest<R: Room>(room: &mut R, old: u64, node: Node<'_>) -> Result<u64, Refusal>
     requires low { node.level < 2 ^ 32 }
     requires node { IsWritable R.page_state R.words room.old node.level node.pair.now
@@ -266,7 +268,7 @@ pub(crate) fn write_rest<R: Room>(room: &mut R, old: u64, node: Node<'_>) -> Res
     Ok(root)
 }
 
-/// The page of a slot's branch.
+/// Returns the page of a slot's branch.
 fn child_of<L: Look>(look: &mut L, slot: Slot, pair: &Item) -> u64
     requires ready { IsReady (L.page_state look.old) (L.words look.old) slot }
     requires names_page { length (pair_of (L.words look.old) pair.now slot).payload ≡ 8 }

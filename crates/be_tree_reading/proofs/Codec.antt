@@ -23,7 +23,7 @@ map_same f g a (suc n) h = ap2 (h a (omega arith) (omega arith)) (map_same f g (
     ap2 : {A : Type 0} {x y : A} {xs ys : List A} → x ≡ y → xs ≡ ys → x ∷ xs ≡ y ∷ ys
     ap2 p q = cc
 
--- a range in two parts
+-- a range split in two
 pub map_range_append : {A : Type 0} (f : ℕ → A) (a n m : ℕ) → map f (range_with_len a (n + m)) ≡ map f (range_with_len a n) ++ map f (range_with_len (a + n) m)
 map_range_append f a zero m = rw (zero-add, add-zero) refl
 map_range_append f a (suc n) m =
@@ -48,7 +48,7 @@ flat_map_stored words at bs (suc m) h =
     ∙ sym (map_range_append b 0 (8 * m) 8 ∙ ap (λ a. map b (range_with_len 0 (8 * m)) ++ map b (range_with_len a 8)) z)
     ∙ ap (λ (j : ℕ). map b (range_with_len 0 j)) f
 
--- what was stored is read back
+-- what was stored is what is read back
 pub bytes_at_stored : (words : ℕ → ℕ) (at : ℕ) (bs : List ℕ)
     → ((i : ℕ) → i < words_for (length bs) → to_be_bytes w64 (words (at + i)) ≡ map (λ k. get_or bs k 0) (range_with_len (8 * i) 8))
     → bytes_at words at (length bs) ≡ bs
@@ -128,12 +128,12 @@ bytes_at_prefix words at k n le =
     take_take (suc k) (suc n) [] le = refl
     take_take (suc k) (suc n) (x ∷ xs) le = ap (λ ys. x ∷ ys) (take_take k n xs (omega (arith, le)))
 
--- an item's key, read without the payload
+-- an item's key, read without its payload
 pub key_at : (words : ℕ → ℕ) (at : ℕ) → (item_at words at).key ≡ bytes_at words (at + 1) (key_len words at)
 unfolding item_at
 key_at words at = bytes_at_prefix words (at + 1) (key_len words at) (key_len words at + payload_len words at) (omega arith)
 
--- the same words, counted from another place
+-- the same words, counted from another index
 pub maps_along : {A : Type 0} (g h : ℕ → A) (a b n : ℕ) → ((k : ℕ) → g (a + k) ≡ h (b + k)) → map g (range_with_len a n) ≡ map h (range_with_len b n)
 maps_along g h a b zero same = refl
 maps_along g h a b (suc n) same =
@@ -161,7 +161,7 @@ bytes_at_later words at i m =
     ∙ ap (λ ws. take m (flat_map (to_be_bytes w64) ws)) (maps_along f (λ (j : ℕ). words (at + i + j)) (0 + i) 0 (words_for m)
     (λ k. let e : at + (0 + i + k) ≡ at + i + (0 + k) = omega arith in ap words e))
 
--- bytes in two parts, the second from a word on
+-- bytes in two parts, the second beginning at a word
 pub bytes_at_split : (words : ℕ → ℕ) (at i m : ℕ) → bytes_at words at (8 * i + m) ≡ bytes_at words at (8 * i) ++ bytes_at words (at + i) m
 bytes_at_split words at i m =
     sym (take-append-drop (8 * i) (bytes_at words at (8 * i + m)))
@@ -200,7 +200,7 @@ item_payload_length words at =
       length-take-le n (flat_map (to_be_bytes w64) (map (λ i. words (at + 1 + i)) (range_with_len 0 (words_for n)))) (omega (arith, flat_map_length (λ i. words (at + 1 + i)) (words_for n))),
     )
 
--- a slice from a place on
+-- a slice from an index on
 pub rest_from : (xs : List ℕ) (i : ℕ) → take (length xs - i) (drop i xs) ≡ drop i xs
 rest_from xs i = all_taken (drop i xs) (length xs - i) (omega (arith, length-drop i xs))
   where

@@ -1,4 +1,4 @@
--- Changes of the pages in use.
+-- Changes to the pages in use.
 use Rattle.std.proofs.Common.{◌≡◌, ℕ, zero, suc, ◌+◌, ◌<◌, ◌≤◌, List, [], ◌∷◌, ◌++◌, IsTrue, ap, sym, subst, ◌∙◌, refl, inl, inr, arith, cond, ◌==◌}
 use Rattle.std.proofs.lemmas.Bool.{cases_eq}
 use Rattle.std.proofs.lemmas.Bool.Decides.{nat_tests}
@@ -8,7 +8,7 @@ use Rattle.be_pages.specs.declared.room.PageState.{PageState}
 use Rattle.be_pages.specs.declared.room.PageState.TheVariants.{Free, Old, GivenUp, Taken, Filled}
 use Rattle.be_pages.specs.Pages.{is_readable, is_taken, is_kept, is_from_before, after_undo, times, PageStep, untouched, unused, fresh, given_old, given_new, stays_old, stays_new, Swaps, KeepsStart, IsUnchanged}
 
--- how often a page is among the pages of two parts
+-- how many times a page occurs among the pages of two parts
 pub times_append : (q : ℕ) (xs ys : List ℕ) → times q (xs ++ ys) ≡ times q xs + times q ys
 times_append q xs ys = sum_by-append (λ p. cond (p == q) 1 0) xs ys
 
@@ -43,7 +43,7 @@ alone P page here q some = elim (cases_eq q page) [
   | inr ne ↦ absurd (omega (arith, some, times_other q page ne))
 ]
 
--- one more page, and two more, that aren't among these
+-- one more page, and two more, that don't occur among these
 pub one_beside : (page : ℕ) (ps : List ℕ) → times page ps ≡ 0 → ((q : ℕ) → times q ps ≤ 1) → (q : ℕ) → times q (page ∷ []) + times q ps ≤ 1
 one_beside page ps none once q = elim (cases_eq q page) [
   | inl e ↦ subst (λ p. times p (page ∷ []) + times p ps ≤ 1) (sym e) (omega (arith, times_itself page, none))
@@ -133,7 +133,7 @@ step_after some given_new = absurd (omega (arith, some))
 step_after some (stays_old p) = refl
 step_after some stays_new = refl
 
--- a page that newly comes into use was free
+-- a page that comes into use was free
 step_fresh : {P : Type 0} {b a : ℕ} {s t : PageState} → b ≡ 0 → 0 < a → PageStep P b a s t → s ≡ Free
 step_fresh none some (untouched p) = absurd (omega (arith, some))
 step_fresh none some unused = refl
@@ -161,7 +161,8 @@ step_older old given_new = absurd (false≢true old)
 step_older old (stays_old p) = p
 step_older old stays_new = absurd (false≢true old)
 
--- if two states are the same after an undo, and one is that of a page from before the write, so is the other
+-- if two states are the same after an undo, and one is that of a page from before the write, so is
+-- the other
 from_before : (s t : PageState) → after_undo t ≡ after_undo s → IsTrue (is_from_before s) → IsTrue (is_from_before t)
 from_before s t e old = same t ∙ ap is_from_before e ∙ sym (same s) ∙ old
   where

@@ -34,7 +34,7 @@ key_cmp_flip a b e = key_total.antisymm b a ∙ ap ordering_reverse e
 pub key_cmp_flip_less : (a b : List ℕ) → key_cmp a b ≡ Less → key_cmp b a ≡ Greater
 key_cmp_flip_less a b e = key_total.antisymm b a ∙ ap ordering_reverse e
 
--- a below b, and b not above k: a is below k
+-- if a is below b and b isn't above k, a is below k
 pub less_to_at_most : (a b k : List ℕ) → key_cmp a b ≡ Less → key_cmp b k ≢ Greater → key_cmp a k ≡ Less
 less_to_at_most a b k lt le =
     elim (key_cmp b k) as (λ r. key_cmp b k ≡ r → key_cmp a k ≡ Less) [
@@ -46,7 +46,7 @@ less_to_at_most a b k lt le =
 pub greater_than_above : (a b k : List ℕ) → key_cmp a b ≡ Greater → key_cmp b k ≡ Greater → key_cmp a k ≡ Greater
 greater_than_above a b k gt gk = key_cmp_flip_less k a (key_total.trans k b a (key_cmp_flip b k gk) (key_cmp_flip a b gt))
 
--- what is above b is above every k that b is above
+-- what is above b is above every k that is below b
 pub AllAbove_trans : (b k : List ℕ) (xs : List Pair) → key_cmp b k ≡ Greater → AllAbove b xs → AllAbove k xs
 AllAbove_trans b k [] gt above = tt
 AllAbove_trans b k (x ∷ xs) gt above = (greater_than_above x.key b k above.0 gt, AllAbove_trans b k xs gt above.1)
@@ -75,7 +75,7 @@ AllBelow_before k (x ∷ xs) y ys rising le =
     let at_y = AllAbove_right x.key xs (y ∷ ys) rising.0 in
     (less_to_at_most x.key y.key k (key_cmp_flip y.key x.key at_y.0) le, AllBelow_before k xs y ys rising.1 le)
 
--- if a pair is above k, so are all after it
+-- if a pair is above k, so are all pairs after it
 pub AllAbove_from : (k : List ℕ) (y : Pair) (ys : List Pair) → IsRising (y ∷ ys) → key_cmp y.key k ≡ Greater → AllAbove k (y ∷ ys)
 AllAbove_from k y ys rising gt = (gt, AllAbove_trans y.key k ys gt rising.0)
 

@@ -1,4 +1,5 @@
--- Bytes compared by words with zeros after them: the first word that differs decides, otherwise the lengths do.
+-- Bytes compared by words padded with zeros: the first word that differs decides, otherwise the
+-- lengths do.
 use Rattle.std.proofs.Common.{◌≡◌, ℕ, zero, suc, ◌+◌, ◌-◌, ◌*◌, ◌/◌, ◌^◌, ◌<◌, ◌≤◌, ◌⊎◌, List, [], ◌∷◌, ◌++◌, length, map, take, drop, get_or, ap, sym, subst, ◌∙◌, refl, inl, inr, arith}
 use Rattle.std.specs.declared.cmp.Ordering.{Ordering}
 use Rattle.std.specs.declared.cmp.Ordering.TheVariants.{Less, Equal, Greater}
@@ -14,7 +15,7 @@ use Rattle.be_tree_reading.proofs.Bytes.Words.{first_bytes, short_bytes, part_cm
 use Rattle.be_tree_reading.specs.Key.{key_cmp}
 use Rattle.be_tree_reading.specs.Page.{item_at, key_len}
 
--- the bytes from a place on, with zeros past the end
+-- the bytes from an index on, with zeros past the end
 abbrev pub padded : List ℕ → (from n : ℕ) → List ℕ
 padded xs from n = map (λ k. get_or xs k 0) (range_with_len from n)
 
@@ -56,7 +57,7 @@ zeros_first (suc n) ys = by (cases_lt 0 (get_or ys 0 0)) (zeros_first n (drop 1 
     by (inl lt) low = ap (λ (o : Ordering). ordering_then (ordering_then o (slice_cmp nat_cmp (pad n []) (pad n (drop 1 ys)))) Less) (less_cmp 0 (get_or ys 0 0) lt)
     by (inr le) low = ap (λ (o : Ordering). ordering_then (ordering_then o (slice_cmp nat_cmp (pad n []) (pad n (drop 1 ys)))) Less) (same_cmp 0 (get_or ys 0 0) (omega (arith, le))) ∙ low
 
--- lists are ordered by their bytes with zeros after them, and then by their lengths
+-- lists are ordered by their bytes padded with zeros, then by their lengths
 pad_cmp : (n : ℕ) (xs ys : List ℕ) → length ys ≤ n → slice_cmp nat_cmp xs ys ≡ ordering_then (slice_cmp nat_cmp (pad n xs) (pad n ys)) (nat_cmp (length xs) (length ys))
 pad_cmp zero [] [] le = sym (same_cmp 0 0 refl)
 pad_cmp (suc n) [] [] le =
@@ -73,7 +74,8 @@ pad_cmp (suc n) (x ∷ xs) (y ∷ ys) le =
     ∙ ap (λ (o : Ordering). ordering_then (nat_cmp x y) (ordering_then rest o)) (cmp_suc (length xs) (length ys))
     ∙ then_then (nat_cmp x y) rest (nat_cmp (suc (length xs)) (suc (length ys)))
 
--- the words of two lists before number j are equal: what follows decides, in as many words as hold the second list and a zero
+-- the words of two lists before number j are equal: what follows decides, within the words that
+-- hold the second list and one zero
 abbrev pub AreAlike : (xs ys : List ℕ) (j : ℕ) → Type 0
 AreAlike xs ys j =
     slice_cmp nat_cmp xs ys ≡ ordering_then (slice_cmp nat_cmp (padded xs (8 * j) (8 * (length ys / 8 + 1 - j))) (padded ys (8 * j) (8 * (length ys / 8 + 1 - j)))) (nat_cmp (length xs) (length ys))
@@ -129,7 +131,7 @@ module _ (xs ys : List ℕ) (j a b : ℕ) (lt : j < length ys / 8 + 1) (la : a <
   alike_differ ne =
       by_word ∙ ap (λ (o : Ordering). ordering_then o (nat_cmp (length xs) (length ys))) (then_other a b rest ne) ∙ then_other a b (nat_cmp (length xs) (length ys)) ne
 
--- if the first words of an item's key and of a key differ, they decide
+-- if the first words of an item's key and of another key differ, they decide
 pub key_differs : (w : ℕ → ℕ) (at : ℕ) (k : List ℕ) (mine first : ℕ) → 8 ≤ key_len w at → mine ≡ w (at + 1) → mine < 2 ^ 64 → first < 2 ^ 64 → to_be_bytes w64 first ≡ padded k 0 8
     → (mine ≡ first → ⊥) → key_cmp (item_at w at).key k ≡ nat_cmp mine first
 unfolding key_cmp
@@ -152,7 +154,8 @@ not_below (x ∷ xs) e = by (cases_lt 0 x) (not_below xs)
     by (inl lt) low = never (sym (ap (λ (o : Ordering). ordering_then o zeros) (more_cmp x 0 lt)) ∙ e)
     by (inr le) low = low (sym (ap (λ (o : Ordering). ordering_then o zeros) (same_cmp x 0 (omega (arith, le)))) ∙ e)
 
--- a list is below another if it is below it with bytes added to it, and zeros to the other
+-- a list is below another if it is below it after bytes are added to the first and zeros to the
+-- other
 below_pad : (xs more ys : List ℕ) → slice_cmp nat_cmp (xs ++ more) (pad (length (xs ++ more)) ys) ≡ Less → slice_cmp nat_cmp xs ys ≡ Less
 below_pad [] more [] e = absurd (not_below more e)
 below_pad [] more (y ∷ ys) e = refl
@@ -164,7 +167,8 @@ below_pad (x ∷ xs) more (y ∷ ys) e = by (nat_cmp x y) (slice_cmp nat_cmp (xs
     by Equal p q low e = low e
     by Greater p q low e = e
 
--- an item whose first word is lower than a key's has a lower key, even if the word has more than the item's key
+-- an item whose first word is lower than a key's has a lower key, even if that word extends past
+-- the item's key
 pub key_below : (w : ℕ → ℕ) (at : ℕ) (k : List ℕ) (mine first : ℕ) → mine ≡ w (at + 1) → mine < first → first < 2 ^ 64 → to_be_bytes w64 first ≡ padded k 0 8
     → key_cmp (item_at w at).key k ≡ Less
 unfolding key_cmp

@@ -1,2 +1,2 @@
--- A pair is put into a tree.
+-- Putting a pair into a tree.
 pub mod Puts

@@ -38,7 +38,8 @@ from_below k after (x ∷ xs) h =
 pub from_append : (k : List ℕ) (after : Bool) (xs ys : List Pair) → pairs_from (xs ++ ys) k after ≡ pairs_from xs k after ++ pairs_from ys k after
 from_append k after xs ys = filter-append (λ (x : Pair). is_from k after x.key) xs ys
 
--- what a node's items give from a key on: that of the branch on the key's way, and all that later branches give
+-- what a node's items contain from a key on: what the branch on the key's way contains of it, and
+-- all that later branches contain
 pub from_split : (f : Pair → List Pair) (k : List ℕ) (items : List Pair) (at : ℕ) → IsSplit f k items at → (after : Bool) (d : Pair)
     → pairs_from (flat_map f items) k after ≡ pairs_from (f (get_or items at d)) k after ++ flat_map f (drop (suc at) items)
 from_split f k items at split after d =
@@ -64,7 +65,7 @@ one_taken k after x e = ap (λ b. cond b (x ∷ []) []) e
 one_skipped : (k : List ℕ) (after : Bool) (x : Pair) → is_from k after x.key ≡ false → pairs_from (x ∷ []) k after ≡ []
 one_skipped k after x e = ap (λ b. cond b (x ∷ []) []) e
 
--- a leaf's items from a key on, by the place of the last item that isn't above the key
+-- a leaf's items from a key on, given the place of the last item that isn't above the key
 module _ (items : List Pair) (rising : IsRising items) (k : List ℕ) (r at : ℕ) (item : Pair) (rank : IsRank k items r) (some : 0 < length items) (place : at ≡ r - 1) (is : get_or items at item ≡ item)
     (after : Bool) where
   in_items : r - 1 < length items

@@ -27,7 +27,7 @@ next_above [] rising at d e lt = absurd (omega (arith, lt))
 next_above (x ∷ xs) rising zero d e lt = above_get x.key xs 0 e (omega (arith, lt)) rising.0
 next_above (x ∷ xs) rising (suc at) d e lt = next_above xs rising.1 at d e (omega (arith, lt))
 
--- the ranks that a search's result gives
+-- the ranks that follow from a search's result
 pub rank_of_equal : (xs : List Pair) → IsRising xs → (k : List ℕ) (at : ℕ) (d : Pair) → at < length xs → key_cmp (get_or xs at d).key k ≡ Equal → IsRank k xs (suc at)
 rank_of_equal xs rising k at d lt same = record {
   in_range = lt;
@@ -44,7 +44,7 @@ rank_of_gap k xs r gap = record {
   above = gap.above;
 }
 
--- the branch that a search gives, although it doesn't read the first one
+-- the branch that a search finds, although it doesn't read the first one
 pub branch_of : (k : List ℕ) (xs : List Pair) (r at : ℕ) → at ≡ r - 1 → 0 < r → r ≤ length xs
     → ((j : ℕ) (d : Pair) → suc j ≡ r → 0 < j → key_cmp (get_or xs j d).key k ≢ Greater) → ((d : Pair) → r < length xs → key_cmp (get_or xs r d).key k ≡ Greater) → IsBranchFor k xs at
 branch_of k xs zero at place some in_range below above = absurd (omega (arith, some))

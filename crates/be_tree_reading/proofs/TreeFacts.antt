@@ -21,13 +21,14 @@ use Rattle.be_tree_reading.proofs.Order.{AllAbove_right, IsRising_left, IsRising
 pub in_three : {A : Type 0} (xs : List A) (i : ℕ) (d : A) → i < length xs → xs ≡ take i xs ++ get_or xs i d ∷ drop (suc i) xs
 in_three xs i d lt = sym (take-append-drop i xs) ∙ ap (λ ys. take i xs ++ ys) (drop-cons xs i d lt)
 
--- what the items give, in three parts
+-- what the items contain, in three parts
 pub flat_map_in_three : {A : Type 0} (f : Pair → List A) (items : List Pair) (at : ℕ) (d : Pair) → at < length items
     → flat_map f items ≡ flat_map f (take at items) ++ (f (get_or items at d) ++ flat_map f (drop (suc at) items))
 flat_map_in_three f items at d lt =
     ap (flat_map f) (in_three items at d lt) ∙ flat_map-append f (take at items) (get_or items at d ∷ drop (suc at) items)
 
--- the keys that items before `at` give are below k, and those that items after it give are above k
+-- the keys that the items before `at` contain are below k, and those that the items after it
+-- contain are above k
 pub record IsSplit (f : Pair → List Pair) (k : List ℕ) (items : List Pair) (at : ℕ) : Type 0 where
   pub in_range : at < length items
   pub below : AllBelow k (flat_map f (take at items))
@@ -42,7 +43,7 @@ starts_above k key [] zs starts rising gt = absurd starts
 starts_above k key (y ∷ ys) zs starts rising gt = AllAbove_from k y (ys ++ zs) rising (ap (λ q. key_cmp q k) starts ∙ gt)
 
 module _ (f : Pair → List Pair) (k : List ℕ) (items : List Pair) (rising : IsRising (flat_map f items)) (starts : All (λ b. StartsAt b.key (f b)) items) where
-  -- if an item is above k, so is everything that it and later items give
+  -- if an item is above k, so is everything that it and later items contain
   above_from : (i : ℕ) → ((d : Pair) → i < length items → key_cmp (get_or items i d).key k ≡ Greater) → AllAbove k (flat_map f (drop i items))
   above_from i gt = elim (cases_lt i (length items)) [
     | inl lt ↦
@@ -66,7 +67,7 @@ module _ (f : Pair → List Pair) (k : List ℕ) (items : List Pair) (rising : I
       starts_below k (get_or items i d).key (flat_map f (take i items)) (f (get_or items i d)) (flat_map f (drop (suc i) items)) (starts i d lt)
       (subst IsRising (flat_map_in_three f items i d lt) rising) le
 
-  -- the branch to descend is the last one whose key isn't above k, or the first one
+  -- the branch to descend to is the last one whose key isn't above k, or the first one
   pub rank_split : (r : ℕ) → IsRank k items r → 0 < length items → IsSplit f k items (r - 1)
   rank_split zero rank some =
       let all = above_from 0 rank.above in
@@ -94,7 +95,7 @@ module _ (f : Pair → List Pair) (k : List ℕ) (items : List Pair) (at : ℕ) 
       ∙ payload_at_right k (flat_map f (take at items)) (f (get_or items at d) ++ flat_map f (drop (suc at) items)) split.below
       ∙ payload_at_left k (f (get_or items at d)) (flat_map f (drop (suc at) items)) split.above
 
-  -- a put does, too
+  -- and so does a put
   pub put_split : (pair d : Pair) → pair.key ≡ k → put pair (flat_map f items) ≡ flat_map f (take at items) ++ (put pair (f (get_or items at d)) ++ flat_map f (drop (suc at) items))
   put_split pair d e =
       ap (put pair) (flat_map_in_three f items at d split.in_range)
@@ -121,7 +122,7 @@ page_keys words page = All-map (λ item. length item.key ≤ 264) (λ (j : ℕ).
     subst (λ n. length (item_at words (item_place n)).key ≤ 264) (sym at) (key_fits words (item_place j) (page.each j (omega (arith, lt, length-range_with_len 0 (words 1))))))
 
 module _ (level : ℕ) (page_state : ℕ → PageState) (words : ℕ → ℕ → ℕ) (items : List Pair) (below : IsBelow (suc level) page_state words items) where
-  -- a branch's child is a tree of the level below
+  -- a branch's child is a tree on the level below
   pub branch_tree : (at : ℕ) (d : Pair) → at < length items → IsTreeAt level 6 page_state words (child (get_or items at d))
   branch_tree at d lt =
       let f = λ (b : Pair). pairs_at level words (child b) in

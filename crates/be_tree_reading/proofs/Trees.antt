@@ -16,7 +16,7 @@ use Rattle.be_tree_reading.proofs.Frame.{times_append, times-cons, times_tail, t
 use Rattle.be_tree_reading.proofs.Shape.Levels.{tree_in_use}
 use Rattle.be_tree_reading.specs.Forest.{pages_of, AreTrees, KeepsTree, Replaces, IsWriteStart, IsUndone}
 
--- a tree's pages are in use, each only once
+-- a tree's pages are in use, and each occurs only once
 pub root_in_use : (s : ℕ → PageState) (v : ℕ → ℕ → ℕ) (root : ℕ) → IsTree s v root → (q : ℕ) → 0 < times q (pages v root) → IsTrue (is_kept (s q))
 root_in_use s v zero tree q some = absurd (omega (arith, some))
 root_in_use s v (suc page) tree q some = tree_in_use (level_of (v page)) (minimum_of_root (level_of (v page))) s v page tree q some
@@ -33,7 +33,7 @@ pub tree_rising : (s : ℕ → PageState) (v : ℕ → ℕ → ℕ) (root : ℕ)
 tree_rising s v zero tree = tt
 tree_rising s v (suc page) tree = tree.below.rising
 
--- a tree whose pages keep their words and states stays well formed
+-- a tree whose pages keep their words and states remains well formed
 module _ (s t : ℕ → PageState) (v w : ℕ → ℕ → ℕ) where
   below_same : (level : ℕ) (items : List Pair) → IsBelow level s v items → ((q : ℕ) → 0 < times q (pages_below level v items) → w q ≡ v q)
       → ((q : ℕ) → 0 < times q (pages_below level v items) → t q ≡ s q) → IsBelow level t w items
@@ -193,7 +193,7 @@ module _ {S K : Type 0} (kept_of : S → K) (page_state_of : S → ℕ → PageS
         (λ q. omega (arith, old_times q)) (λ q. omega (arith, new_times q)) trees.once used;
   }
 
--- a tree none of whose pages was replaced stays as it was
+-- a tree none of whose pages was replaced is unchanged
 pub tree_beside : {S K : Type 0} (kept_of : S → K) (page_state_of : S → ℕ → PageState) (words_of : S → ℕ → ℕ → ℕ) (before after : List ℕ) (old new : S) (root : ℕ)
     → Swaps kept_of page_state_of words_of before after old new → IsTree (page_state_of old) (words_of old) root
     → ((q : ℕ) → 0 < times q (pages (words_of old) root) → times q before ≡ 0) → KeepsTree (page_state_of new) (words_of old) (words_of new) root
@@ -212,7 +212,7 @@ tree_beside kept_of page_state_of words_of before after old new root swaps tree 
     states : (q : ℕ) → 0 < times q (pages (words_of old) root) → page_state_of new q ≡ page_state_of old q
     states q some = swaps_stays kept_of page_state_of words_of before after old new swaps q (apart q some) (read q some)
 
--- a tree that was well formed when the write began is so after the write was undone
+-- a tree that was well formed when the write began is well formed again after the write is undone
 pub tree_undone : (start undone : ℕ → PageState) (v w : ℕ → ℕ → ℕ) (root : ℕ) → IsWriteStart start → IsUndone start undone v w → IsTree start v root → KeepsTree undone v w root
 tree_undone start undone v w root clean was tree = record {
   tree = tree_same start undone v w root tree words states;
@@ -236,7 +236,7 @@ stays GivenUp used = used
 stays Taken used = refl
 stays Filled used = refl
 
--- a tree stays well formed when its write is kept
+-- a tree remains well formed when its write is kept
 pub tree_kept : (s t : ℕ → PageState) (v w : ℕ → ℕ → ℕ) → ((q : ℕ) → t q ≡ after_keep (s q)) → w ≡ v → (root : ℕ) → IsTree s v root → IsTree t w root
 tree_kept s t v w kept words root tree = subst (λ u. IsTree t u root) (sym words) (same_words root tree)
   where

@@ -19,7 +19,7 @@ until_greater : (k : List ℕ) (before : Bool) (key : List ℕ) → key_cmp key 
 until_greater k false key e = ap is_le e
 until_greater k true key e = ap is_lt e
 
--- a key is up to k or from k on, but not both
+-- a key is either up to k or from k on, but not both
 pub until_is : (k : List ℕ) (before : Bool) (key : List ℕ) → is_until (Some k) before key ≡ not (is_from k (not before) key)
 until_is k false key = elim (key_cmp key k) as (λ o. is_le o ≡ not (is_gt o)) [ Less ↦ refl | Equal ↦ refl | Greater ↦ refl ]
 until_is k true key = elim (key_cmp key k) as (λ o. is_lt o ≡ not (is_ge o)) [ Less ↦ refl | Equal ↦ refl | Greater ↦ refl ]
@@ -38,7 +38,8 @@ until_above k before (x ∷ xs) h =
 until_append : (k : List ℕ) (before : Bool) (xs ys : List Pair) → pairs_until (xs ++ ys) (Some k) before ≡ pairs_until xs (Some k) before ++ pairs_until ys (Some k) before
 until_append k before xs ys = filter-append (λ (x : Pair). is_until (Some k) before x.key) xs ys
 
--- what a node's items give up to a key: all that earlier branches give, and that of the branch on the key's way
+-- what a node's items contain up to a key: all that earlier branches contain, and what the branch
+-- on the key's way contains of it
 pub until_split : (f : Pair → List Pair) (k : List ℕ) (items : List Pair) (at : ℕ) → IsSplit f k items at → (before : Bool) (d : Pair)
     → pairs_until (flat_map f items) (Some k) before ≡ flat_map f (take at items) ++ pairs_until (f (get_or items at d)) (Some k) before
 until_split f k items at split before d =
@@ -93,7 +94,7 @@ pub leaf_until : (items : List Pair) (k : List ℕ) (before : Bool) (r : ℕ) �
 leaf_until items k before r le e =
     sym (first_of_two_tests (λ x. is_until (Some k) before x.key) (λ x. is_from k (not before) x.key) (λ x. until_is k before x.key) items r le e)
 
--- without a key, all are up to it
+-- without a key, all pairs are up to it
 pub until_all : (xs : List Pair) (before : Bool) → pairs_until xs None before ≡ xs
 until_all [] before = refl
 until_all (x ∷ xs) before = ap (λ ys. x ∷ ys) (until_all xs before)

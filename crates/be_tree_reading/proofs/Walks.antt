@@ -1,4 +1,4 @@
--- Which pairs a walk passes, of those that it has ahead.
+-- Which of the pairs that it has ahead a walk passes.
 use Rattle.std.proofs.Common.{◌≡◌, ℕ, zero, suc, ◌+◌, ◌-◌, ◌<◌, ◌≤◌, ◌⊎◌, List, [], ◌∷◌, ◌++◌, length, get_or, take, drop, reverse, ap, sym, subst, ◌∙◌, refl, inl, inr, arith, Bool, true, false, not, cond, Some, None, append_assoc}
 use mathlib.Core.List.{reverse-cons}
 use Rattle.std.specs.List.{filter, AllByRecursion}
@@ -46,7 +46,7 @@ filter_reverse test (x ∷ xs) =
     by true = sym (reverse-cons x (kept test xs))
     by false = append-nil (reverse (kept test xs))
 
--- what holds for each element of a list, and for one more, holds for all
+-- what holds for each element of a list and for one more element holds for all
 all_snoc : (P : Pair → Type 0) (ys : List Pair) (x : Pair) → AllByRecursion P ys → P x → AllByRecursion P (ys ++ x ∷ [])
 all_snoc P [] x h p = (p, tt)
 all_snoc P (y ∷ ys) x h p = (h.0, all_snoc P ys x h.1 p)
@@ -55,7 +55,7 @@ all_reverse : (P : Pair → Type 0) (xs : List Pair) → AllByRecursion P xs →
 all_reverse P [] h = subst (AllByRecursion P) (sym (reverse_nil [] refl)) tt
 all_reverse P (x ∷ xs) h = subst (AllByRecursion P) (sym (reverse-cons x xs)) (all_snoc P (reverse xs) x (all_reverse P xs h.1) h.0)
 
--- a filtered list ascends too
+-- a filtered list also ascends
 above_kept : (k : List ℕ) (p : Pair → Bool) (xs : List Pair) → AllAbove k xs → AllAbove k (filter p xs)
 above_kept k p [] h = tt
 above_kept k p (x ∷ xs) h = by (p x) (above_kept k p xs h.1)
@@ -120,7 +120,7 @@ begun_long true strict low high xs long =
     All-from_recursion (λ (x : Pair). 8 ≤ length x.key) (reverse ys)
     (all_reverse (λ x. 8 ≤ length x.key) ys (recursion_from_All (λ (x : Pair). 8 ≤ length x.key) ys (All-filter (λ (x : Pair). is_until high strict x.key) (λ (x : Pair). 8 ≤ length x.key) xs long)))
 
--- what comparing a key with the end of a way says
+-- what comparing a key with the end of a way shows
 pub not_below : (low key : List ℕ) → not (is_lt (key_cmp key low)) ≡ is_from low false key
 not_below low key = elim (key_cmp key low) as (λ o. not (is_lt o) ≡ is_ge o) [ Less ↦ refl | Equal ↦ refl | Greater ↦ refl ]
 
@@ -184,7 +184,7 @@ module _ (test : List ℕ → Bool) (zs rest : List Pair) (want count most : ℕ
       ∙ take_all want (take count zs) (omega (arith, taken, at_most, in_want))
       ∙ sym (append-nil (take count zs))
 
-  -- all that were tested pass, and these are the whole leaf or as many as are wanted
+  -- all that were tested pass, and they are the whole leaf or the number wanted
   pub run_goes_on : count ≡ most → (most ≡ length zs) ⊎ (most ≡ want) → take want (kept test (zs ++ rest)) ≡ take count zs ++ take (want - count) (kept test rest)
   run_goes_on all whole =
       let more = kept test (drop count zs ++ rest) in

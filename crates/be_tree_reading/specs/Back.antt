@@ -13,12 +13,12 @@ abbrev pub pairs_before : (words : ℕ → ℕ → ℕ) → Place → List Pair
 pairs_before words place = pairs_below place.level words
     (take place.next (items_of (words place.page)))
 
--- the pairs before the places of a path, with those of the deepest place last
+-- the pairs before the places of a path, those of the deepest place last
 abbrev pub pairs_up_to : (words : ℕ → ℕ → ℕ) → List Place → List Pair
 pairs_up_to words [] = []
 pairs_up_to words (place ∷ path) = pairs_before words place ++ pairs_up_to words path
 
--- the pairs before a cursor, which it has ahead, the last one first
+-- the pairs before a cursor, which are still ahead of it, the last one first
 abbrev pub coming : (words : ℕ → ℕ → ℕ) → BackCursor → List Pair
 coming words cursor = pairs_up_to words cursor.path.items
 

@@ -13,12 +13,12 @@ abbrev pub pairs_past : (words : ℕ → ℕ → ℕ) → Place → List Pair
 pairs_past words place = pairs_below place.level words
     (drop place.next (items_of (words place.page)))
 
--- the pairs after the places of a path, with those of the deepest place first
+-- the pairs after the places of a path, those of the deepest place first
 abbrev pub pairs_along : (words : ℕ → ℕ → ℕ) → List Place → List Pair
 pairs_along words [] = []
 pairs_along words (place ∷ path) = pairs_along words path ++ pairs_past words place
 
--- the pairs after a cursor, which it has ahead
+-- the pairs after a cursor, which are still ahead of it
 abbrev pub remaining : (words : ℕ → ℕ → ℕ) → Cursor → List Pair
 remaining words cursor = pairs_along words cursor.path.items
 
@@ -37,7 +37,7 @@ abbrev pub IsNextPlace : (page_state : ℕ → PageState) (words : ℕ → ℕ �
 IsNextPlace page_state words place cursor = IsPlace page_state words place
     × ((place.next < words place.page 1) × (place.level + length cursor.path.items ≤ 13))
 
--- a cursor's path: places in trees, not more of them than a tree has levels
+-- a cursor's path: places in trees, no more of them than a tree has levels
 pub record IsPath (page_state : ℕ → PageState) (words : ℕ → ℕ → ℕ) (path : List Place) : Type 0
   where
     pub places : All (IsPlace page_state words) path

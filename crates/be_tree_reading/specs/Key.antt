@@ -29,7 +29,7 @@ abbrev pub payload_at : List Pair → List ℕ → Option (List ℕ)
 payload_at [] k = None
 payload_at (x ∷ xs) k = if is_eq (key_cmp x.key k) then Some x.payload else payload_at xs k
 
--- the list with the pair in its place, replacing any pair with that key
+-- the list with the pair in its place, replacing any pair with the same key
 abbrev pub put_before : Ordering → Pair → Pair → List Pair → List Pair → List Pair
 put_before Less pair x xs put_in_xs = x ∷ put_in_xs
 put_before Equal pair x xs put_in_xs = pair ∷ xs
@@ -49,14 +49,14 @@ abbrev pub StartsAt : List ℕ → List Pair → Type 0
 StartsAt k [] = ⊥
 StartsAt k (x ∷ xs) = x.key ≡ k
 
--- the item before place r has a key that isn't higher than k, and the one there has a higher one
+-- the item before number r has a key that isn't higher than k, and the item at r has a higher one
 pub record IsRank (k : List ℕ) (items : List Pair) (r : ℕ) : Type 0 where
   pub in_range : r ≤ length items
   pub not_above : (j : ℕ) (d : Pair) → suc j ≡ r → key_cmp (slice_index_or items j d).key k
       ≢ Greater
   pub above : (d : Pair) → r < length items → key_cmp (slice_index_or items r d).key k ≡ Greater
 
--- the item before place r has a lower key than k, and the one there has a higher one
+-- the item before number r has a lower key than k, and the item at r has a higher one
 pub record IsGap (k : List ℕ) (items : List Pair) (r : ℕ) : Type 0 where
   pub in_range : r ≤ length items
   pub below : (j : ℕ) (d : Pair) → suc j ≡ r → key_cmp (slice_index_or items j d).key k ≡ Less

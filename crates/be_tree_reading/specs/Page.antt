@@ -11,7 +11,7 @@ use Rattle.be_tree_reading.specs.Pair.{Pair}
 abbrev pub words_for : ℕ → ℕ
 words_for n = (n + 7) / 8
 
--- the n bytes from word `at` on, with the first byte as the most significant of the first word
+-- the n bytes from word `at` on, the first byte being the most significant of the first word
 abbrev pub bytes_at : (words : ℕ → ℕ) (at n : ℕ) → List ℕ
 bytes_at words at n = take n (flat_map (to_be_bytes w64)
     (map (λ i. words (at + i)) (range_with_len 0 (words_for n))))

@@ -1,4 +1,4 @@
--- Where a key is among a page's items, by places.
+-- Where a key is among a page's items, in terms of places.
 use Rattle.std.specs.Prelude.{◌≡◌, ℕ, ◌+◌, ◌-◌, ◌/◌, ◌<◌, ◌≤◌, List, [], ◌++◌, drop, IsTrue}
 use Rattle.std.specs.declared.cmp.Ordering.TheVariants.{Equal}
 use Rattle.be_pages.specs.declared.room.PageState.{PageState}
@@ -24,20 +24,20 @@ pub record IsFoundAt (k : List ℕ) (words : ℕ → ℕ) (place : ℕ) : Type 0
   pub is_place : place ≡ item_place number
   pub same : key_cmp (item_at words place).key k ≡ Equal
 
--- the items before the place have lower keys, and the one there has a higher one
+-- the items before the place have lower keys, and the item there has a higher one
 pub record IsGapAt (k : List ℕ) (words : ℕ → ℕ) (place : ℕ) : Type 0 where
   pub number : ℕ
   pub is_gap : IsGap k (items_of words) number
   pub is_place : place ≡ item_place number
 
--- these pairs are a leaf's from a place on, followed by the rest
+-- these pairs are those of a leaf from a place on, followed by the rest
 pub record AreFrom (words : ℕ → ℕ → ℕ) (page place : ℕ) (all rest : List Pair) : Type 0 where
   pub number : ℕ
   pub is_place : place ≡ item_place number
   pub in_range : number ≤ words page 1
   pub parts : all ≡ drop number (items_of (words page)) ++ rest
 
--- the branch at a place has the key of the first of these pairs; at place 0 there are none
+-- the branch at a place has the key of the first of these pairs; if the place is 0, there are none
 pub record IsNext (page_state : ℕ → PageState) (words : ℕ → ℕ → ℕ) (page place : ℕ)
     (rest : List Pair) : Type 0 where
   pub none : place ≡ 0 → rest ≡ []

@@ -8,12 +8,12 @@ use Rattle.be_tree_reading.specs.Pair.{Pair}
 use Rattle.be_tree_reading.specs.Key.{key_cmp}
 use Rattle.be_tree_reading.specs.declared.walk.TreeItem.{TreeItem}
 
--- the key is at or after k; with `after`, strictly after it
+-- the key is at or after k; if `after` is set, strictly after it
 abbrev pub is_from : List ℕ → (after : Bool) → List ℕ → Bool
 is_from k false key = is_ge (key_cmp key k)
 is_from k true key = is_gt (key_cmp key k)
 
--- the pairs at or after k, in order; with `after`, those strictly after it
+-- the pairs at or after k, in order; if `after` is set, those strictly after it
 abbrev pub pairs_from : List Pair → List ℕ → (after : Bool) → List Pair
 pairs_from pairs k after = filter (λ x. is_from k after x.key) pairs
 
@@ -30,7 +30,7 @@ abbrev pub is_past : Option (List ℕ) → List ℕ → Bool
 is_past None key = false
 is_past (Some high) key = is_gt (key_cmp key high)
 
--- the pairs before the first whose key is above the bound
+-- the pairs before the first one whose key is above the bound
 abbrev pub pairs_to : List Pair → (high : Option (List ℕ)) → List Pair
 pairs_to [] high = []
 pairs_to (x ∷ xs) high = if is_past high x.key then [] else x ∷ pairs_to xs high

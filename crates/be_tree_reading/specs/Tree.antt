@@ -31,7 +31,7 @@ pages_below (suc level) words items = flat_map
 abbrev pub pages_at : ℕ → (words : ℕ → ℕ → ℕ) (page : ℕ) → List ℕ
 pages_at level words page = page ∷ pages_below level words (items_of (words page))
 
--- a tree's pairs and pages, by its root: 0 for the empty tree, otherwise page + 1
+-- a tree's pairs and pages, given its root: 0 for the empty tree, otherwise page + 1
 abbrev pub pairs : (words : ℕ → ℕ → ℕ) (root : ℕ) → List Pair
 pairs words zero = []
 pairs words (suc page) = pairs_at (level_of (words page)) words page
@@ -51,14 +51,14 @@ pub record IsBranch (branch : Pair) (below : List Pair) : Type 0 where
   pub starts : StartsAt branch.key below
   pub names_page : length branch.payload ≡ 8
 
--- below the items of a node on a level are nodes with at least six items each
+-- below the items of a node on a level are nodes that have at least six items each
 abbrev pub AreShaped : ℕ → (words : ℕ → ℕ → ℕ) (items : List Pair) → Type 0
 AreShaped zero words items = Unit {0}
 AreShaped (suc level) words items =
     All (λ b. IsNode level 6 (words (child b)) × IsBranch b (pairs_at level words (child b))
     × AreShaped level words (items_of (words (child b)))) items
 
--- what is below a node's items: well formed, in order, with each page in use and only once
+-- what is below a node's items: well formed, in order, each page in use and occurring only once
 pub record IsBelow (level : ℕ) (page_state : ℕ → PageState) (words : ℕ → ℕ → ℕ) (items : List Pair)
     : Type 0 where
   pub keys_fit : All (λ item. length item.key ≤ 264) items
@@ -68,7 +68,7 @@ pub record IsBelow (level : ℕ) (page_state : ℕ → PageState) (words : ℕ �
   pub in_use : (q : ℕ) → 0 < times q (pages_below level words items)
       → IsTrue (is_kept (page_state q))
 
--- a well-formed tree from a page on a level down
+-- a well-formed tree that starts at a page on a level
 pub record IsTreeAt (level least : ℕ) (page_state : ℕ → PageState) (words : ℕ → ℕ → ℕ) (page : ℕ) :
     Type 0 where
   pub node : IsNode level least (words page)
@@ -76,7 +76,7 @@ pub record IsTreeAt (level least : ℕ) (page_state : ℕ → PageState) (words 
   pub page_once : times page (pages_below level words (items_of (words page))) ≡ 0
   pub page_in_use : IsTrue (is_kept (page_state page))
 
--- the smallest number of items of a root: an inner root has at least two branches
+-- the minimum number of items of a root: an inner root has at least two branches
 abbrev pub minimum_of_root : ℕ → ℕ
 minimum_of_root zero = 1
 minimum_of_root (suc level) = 2

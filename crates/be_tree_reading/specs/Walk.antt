@@ -14,7 +14,7 @@ use Rattle.be_tree_reading.specs.declared.way.Leaf.{Leaf}
 use Rattle.be_tree_reading.specs.declared.way.Walk.{Walk}
 use Rattle.be_tree_reading.specs.declared.way.Way.{Way}
 
--- a tree's pairs from the beginning of a way to the tree's end, in the way's order
+-- a tree's pairs from the start of a way to the tree's end, in the way's order
 abbrev pub from_start : (back strict : Bool) → (low : List ℕ) → (high : Option (List ℕ))
     → List Pair → List Pair
 from_start false strict low high pairs = pairs_from pairs low strict

@@ -10,18 +10,18 @@ use Rattle.be_tree_reading.specs.Page.{IsReadableAt, item_at}
 use Rattle.be_tree_reading.specs.Range.{number_of, pairs_from}
 use Rattle.be_tree_reading.specs.declared.way.Way.{Way}
 
--- the key is at or before the bound, if there is one; with `before`, strictly before it
+-- the key is at or before the bound, if there is one; if `before` is set, strictly before it
 abbrev pub is_until : Option (List ℕ) → (before : Bool) → List ℕ → Bool
 is_until None before key = true
 is_until (Some high) false key = is_le (key_cmp key high)
 is_until (Some high) true key = is_lt (key_cmp key high)
 
--- the pairs at or before the bound, in order; with `before`, those strictly before it
+-- the pairs at or before the bound, in order; if `before` is set, those strictly before it
 abbrev pub pairs_until : List Pair → Option (List ℕ) → (before : Bool) → List Pair
 pairs_until pairs high before = filter (λ x. is_until high before x.key) pairs
 
--- the pairs from low to high in the order of a walk, both ends included; with `strict`, without the
--- end where the walk begins
+-- the pairs from low to high in the order of a walk, both ends included; if `strict` is set,
+-- without the end where the walk begins
 abbrev pub walk : (back strict : Bool) → (low : List ℕ) → (high : Option (List ℕ)) → List Pair
     → List Pair
 walk false strict low high pairs = pairs_until (pairs_from pairs low strict) high false

@@ -1,8 +1,8 @@
 //! Estimates how many keys a range has.
 //!
 //! Two paths go down side by side, from the root to the two ends of the range. On each level the
-//! items between them are counted: those on the two pages that the paths are on, and for each page
-//! in between the average of these two pages' counts.
+//! items between them are counted: those on the two pages that the paths are on, plus, for each
+//! page in between, the average of these two pages' counts.
 ghost use Rattle.std.specs.Prelude.{ℕ, ◌-◌, ◌<◌, IsTrue};
 ghost use Rattle.be_pages.specs.Pages.{IsUnchanged, is_readable};
 ghost use Rattle.be_tree_reading.specs.Page.{IsPage};
@@ -13,16 +13,17 @@ use crate::lookup::{branch_in, item_number};
 use crate::page::{HEADER_WORDS, ITEM_WORDS, child_at, first_word};
 use be_pages::Look;
 
-/// A place on a page: how many of its items come before the place, and how many it has in all.
+/// A position on a page: how many of the page's items come before it, and how many the page has in
+/// all.
 #[derive(Clone, Copy)]
 struct End {
     before: u64,
     count: u64,
 }
 
-/// About how many keys of a tree are from `low` to `high`, both included, or to the last key. It
-/// costs two descents, and is exact for a range within one leaf. No contract says how close the
-/// estimate is.
+/// Estimates how many keys of a tree are between `low` and `high`, both included; without `high`,
+/// up to the last key. It costs two descents, and is exact for a range within one leaf. No contract
+/// says how close the estimate is.
 pub fn about_within<L: Look>(look: &mut L, root: u64, low: &[u8], high: Option<&[u8]>) -> u64
     requires tree { IsTree (L.page_state look.old) (L.words look.old) root }
     ensures unchanged { IsUnchanged L.kept L.page_state L.words look.old look.new }
@@ -47,7 +48,7 @@ pub fn about_within<L: Look>(look: &mut L, root: u64, low: &[u8], high: Option<&
     apart_by(apart, low_end, high_end)
 }
 
-/// How many items are between two places, whose pages are this many pages apart.
+/// Returns how many items are between two positions whose pages are this many pages apart.
 fn apart_by(apart: u64, from: End, to: End) -> u64 {
     if apart == 0 {
         return to.before.saturating_sub(from.before);
@@ -58,8 +59,8 @@ fn apart_by(apart: u64, from: End, to: End) -> u64 {
     between.saturating_add(after).saturating_add(to.before)
 }
 
-/// The page below the branch on the way to a key, and the branch's place. Without a key, the last
-/// branch.
+/// Returns the page below the branch that leads to a key, and the branch's position. Without a key,
+/// it takes the last branch.
 fn step_down<L: Look>(look: &mut L, page: u64, key: Option<&[u8]>) -> (u64, End)
     requires inner { (level : ℕ) × ((least : ℕ) × ((0 < level) × ((0 < least)
         × IsTreeAt level least (L.page_state look.old) (L.words look.old) page))) }
@@ -78,7 +79,7 @@ fn step_down<L: Look>(look: &mut L, page: u64, key: Option<&[u8]>) -> (u64, End)
     (child, end)
 }
 
-/// The number of the branch on the way to a key; without a key, that of the last branch.
+/// Returns the number of the branch that leads to a key, or of the last branch if there is no key.
 fn branch_to<L: Look>(look: &mut L, page: u64, key: Option<&[u8]>) -> usize
     requires readable { IsTrue (is_readable (L.page_state look.old page)) }
     requires page { IsPage (L.words look.old page) }
@@ -93,8 +94,8 @@ fn branch_to<L: Look>(look: &mut L, page: u64, key: Option<&[u8]>) -> usize
     item_number(at)
 }
 
-/// The place in a leaf before the keys at or after a key; with `after` set, before those strictly
-/// after it. Without a key, the leaf's end.
+/// Returns the position in a leaf just before the first key at or after a given key; if `after` is
+/// set, strictly after it. Without a key, returns the leaf's end.
 fn end_in<L: Look>(look: &mut L, page: u64, key: Option<&[u8]>, after: bool) -> End
     requires leaf { IsTreeAt 0 1 (L.page_state look.old) (L.words look.old) page }
     ensures unchanged { IsUnchanged L.kept L.page_state L.words look.old look.new }

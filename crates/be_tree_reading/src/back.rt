@@ -1,8 +1,8 @@
 //! A cursor that goes backwards through a tree's pairs.
 //!
 //! It keeps the path from the root down to a leaf, as `Cursor` does. The pairs before the deepest
-//! place come first, the last of them first. Then come those before the place above it, and so on
-//! up to the root.
+//! place come first, in reverse order. Then come those before the place above it, and so on up to
+//! the root.
 ghost use Rattle.std.specs.Prelude.{◌≡◌, ℕ, [], ◌+◌, ◌<◌, ◌≤◌, ◌++◌, length, take, Some, None};
 ghost use Rattle.std.specs.Prelude.{IfNone, IfSome, IsTrue};
 ghost use Rattle.std.specs.Option.{option_copied};
@@ -20,15 +20,15 @@ use crate::page::{HEADER_WORDS, ITEM_WORDS, child_at, first_word};
 use arrayvec::ArrayVec;
 use be_pages::Look;
 
-/// A place among a tree's pairs, from which a walk goes down to the lowest key. It is valid as long
-/// as the tree's pages keep their words. It takes no memory beyond its own 14 places.
+/// A position among a tree's pairs, from which a walk goes down to the lowest key. It is valid as
+/// long as the tree's pages keep their words. It takes no memory beyond its own 14 places.
 #[derive(Drop)]
 pub struct BackCursor {
     path: ArrayVec<Place, 14>,
 }
 
 impl BackCursor {
-    /// A cursor before all pairs.
+    /// Creates a cursor before all pairs.
     pub fn new() -> BackCursor
         ensures cursor { (page_state : ℕ → AnyPageState) (words : ℕ → ℕ → ℕ)
             → IsBackCursor page_state words result }
@@ -39,9 +39,9 @@ impl BackCursor {
         }
     }
 
-    /// Moves the cursor to just after the highest pair of a tree whose key is at or before `to`;
-    /// with `before` set, strictly before it. Without a key it moves after all pairs. It costs one
-    /// descent; without a key, only a read of the root's page.
+    /// Moves the cursor to just after a tree's highest pair whose key is at or before `to`; if
+    /// `before` is set, strictly before it. Without a key, the cursor moves past all pairs. It
+    /// costs one descent, or without a key only a read of the root's page.
     pub fn seek<L: Look>(&mut self, look: &mut L, root: u64, to: Option<&[u8]>, before: bool)
         requires tree { IsTree (L.page_state look.old) (L.words look.old) root }
         ensures cursor { IsBackCursor (L.page_state look.old) (L.words look.old) self.new }
@@ -59,7 +59,7 @@ impl BackCursor {
         }
     }
 
-    /// Moves an empty cursor after all pairs of a tree.
+    /// Moves an empty cursor past all pairs of a tree.
     fn begin_at_end<L: Look>(&mut self, look: &mut L, root: u64)
         requires tree { IsTree (L.page_state look.old) (L.words look.old) root }
         requires some { 0 < root }
@@ -73,7 +73,7 @@ impl BackCursor {
         self.path.push(place);
     }
 
-    /// Goes down with an empty cursor to the leaf with the last pair that `seek` moves past.
+    /// Descends with an empty cursor to the leaf with the last pair that `seek` moves past.
     fn descend<L: Look>(&mut self, look: &mut L, root: u64, to: &[u8], before: bool)
         requires tree { IsTree (L.page_state look.old) (L.words look.old) root }
         requires some { 0 < root }
@@ -106,8 +106,8 @@ impl BackCursor {
         });
     }
 
-    /// Removes places from the end of the path up to the deepest one with an item before it, and
-    /// returns that one.
+    /// Removes places from the end of the path up to the deepest one that has an item before it,
+    /// and returns that one.
     fn pop_spent(&mut self) -> Option<Place>
         ensures none { IfNone result ((words : ℕ → ℕ → ℕ) → coming words self.old ≡ []) }
         ensures empty { IfNone result ((words : ℕ → ℕ → ℕ) → coming words self.new ≡ []) }
@@ -130,8 +130,8 @@ impl BackCursor {
         None
     }
 
-    /// The leaf of the next pair, and how many of the leaf's items are still ahead, the last of
-    /// them first. The cursor moves past all of these.
+    /// Returns the leaf of the next pair, and how many of the leaf's items are still ahead, in
+    /// reverse order. The cursor moves past all of these.
     pub fn step_leaf<L: Look>(&mut self, look: &mut L) -> Option<(u64, usize)>
         requires cursor { IsBackCursor (L.page_state look.old) (L.words look.old) self.old }
         ensures none { IfNone result (coming (L.words look.old) self.old ≡ []) }
@@ -157,7 +157,7 @@ impl BackCursor {
     }
 }
 
-/// The place after all of a page's items.
+/// Returns the place after all of a page's items.
 fn after_items<L: Look>(look: &mut L, page: u64, level: u64) -> Place
     requires tree { (least : ℕ) × (0 < least)
         × IsTreeAt level least (L.page_state look.old) (L.words look.old) page }

@@ -1,11 +1,11 @@
 //! A cursor among a tree's pairs.
 //!
-//! A cursor keeps the path from the root down to the next pair: for each page on it, the number of
-//! the item after those already passed. It has ahead of it the pairs after the deepest place, then
-//! those after the place above, and so on up to the root. When it has passed all of a page, it
-//! removes the page's place and continues from the one above. So most steps read one leaf, and a
-//! walk over a whole tree reads each inner page about once. A look-up for each pair would go down
-//! from the root every time.
+//! A cursor keeps the path from the root down to the next pair: for each page on the path, the
+//! number of the item after those already passed. Ahead of it are the pairs after the deepest
+//! place, then those after the place above, and so on up to the root. When it has passed everything
+//! on a page, it removes the page's place and continues from the one above. So most steps read one
+//! leaf, and a walk over a whole tree reads each inner page about once. A look-up for each pair
+//! would descend from the root every time.
 //!
 //! A page has up to 12 items, and each page except the root has at least 6. So a tree with fewer
 //! than 2^32 pages has no level above 13, and a path has at most 14 places.
@@ -26,8 +26,8 @@ use crate::walk::{TreeItem, fill_key, key_at};
 use arrayvec::ArrayVec;
 use be_pages::Look;
 
-/// A place on a page of a level: the number of the next item. It is kept small, since a cursor has
-/// room for 14.
+/// A place on a page at some level: the number of the next item. It is kept small, because a cursor
+/// has room for 14 of them.
 #[derive(Clone, Copy)]
 pub(crate) struct Place {
     pub(crate) page: u32,
@@ -45,7 +45,7 @@ impl Default for Place {
     }
 }
 
-/// A place among a tree's pairs, with the path to it from the root. It is valid as long as the
+/// A position among a tree's pairs, with the path to it from the root. It is valid as long as the
 /// tree's pages keep their words. It takes no memory beyond its own 14 places.
 #[derive(Drop)]
 pub struct Cursor {
@@ -53,7 +53,7 @@ pub struct Cursor {
 }
 
 impl Cursor {
-    /// A cursor past all pairs.
+    /// Creates a cursor past all pairs.
     pub fn new() -> Cursor
         ensures cursor { (page_state : ℕ → AnyPageState) (words : ℕ → ℕ → ℕ)
             → IsCursor page_state words result }
@@ -64,8 +64,8 @@ impl Cursor {
         }
     }
 
-    /// Moves the cursor to just before the lowest pair of a tree whose key is at or after `from`;
-    /// with `after` set, strictly after it. It costs one descent.
+    /// Moves the cursor to just before a tree's lowest pair whose key is at or after `from`; if
+    /// `after` is set, strictly after it. It costs one descent.
     pub fn seek<L: Look>(&mut self, look: &mut L, root: u64, from: &[u8], after: bool)
         requires tree { IsTree (L.page_state look.old) (L.words look.old) root }
         ensures cursor { IsCursor (L.page_state look.old) (L.words look.old) self.new }
@@ -85,8 +85,8 @@ impl Cursor {
         });
     }
 
-    /// Goes down to the leaf with the first pair that `seek` moves before. Returns the leaf, and
-    /// how many of its items come before that pair. The cursor is then past the leaf.
+    /// Descends to the leaf with the pair that `seek` moves to. Returns the leaf, and how many of
+    /// its items come before that pair. The cursor is then past the leaf.
     pub(crate) fn descend<L: Look>(
         &mut self,
         look: &mut L,
@@ -125,8 +125,8 @@ impl Cursor {
         (page, next)
     }
 
-    /// The next pair; the cursor steps past it. None after the last. It is the pair that `range`
-    /// returns for the last pair's key and `after`, without the descent.
+    /// Returns the next pair and steps past it. Returns `None` after the last. This is the pair
+    /// that `range` returns for the last pair's key with `after` set, without the descent.
     pub fn next<L: Look>(&mut self, look: &mut L) -> Option<TreeItem>
         requires cursor { IsCursor (L.page_state look.old) (L.words look.old) self.old }
         ensures item { option_map pair_in result
@@ -146,7 +146,7 @@ impl Cursor {
         Some(item)
     }
 
-    /// The next pair's key; the cursor steps past the pair. Reads no payload.
+    /// Returns the next pair's key and steps past the pair. Reads no payload.
     pub fn next_key<L: Look>(&mut self, look: &mut L) -> Option<ArrayVec<u8, 264>>
         requires cursor { IsCursor (L.page_state look.old) (L.words look.old) self.old }
         ensures key { option_map (λ key. key.items) result
@@ -180,8 +180,8 @@ impl Cursor {
         None
     }
 
-    /// Removes the next pair's place from the path and returns it: a place in a leaf that has an
-    /// item left.
+    /// Removes the next pair's place from the path and returns it: a place in a leaf with an item
+    /// left.
     fn take_place<L: Look>(&mut self, look: &mut L) -> Option<Place>
         requires cursor { IsCursor (L.page_state look.old) (L.words look.old) self.old }
         ensures none { IfNone result (remaining (L.words look.old) self.old ≡ []) }
@@ -213,7 +213,8 @@ impl Cursor {
         Some(place)
     }
 
-    /// The next item's page and place; the cursor steps past it. Reads nothing of the item.
+    /// Returns the next item's page and place, and steps past the item. Reads nothing of the item
+    /// itself.
     pub fn step<L: Look>(&mut self, look: &mut L) -> Option<(u64, usize)>
         requires cursor { IsCursor (L.page_state look.old) (L.words look.old) self.old }
         ensures none { IfNone result (remaining (L.words look.old) self.old ≡ []) }
@@ -237,8 +238,8 @@ impl Cursor {
         ))
     }
 
-    /// The leaf of the next pair, and the number of the pair's item in it. The cursor steps past
-    /// all of the leaf's pairs.
+    /// Returns the leaf of the next pair, and the number of the pair's item in that leaf. The
+    /// cursor steps past all of the leaf's pairs.
     pub fn step_leaf<L: Look>(&mut self, look: &mut L) -> Option<(u64, usize)>
         requires cursor { IsCursor (L.page_state look.old) (L.words look.old) self.old }
         ensures none { IfNone result (remaining (L.words look.old) self.old ≡ []) }
@@ -256,8 +257,8 @@ impl Cursor {
     }
 }
 
-/// How many of a leaf's items come before the pairs at or after a key; with `after` set, strictly
-/// after it.
+/// Returns how many of a leaf's items come before the pairs at or after a key; if `after` is set,
+/// before those strictly after it.
 pub(crate) fn leaf_from<L: Look>(
     look: &mut L,
     page: u64,

@@ -2,15 +2,15 @@
 //!
 //! # What a tree is
 //! A tree is a sorted list of pairs. A pair is a key of up to 264 bytes and a payload. A tree is
-//! named by its root: 0 for the empty tree, otherwise the number of its root's page + 1. A leaf has
-//! pairs. An inner page has branches, each with the lowest key below it and a page's number. A page
-//! has up to 12 items, and each page except the root has at least 6.
+//! identified by its root: 0 for the empty tree, otherwise its root's page number + 1. A leaf holds
+//! pairs. An inner page holds branches, each with the lowest key below it and a page's number. A
+//! page has up to 12 items, and each page except the root has at least 6.
 //!
 //! # What is proved
-//! Reading decodes the list from the words (`specs/Tree.antt`). `find_into`, `range` and `Cursor`
-//! are look-up, next pair and walk on that list (`specs/Key.antt`, `specs/Range.antt`,
-//! `specs/Cursor.antt`). `Walk` and `numbers_in_order` go over a range of it in either direction
-//! (`specs/Way.antt`, `specs/Walk.antt`). be_tree changes trees.
+//! Reading decodes the list from the words (`specs/Tree.antt`). On that list, `find_into` is
+//! look-up, `range` finds the next pair, and `Cursor` is a walk (`specs/Key.antt`,
+//! `specs/Range.antt`, `specs/Cursor.antt`). `Walk` and `numbers_in_order` traverse a range of it
+//! in either direction (`specs/Way.antt`, `specs/Walk.antt`). be_tree changes trees.
 #![tactic(auto)]
 
 mod about;

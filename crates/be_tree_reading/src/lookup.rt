@@ -1,14 +1,14 @@
 //! Looks up keys.
 //!
-//! On each level the items of one page are compared in place, one after another. This ends at the
-//! first item with a higher key, or in a leaf at the item that has the key. A page has up to 12
-//! items, and a processor reads ahead along them, while the steps of a binary search wait for one
-//! another.
+//! On each level the items of one page are compared in place, one after another. The comparison
+//! stops at the first item with a higher key, or, in a leaf, at the item that has the key. A page
+//! has at most 12 items, and a processor reads ahead through them, whereas each step of a binary
+//! search waits for the one before.
 //!
-//! Usually the first word after an item's lengths decides. If it is lower than the key's first
-//! word, the item's key is lower, however short it is: the bytes after a short key don't matter,
-//! since the key has zeros there. If it is higher, the item's key may be short, so its length is
-//! read too.
+//! Usually the first word after an item's lengths decides the comparison. If it is lower than the
+//! key's first word, the item's key is lower, however short that is: the bytes that follow a short
+//! key can only make its word higher. If it is higher, the item's key may be short, so its length
+//! is read too.
 ghost use Rattle.std.specs.Prelude.{◌≡◌, [], ◌+◌, ◌-◌, ◌<◌, ◌≤◌, true, false, length, option_map};
 ghost use Rattle.std.specs.Prelude.{is_some, IfNone, IfSome, IfOk, IfErr, None, Some};
 ghost use Rattle.std.specs.Prelude.{◌/◌, IsTrue};
@@ -27,8 +27,8 @@ use be_pages::Look;
 use std::cmp::Ordering;
 
 /// Writes a key's payload into an empty vector, and returns whether the tree has the key; if it
-/// doesn't, the vector stays empty. The vector is filled in place, since passing one by value costs
-/// its whole capacity at each move. It costs one descent.
+/// doesn't, the vector remains empty. The vector is filled in place, because passing one by value
+/// costs its whole capacity at each move. It costs one descent.
 pub fn find_into<L: Look>(
     look: &mut L,
     root: u64,
@@ -50,7 +50,7 @@ pub fn find_into<L: Look>(
     true
 }
 
-/// The same, but returns the payload.
+/// Does the same as `find_into`, but returns the payload.
 pub fn find<L: Look>(look: &mut L, root: u64, key: &[u8]) -> Option<ArrayVec<u8, 328>>
     requires tree { IsTree (L.page_state look.old) (L.words look.old) root }
     ensures payload { option_map (λ payload. payload.items) result
@@ -64,7 +64,7 @@ pub fn find<L: Look>(look: &mut L, root: u64, key: &[u8]) -> Option<ArrayVec<u8,
     Some(payload)
 }
 
-/// Whether the tree has a key. It costs one descent, and reads no payload.
+/// Returns `true` if the tree has a key. It costs one descent, and reads no payload.
 pub fn has_key<L: Look>(look: &mut L, root: u64, key: &[u8]) -> bool
     requires tree { IsTree (L.page_state look.old) (L.words look.old) root }
     ensures found { result ≡ is_some (payload_at (pairs (L.words look.old) root) key.now) }
@@ -73,8 +73,8 @@ pub fn has_key<L: Look>(look: &mut L, root: u64, key: &[u8]) -> bool
     find_place(look, root, key).is_some()
 }
 
-/// The page and place of the item with this key, for callers that read its payload in place (with
-/// `payload_number_at` and the like). It costs one descent.
+/// Returns the page and place of the item with this key, for callers that read its payload in place
+/// (with `payload_number_at` and similar calls). It costs one descent.
 pub fn find_place<L: Look>(look: &mut L, root: u64, key: &[u8]) -> Option<(u64, usize)>
     requires tree { IsTree (L.page_state look.old) (L.words look.old) root }
     ensures none { IfNone result (payload_at (pairs (L.words look.old) root) key.now ≡ None) }
@@ -102,8 +102,8 @@ pub fn find_place<L: Look>(look: &mut L, root: u64, key: &[u8]) -> Option<(u64, 
     }
 }
 
-/// Whether the item at this place of a page, which `Cursor::step` returned, has this key. Compares
-/// them in place.
+/// Returns `true` if the item at this place of a page, as returned by `Cursor::step`, has this key.
+/// The keys are compared in place.
 pub fn is_key_at<L: Look>(look: &mut L, page: u64, at: usize, key: &[u8]) -> bool
     requires readable { IsTrue (is_readable (L.page_state look.old page)) }
     requires in_page { at + 42 ≤ 512 }
@@ -114,8 +114,8 @@ pub fn is_key_at<L: Look>(look: &mut L, page: u64, at: usize, key: &[u8]) -> boo
     cmp_at(look, page, at, key).is_eq()
 }
 
-/// How many of a page's items have keys that aren't higher than a key. For most items it reads one
-/// word.
+/// Returns how many of a page's items have keys that aren't higher than a key. For most items it
+/// reads one word.
 pub(crate) fn rank<L: Look>(look: &mut L, page: u64, key: &[u8]) -> usize
     requires readable { IsTrue (is_readable (L.page_state look.old page)) }
     requires page { IsPage (L.words look.old page) }
@@ -132,7 +132,7 @@ pub(crate) fn rank<L: Look>(look: &mut L, page: u64, key: &[u8]) -> usize
     count
 }
 
-/// The place where a page's items end.
+/// Returns the place where a page's items end.
 #[inline(always)]
 pub(crate) fn end_of<L: Look>(look: &mut L, page: u64) -> usize
     requires readable { IsTrue (is_readable (L.page_state look.old page)) }
@@ -143,7 +143,7 @@ pub(crate) fn end_of<L: Look>(look: &mut L, page: u64) -> usize
     HEADER_WORDS + ITEM_WORDS * look.word(page, 1) as usize
 }
 
-/// The number of the item at this place of a page.
+/// Returns the number of the item at this place of a page.
 pub fn item_number(at: usize) -> usize
     requires { 2 ≤ at }
     ensures { result ≡ (at - 2) / 42 }
@@ -151,7 +151,7 @@ pub fn item_number(at: usize) -> usize
     (at - HEADER_WORDS) / ITEM_WORDS
 }
 
-/// The place of the branch that a key belongs below, as `branch_for` finds it.
+/// Returns the place of the branch below which a key belongs, as `branch_for` finds it.
 #[inline(always)]
 pub fn branch_in<L: Look>(look: &mut L, page: u64, key: &[u8], first: u64) -> usize
     requires readable { IsTrue (is_readable (L.page_state look.old page)) }
@@ -165,8 +165,9 @@ pub fn branch_in<L: Look>(look: &mut L, page: u64, key: &[u8], first: u64) -> us
     branch_for(look, page, end, key, first)
 }
 
-/// The place of the branch that a key belongs below, on a page whose items end at `end`. It is the
-/// last branch whose key isn't higher, or the first branch, whose key is therefore never read.
+/// Returns the place of the branch below which a key belongs, on a page whose items end at `end`.
+/// It is the last branch whose key isn't higher, or the first branch if there is none. So the first
+/// branch's key is never read.
 #[inline(always)]
 pub(crate) fn branch_for<L: Look>(
     look: &mut L,
@@ -193,8 +194,8 @@ pub(crate) fn branch_for<L: Look>(
     at - ITEM_WORDS
 }
 
-/// The place of a key among a page's items: that of the item that has it, otherwise the one after
-/// those with lower keys.
+/// Returns the place of the item that has a key, or, if there is none, the place after the items
+/// with lower keys.
 #[inline(always)]
 pub fn search<L: Look>(look: &mut L, page: u64, key: &[u8], first: u64) -> Result<usize, usize>
     requires readable { IsTrue (is_readable (L.page_state look.old page)) }
@@ -219,7 +220,8 @@ pub fn search<L: Look>(look: &mut L, page: u64, key: &[u8], first: u64) -> Resul
     Err(at)
 }
 
-/// Whether the key of the item at this place is higher than a key whose first word is `first`.
+/// Returns `true` if the key of the item at this place is higher than a key whose first word is
+/// `first`.
 #[inline(always)]
 pub(crate) fn is_above<L: Look>(look: &mut L, page: u64, at: usize, key: &[u8], first: u64) -> bool
     requires readable { IsTrue (is_readable (L.page_state look.old page)) }
@@ -232,7 +234,8 @@ pub(crate) fn is_above<L: Look>(look: &mut L, page: u64, at: usize, key: &[u8], 
     order_at(look, page, at, key, first).is_gt()
 }
 
-/// Whether the key of the item at this place is lower than a key whose first word is `first`.
+/// Returns `true` if the key of the item at this place is lower than a key whose first word is
+/// `first`.
 #[inline(always)]
 pub(crate) fn is_below<L: Look>(look: &mut L, page: u64, at: usize, key: &[u8], first: u64) -> bool
     requires readable { IsTrue (is_readable (L.page_state look.old page)) }
@@ -245,9 +248,9 @@ pub(crate) fn is_below<L: Look>(look: &mut L, page: u64, at: usize, key: &[u8], 
     order_at(look, page, at, key, first).is_lt()
 }
 
-/// How the key of the item at this place compares with a key whose first word is `first`. Usually
-/// the first words decide. If they are equal, the second words come next. `cmp_at` compares keys
-/// that are shorter than a word.
+/// Compares the key of the item at this place with a key whose first word is `first`. Usually the
+/// first words decide. If they are equal, the second words are compared next. `cmp_at` compares
+/// keys that are shorter than a word.
 #[inline(always)]
 fn order_at<L: Look>(look: &mut L, page: u64, at: usize, key: &[u8], first: u64) -> Ordering
     requires readable { IsTrue (is_readable (L.page_state look.old page)) }

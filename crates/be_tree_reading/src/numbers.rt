@@ -2,8 +2,8 @@
 //!
 //! An index has a key for each of its entries, and the key's last eight bytes are the entry's node.
 //! A reader that needs only these numbers for a range of keys gets them here: each key's words are
-//! compared with the bound in place, and no key is unpacked. In leaves after the first, the last
-//! key is compared before the others: if it isn't above the bound, no key of its leaf is.
+//! compared with the bound in place, and no key is unpacked. In each leaf after the first, the last
+//! key is compared before the others: if it isn't above the bound, no key in the leaf is.
 ghost use Rattle.std.specs.Prelude.{◌≡◌, ◌+◌, ◌<◌, ◌≤◌, ◌++◌, [], List, true, false, IsTrue, IfOk};
 ghost use Rattle.std.specs.Prelude.{OnOk, length, drop};
 ghost use Rattle.std.specs.List.{list_any};
@@ -25,15 +25,15 @@ use crate::walk::key_at;
 use be_pages::Look;
 use std::alloc::AllocError;
 
-/// A branch by its place on a page: the one after a leaf, which has the lowest key after the leaf.
-/// Place 0 means that no key comes after it.
+/// A branch, given by its place on a page: the one after a leaf, which has the lowest key after
+/// that leaf. Place 0 means that no key comes after the leaf.
 #[derive(Clone, Copy)]
 struct NextBranch {
     page: u64,
     place: usize,
 }
 
-/// The leaf in which the keys from some key on begin, the place of the first of them, and the
+/// The leaf in which the keys at or after some key begin, the place of the first of them, and the
 /// branch after the leaf. The place may be the end of the leaf's items.
 #[derive(Clone, Copy)]
 struct FirstLeaf {
@@ -42,9 +42,9 @@ struct FirstLeaf {
     next: NextBranch,
 }
 
-/// Adds the numbers in the last eight bytes of some keys, in the keys' order: from `low` to `high`,
-/// both included, or to the last key. It costs one descent, or two if more than one leaf has such
-/// keys, and reads a few words for each key.
+/// Adds the numbers in the last eight bytes of the keys from `low` to `high`, both included, in the
+/// keys' order; without `high`, up to the last key. It costs one descent, or two if more than one
+/// leaf has such keys, and reads a few words per key.
 pub fn numbers_within<L: Look>(
     look: &mut L,
     root: u64,
@@ -77,7 +77,7 @@ pub fn numbers_within<L: Look>(
     push_past(look, root, leaf, low, high, found)
 }
 
-/// The leaf in which the keys from `low` on begin.
+/// Returns the leaf in which the keys at or after `low` begin.
 #[inline(always)]
 fn first_leaf<L: Look>(look: &mut L, root: u64, low: &[u8]) -> FirstLeaf
     requires tree { IsTree (L.page_state look.old) (L.words look.old) root }
@@ -105,7 +105,8 @@ fn first_leaf<L: Look>(look: &mut L, root: u64, low: &[u8]) -> FirstLeaf
     FirstLeaf { page, at, next }
 }
 
-/// The branch at this place of a page; if the items end there, the branch found on a level above.
+/// Returns the branch at this place of a page, or, if the page's items end there, the branch found
+/// on a level above.
 #[inline(always)]
 fn next_of(page: u64, place: usize, end: usize, above: NextBranch) -> NextBranch
     ensures here { place < end → result ≡ record { page = page; place = place } }
@@ -118,7 +119,8 @@ fn next_of(page: u64, place: usize, end: usize, above: NextBranch) -> NextBranch
     }
 }
 
-/// The place of the first of a leaf's keys that isn't lower than a key, or the end of its items.
+/// Returns the place of the first of a leaf's keys that isn't lower than a key, or the end of the
+/// leaf's items.
 #[inline(always)]
 fn first_from<L: Look>(look: &mut L, page: u64, low: &[u8], first: u64) -> usize
     requires leaf { IsTreeAt 0 1 (L.page_state look.old) (L.words look.old) page }
@@ -133,7 +135,7 @@ fn first_from<L: Look>(look: &mut L, page: u64, low: &[u8], first: u64) -> usize
     }
 }
 
-/// Whether all keys from a branch on are above the bound.
+/// Returns `true` if all keys from a branch on are above the bound.
 #[inline(always)]
 fn ends_before<L: Look>(look: &mut L, next: NextBranch, high: Option<&[u8]>) -> bool
     requires next { (rest : List Pair)
@@ -180,8 +182,8 @@ fn push_past<L: Look>(
     push_rest(look, &mut cursor, high, found)
 }
 
-/// Moves a cursor past the first leaf: after its last key, or, if the leaf has none of the keys,
-/// before the first of them.
+/// Moves a cursor past the first leaf: to just after its last key, or, if the leaf has none of the
+/// keys, to just before the first of them.
 fn seek_past<L: Look>(look: &mut L, root: u64, leaf: FirstLeaf, low: &[u8], cursor: &mut Cursor)
     requires tree { IsTree (L.page_state look.old) (L.words look.old) root }
     requires leaf { IsTreeAt 0 1 (L.page_state look.old) (L.words look.old) leaf.page }
@@ -230,8 +232,9 @@ fn push_rest<L: Look>(
     Ok(())
 }
 
-/// Adds the numbers of a leaf's keys, from the item with this number on, up to the bound. Returns
-/// whether a key is above the bound. If the last key isn't, no other is compared.
+/// Adds the numbers of a leaf's keys up to the bound, starting with the item that has this number.
+/// Returns `true` if a key is above the bound. If the last key isn't above it, no other key is
+/// compared.
 fn push_leaf<L: Look>(
     look: &mut L,
     page: u64,
@@ -263,8 +266,8 @@ fn push_leaf<L: Look>(
     }
 }
 
-/// Adds the numbers of a leaf's keys, from the item at this place on, up to the bound. Returns
-/// whether a key is above the bound.
+/// Adds the numbers of a leaf's keys up to the bound, starting with the item at this place. Returns
+/// `true` if a key is above the bound.
 #[inline(always)]
 fn push_to<L: Look>(
     look: &mut L,
@@ -302,7 +305,7 @@ fn push_to<L: Look>(
     Ok(false)
 }
 
-/// The first word of the bound, or 0 if there is none.
+/// Returns the first word of the bound, or 0 if there is none.
 pub fn first_of(high: Option<&[u8]>) -> u64
     ensures { IsFirstOf (option_copied high.entry) result }
 {
@@ -312,7 +315,8 @@ pub fn first_of(high: Option<&[u8]>) -> u64
     }
 }
 
-/// Whether the key of the item at this place is above the bound, whose first word is `first`.
+/// Returns `true` if the key of the item at this place is above the bound, whose first word is
+/// `first`.
 #[inline(always)]
 pub fn is_past_at<L: Look>(
     look: &mut L,
@@ -335,7 +339,7 @@ pub fn is_past_at<L: Look>(
     }
 }
 
-/// The number in the last eight bytes of the key of the item at this place.
+/// Returns the number in the last eight bytes of the key of the item at this place.
 #[inline(always)]
 pub fn number_at<L: Look>(look: &mut L, page: u64, at: usize) -> u64
     requires readable { IsTrue (is_readable (L.page_state look.old page)) }

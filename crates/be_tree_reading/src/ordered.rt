@@ -1,8 +1,8 @@
 //! The numbers at the ends of keys, in the keys' order or in reverse, up to a limit.
 //!
 //! In each leaf that a walk reaches, the last key that may still be wanted is compared with the end
-//! of the range. Usually it is within, and all these numbers are added without reading the other
-//! keys.
+//! of the range. Usually it is within the range, and all these numbers are added without reading
+//! the other keys.
 ghost use Rattle.std.specs.Prelude.{◌≡◌, ℕ, List, [], ◌+◌, ◌-◌, ◌<◌, ◌≤◌, ◌++◌, length, take, true};
 ghost use Rattle.std.specs.Prelude.{false, IfOk, IsTrue, OnOk, slice_index_or};
 ghost use Rattle.be_pages.specs.Pages.{IsUnchanged, is_readable};
@@ -29,9 +29,9 @@ struct Run {
     want: usize,
 }
 
-/// Walks over a range of keys. In the walk's order it adds the number in the last eight bytes of
-/// each key, up to `most`. Returns the page and place of the last key whose number was added, if
-/// there is one. It costs one descent, one comparison for each leaf, and a few words for each
+/// Walks over a range of keys. In the walk's order, it adds the number in the last eight bytes of
+/// each key, for at most `most` keys. Returns the page and place of the last key whose number was
+/// added, if there is one. It costs one descent, one comparison per leaf, and a few words per
 /// number.
 pub fn numbers_in_order<L: Look>(
     look: &mut L,
@@ -55,8 +55,8 @@ pub fn numbers_in_order<L: Look>(
     push_ahead(look, &mut walk, way, most, found)
 }
 
-/// Adds the numbers of the keys that a walk has ahead, up to the end of its range and up to `most`
-/// of them. Returns the last key's place.
+/// Adds the numbers of the keys that a walk has ahead, up to the end of its range and for at most
+/// `most` keys. Returns the place of the last key.
 fn push_ahead<L: Look>(
     look: &mut L,
     walk: &mut Walk,
@@ -96,8 +96,8 @@ fn push_ahead<L: Look>(
     Ok(last)
 }
 
-/// How many of the items that a walk has ahead in a leaf are within its range, up to `want`. And
-/// how many are still wanted after them: none if the range ends in this leaf.
+/// Returns how many of the items that a walk has ahead in a leaf are within its range, at most
+/// `want`. Also returns how many are still wanted after them: none if the range ends in this leaf.
 fn run_in<L: Look>(look: &mut L, leaf: Leaf, way: Way<'_>, first: u64, want: usize) -> Run
     requires leaf { IsLeaf (L.page_state look.old) (L.words look.old) leaf }
     requires back { leaf.back ≡ way.back }
@@ -126,8 +126,8 @@ fn run_in<L: Look>(look: &mut L, leaf: Leaf, way: Way<'_>, first: u64, want: usi
     }
 }
 
-/// How many of the first `most` items that a walk has ahead in a leaf are within its range. If the
-/// last of them is, no other is compared.
+/// Returns how many of the first `most` items that a walk has ahead in a leaf are within its range.
+/// If the last of them is within it, no other is compared.
 fn count_within<L: Look>(look: &mut L, leaf: Leaf, way: Way<'_>, first: u64, most: usize) -> usize
     requires leaf { IsLeaf (L.page_state look.old) (L.words look.old) leaf }
     requires back { leaf.back ≡ way.back }
@@ -151,8 +151,8 @@ fn count_within<L: Look>(look: &mut L, leaf: Leaf, way: Way<'_>, first: u64, mos
     0
 }
 
-/// Whether the key of the item at this place isn't past the end of a way, whose first word is
-/// `first` (`first_of_end`).
+/// Returns `true` if the key of the item at this place isn't past the end of a way, whose first
+/// word is `first` (`first_of_end`).
 #[inline(always)]
 pub fn is_within<L: Look>(look: &mut L, page: u64, at: usize, way: Way<'_>, first: u64) -> bool
     requires readable { IsTrue (is_readable (L.page_state look.old page)) }
@@ -169,7 +169,7 @@ pub fn is_within<L: Look>(look: &mut L, page: u64, at: usize, way: Way<'_>, firs
     }
 }
 
-/// The first word of the key at which a way ends, or 0 if there is none.
+/// Returns the first word of the key at which a way ends, or 0 if there is none.
 pub fn first_of_end(way: Way<'_>) -> u64
     ensures { IsFirstOf (end_of_way way.entry) result }
 {

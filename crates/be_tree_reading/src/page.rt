@@ -16,23 +16,23 @@ use arrayvec::ArrayVec;
 use be_pages::Look;
 use std::cmp::Ordering;
 
-/// The number of words before a page's items: its level, and its number of items.
+/// The number of words before a page's items, which hold its level and its number of items.
 pub const HEADER_WORDS: usize = 2;
 
-/// The number of words of an item: one for its lengths, and 41 for up to 328 bytes.
+/// The number of words in an item: one for its lengths, and 41 for up to 328 bytes.
 pub const ITEM_WORDS: usize = 42;
 
-/// In an item's first word, the bits from this one up are its key's length, and the bits below are
-/// its payload's.
+/// In an item's first word, the bits from this one up hold the key's length, and the bits below it
+/// hold the payload's.
 pub const LENGTH_BITS: usize = 32;
 
-/// The largest number of items on a page.
+/// The maximum number of items on a page.
 pub const MOST_ITEMS: usize = 12;
 
-/// The smallest number of items on a page other than a root.
+/// The minimum number of items on a page other than a root.
 pub const MINIMUM_ITEMS: usize = 6;
 
-/// The page of the branch at this place.
+/// Returns the page to which the branch at this place leads.
 pub fn child_at<L: Look>(look: &mut L, page: u64, at: usize) -> u64
     requires readable { IsTrue (is_readable (L.page_state look.old page)) }
     requires in_page { at + 42 ≤ 512 }
@@ -45,8 +45,8 @@ pub fn child_at<L: Look>(look: &mut L, page: u64, at: usize) -> u64
     number_beyond(look, page, at + 1 + key_len / 8, key_len % 8)
 }
 
-/// The number in the eight bytes that begin `skip` bytes after the start of a word. They are in
-/// that word, or in it and the next.
+/// Returns the number in the eight bytes that begin `skip` bytes after the start of a word. They
+/// are in that word, or in that word and the next.
 pub fn number_beyond<L: Look>(look: &mut L, page: u64, at: usize, skip: usize) -> u64
     requires readable { IsTrue (is_readable (L.page_state look.old page)) }
     requires skips { skip < 8 }
@@ -62,7 +62,7 @@ pub fn number_beyond<L: Look>(look: &mut L, page: u64, at: usize, skip: usize) -
     straddled(first, second, skip)
 }
 
-/// The number whose eight bytes begin `skip` bytes into one word and end in the next.
+/// Returns the number whose eight bytes begin `skip` bytes into one word and end in the next.
 pub fn straddled(first: u64, second: u64, skip: usize) -> u64
     requires { (0 < skip) × (skip < 8) }
     ensures { result ≡ first * 2 ^ (8 * skip) % 2 ^ 64 + second / 2 ^ (64 - 8 * skip) }
@@ -70,8 +70,8 @@ pub fn straddled(first: u64, second: u64, skip: usize) -> u64
     (first << (8 * skip)) + (second >> (64 - 8 * skip))
 }
 
-/// How the key of the item at this place compares with a key, word by word, in place. Look-ups need
-/// it only for short keys, so it isn't inlined into their loops.
+/// Compares the key of the item at this place with a key, word by word, in place. Look-ups need it
+/// only for short keys, so it isn't inlined into their loops.
 #[inline(never)]
 pub(crate) fn cmp_at<L: Look>(look: &mut L, page: u64, at: usize, key: &[u8]) -> Ordering
     requires readable { IsTrue (is_readable (L.page_state look.old page)) }
@@ -84,7 +84,7 @@ pub(crate) fn cmp_at<L: Look>(look: &mut L, page: u64, at: usize, key: &[u8]) ->
     cmp_from(look, page, at, len, key, 0)
 }
 
-/// How the key of the item at this place compares with a key, if their words before word `from` are
+/// Compares the key of the item at this place with a key, if their words before word `from` are
 /// equal.
 #[inline(always)]
 pub(crate) fn cmp_from<L: Look>(
@@ -129,7 +129,7 @@ pub(crate) fn cmp_from<L: Look>(
     len.cmp(&key.len())
 }
 
-/// The lower of two numbers.
+/// Returns the lower of two numbers.
 pub(crate) fn smaller_of(a: usize, b: usize) -> usize
     ensures at_most { (result ≤ a) × (result ≤ b) }
     ensures one { (result ≡ a) ⊎ (result ≡ b) }
@@ -138,7 +138,7 @@ pub(crate) fn smaller_of(a: usize, b: usize) -> usize
 }
 
 /// Writes the `n` bytes that begin `skip` bytes after the start of a word into an empty vector. The
-/// vector is filled in place, since passing one by value costs its whole capacity.
+/// vector is filled in place, because passing one by value costs its whole capacity.
 pub fn fill_bytes<L: Look, const N: usize>(
     look: &mut L,
     page: u64,
@@ -167,7 +167,7 @@ pub fn fill_bytes<L: Look, const N: usize>(
     rest.truncate(n);
 }
 
-/// Appends bytes for which there is room.
+/// Appends bytes, for which there must be room.
 pub fn extend<const N: usize>(bytes: &mut ArrayVec<u8, N>, more: &[u8])
     requires { length bytes.old.items + length more.now ≤ N }
     ensures items { bytes.new.items ≡ bytes.old.items ++ more.now }
@@ -176,14 +176,14 @@ pub fn extend<const N: usize>(bytes: &mut ArrayVec<u8, N>, more: &[u8])
     let _ = bytes.try_extend_from_slice(more);
 }
 
-/// The byte at this place, or 0 past the end.
+/// Returns the byte at this index, or 0 past the end.
 fn byte_or_zero(bytes: &[u8], i: usize) -> u8
     ensures { result ≡ slice_index bytes.now i }
 {
     if i < bytes.len() { bytes[i] } else { 0 }
 }
 
-/// The eight bytes from this place on, as a word: one load and a byte swap.
+/// Returns the eight bytes from this index on as a word, with one load and a byte swap.
 fn whole_word(bytes: &[u8], from: usize) -> u64
     requires { from + 8 ≤ length bytes.now }
     ensures { to_be_bytes w64 result ≡ map (λ k. slice_index bytes.now k) (range_with_len from 8) }
@@ -200,8 +200,8 @@ fn whole_word(bytes: &[u8], from: usize) -> u64
     ])
 }
 
-/// The bytes from one of the last seven on, as a word, with zeros past the end: the last eight
-/// bytes in one load, shifted up.
+/// Returns the bytes from an index on as a word, with zeros past the end. The index is among the
+/// last seven, so it loads the last eight bytes and shifts them up.
 fn last_word(bytes: &[u8], from: usize) -> u64
     requires some { 8 ≤ length bytes.now }
     requires within { from < length bytes.now }
@@ -212,7 +212,7 @@ fn last_word(bytes: &[u8], from: usize) -> u64
     whole_word(bytes, last) << (8 * (from - last))
 }
 
-/// The eight bytes from this place on, as a word with the first byte highest, and with zeros past
+/// Returns the eight bytes from this index on as a word, the first byte highest, with zeros past
 /// the end.
 #[inline(always)]
 pub fn word_from(bytes: &[u8], from: usize) -> u64
@@ -225,7 +225,7 @@ pub fn word_from(bytes: &[u8], from: usize) -> u64
     padded_word(bytes, from)
 }
 
-/// The same, from a place within the bytes.
+/// Does the same as `word_from`, from an index within the bytes.
 #[inline(always)]
 fn word_within(bytes: &[u8], from: usize) -> u64
     requires small { from ≤ 328 }
@@ -241,7 +241,7 @@ fn word_within(bytes: &[u8], from: usize) -> u64
     padded_word(bytes, from)
 }
 
-/// The same, byte by byte.
+/// Does the same as `word_within`, byte by byte.
 fn padded_word(bytes: &[u8], from: usize) -> u64
     requires { from ≤ 328 }
     ensures { to_be_bytes w64 result ≡ map (λ k. slice_index bytes.now k) (range_with_len from 8) }
@@ -258,7 +258,8 @@ fn padded_word(bytes: &[u8], from: usize) -> u64
     ])
 }
 
-/// A key's first word, with zeros after a short key. Each descent makes it once.
+/// Returns a key's first word, padded with zeros if the key is short. Each descent computes it
+/// once.
 pub fn first_word(key: &[u8]) -> u64
     ensures { IsFirst key.now result }
 {

@@ -1,7 +1,7 @@
 //! Reads payloads in place.
 //!
-//! A caller that knows a payload's form doesn't copy it: a number is read from the one or two words
-//! that hold its bytes.
+//! A caller that knows a payload's format doesn't copy it: a number is read from the one or two
+//! words that hold its bytes.
 ghost use Rattle.std.specs.Prelude.{◌≡◌, [], ◌+◌, ◌<◌, ◌≤◌, IsTrue, length, take, drop};
 ghost use Rattle.std.specs.Prelude.{slice_index};
 ghost use Rattle.std.specs.Int.{from_be_bytes, w32, w64};
@@ -12,7 +12,7 @@ use crate::page::{LENGTH_BITS, fill_bytes, number_beyond, straddled};
 use arrayvec::ArrayVec;
 use be_pages::Look;
 
-/// The length in bytes of the payload at this place of a page.
+/// Returns the length in bytes of the payload at this place of a page.
 pub fn payload_len_at<L: Look>(look: &mut L, page: u64, at: usize) -> usize
     requires readable { IsTrue (is_readable (L.page_state look.old page)) }
     requires in_page { at + 42 ≤ 512 }
@@ -24,7 +24,7 @@ pub fn payload_len_at<L: Look>(look: &mut L, page: u64, at: usize) -> usize
     (look.word(page, at) % (1 << LENGTH_BITS)) as usize
 }
 
-/// The byte at this place of a payload.
+/// Returns the byte at index `from` of a payload.
 pub fn payload_byte_at<L: Look>(look: &mut L, page: u64, at: usize, from: usize) -> u8
     requires readable { IsTrue (is_readable (L.page_state look.old page)) }
     requires in_page { at + 42 ≤ 512 }
@@ -39,7 +39,7 @@ pub fn payload_byte_at<L: Look>(look: &mut L, page: u64, at: usize, from: usize)
     bytes[place % 8]
 }
 
-/// The number in eight bytes of a payload, the first byte highest.
+/// Returns the number in eight bytes of a payload, the first byte highest.
 pub fn payload_number_at<L: Look>(look: &mut L, page: u64, at: usize, from: usize) -> u64
     requires readable { IsTrue (is_readable (L.page_state look.old page)) }
     requires in_page { at + 42 ≤ 512 }
@@ -54,7 +54,7 @@ pub fn payload_number_at<L: Look>(look: &mut L, page: u64, at: usize, from: usiz
     number_beyond(look, page, at + 1 + place / 8, place % 8)
 }
 
-/// The number in four bytes of a payload, the first byte highest.
+/// Returns the number in four bytes of a payload, the first byte highest.
 pub fn payload_number32_at<L: Look>(look: &mut L, page: u64, at: usize, from: usize) -> u32
     requires readable { IsTrue (is_readable (L.page_state look.old page)) }
     requires in_page { at + 42 ≤ 512 }
@@ -69,8 +69,8 @@ pub fn payload_number32_at<L: Look>(look: &mut L, page: u64, at: usize, from: us
     number32_after(look, page, at + 1 + place / 8, place % 8)
 }
 
-/// The number in the four bytes that begin `skip` bytes after the start of a word. They are in that
-/// word, or in it and the next.
+/// Returns the number in the four bytes that begin `skip` bytes after the start of a word. They are
+/// in that word, or in that word and the next.
 fn number32_after<L: Look>(look: &mut L, page: u64, at: usize, skip: usize) -> u32
     requires readable { IsTrue (is_readable (L.page_state look.old page)) }
     requires skips { skip < 8 }

@@ -1,8 +1,8 @@
-//! The lowest pair of a tree from a key on.
+//! Finds a tree's lowest pair at or after a key.
 //!
 //! A tree is a sorted list of pairs, so the pairs at or after a key are a tail of the list. The
 //! tail's first pair is the lowest. One descent finds where the tail begins: on each inner page it
-//! takes the last branch whose key isn't above the given key. In the leaf the search ends.
+//! takes the last branch whose key isn't above the given key. The search ends in the leaf.
 ghost use Rattle.std.specs.Prelude.{◌≡◌, [], ◌+◌, ◌≤◌, IsTrue, option_map};
 ghost use Rattle.be_pages.specs.Pages.{IsUnchanged, is_readable};
 ghost use Rattle.be_tree_reading.specs.Page.{IsItem, item_at};
@@ -23,8 +23,8 @@ pub struct TreeItem {
     pub payload: ArrayVec<u8, 328>,
 }
 
-/// The lowest pair whose key is at or after `from`; with `after` set, strictly after it. It costs
-/// one descent, and another to the next leaf if the first one has no such pair.
+/// Returns the lowest pair whose key is at or after `from`; if `after` is set, strictly after it.
+/// It costs one descent, plus another to the next leaf if the first leaf has no such pair.
 pub fn range<L: Look>(look: &mut L, root: u64, from: &[u8], after: bool) -> Option<TreeItem>
     requires tree { IsTree (L.page_state look.old) (L.words look.old) root }
     ensures item { option_map pair_in result
@@ -36,7 +36,7 @@ pub fn range<L: Look>(look: &mut L, root: u64, from: &[u8], after: bool) -> Opti
     cursor.next(look)
 }
 
-/// The key of the item at this place of a page, which `Cursor::step` returned.
+/// Returns the key of the item at this place of a page, as returned by `Cursor::step`.
 pub fn key_at<L: Look>(look: &mut L, page: u64, at: usize) -> ArrayVec<u8, 264>
     requires readable { IsTrue (is_readable (L.page_state look.old page)) }
     requires in_page { at + 42 ≤ 512 }

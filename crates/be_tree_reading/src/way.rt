@@ -1,7 +1,7 @@
 //! A walk over a range of keys, in either direction.
 //!
-//! It goes leaf by leaf, with a cursor for its direction. It treats a leaf's items the same in both
-//! directions: a `Leaf` counts them from where the walk reached it.
+//! It goes leaf by leaf, with a cursor for its direction. It treats a leaf's items the same way in
+//! both directions: a `Leaf` counts them from where the walk reached it.
 ghost use Rattle.std.specs.Prelude.{◌≡◌, [], ◌<◌, ◌++◌, length, IfNone, IfSome};
 ghost use Rattle.be_pages.specs.Pages.{IsUnchanged};
 ghost use Rattle.be_tree_reading.specs.Page.{item_place};
@@ -14,9 +14,9 @@ use crate::cursor::Cursor;
 use crate::page::{HEADER_WORDS, ITEM_WORDS};
 use be_pages::Look;
 
-/// A range of keys, and the direction in which a walk goes over it: up from `low`, or with `back`
-/// down from `high`, or from the last key if there is no `high`. Both ends belong to the range;
-/// `strict` leaves out the end where the walk begins.
+/// A range of keys and the direction of a walk over it. The walk goes up from `low`, or, if `back`
+/// is set, down from `high`. If there is no `high`, it goes down from the last key. Both ends
+/// belong to the range, but `strict` leaves out the end where the walk begins.
 #[derive(Clone, Copy)]
 pub struct Way<'a> {
     pub low: &'a [u8],
@@ -25,8 +25,8 @@ pub struct Way<'a> {
     pub back: bool,
 }
 
-/// A place among a tree's pairs, from which a walk continues in its direction. It is valid as long
-/// as the tree's pages keep their words.
+/// A position among a tree's pairs, from which a walk continues in its direction. It is valid as
+/// long as the tree's pages keep their words.
 #[derive(Drop)]
 pub struct Walk {
     back: bool,
@@ -34,8 +34,8 @@ pub struct Walk {
     falling: BackCursor,
 }
 
-/// A leaf that a walk has reached. The walk continues with the later items from `at` on, or with
-/// `back` with the items before it.
+/// A leaf that a walk has reached. The walk continues with the items from `at` on, or, if `back` is
+/// set, with the items before it.
 #[derive(Clone, Copy)]
 pub struct Leaf {
     pub page: u64,
@@ -44,7 +44,7 @@ pub struct Leaf {
 }
 
 impl Walk {
-    /// A walk at the beginning of a way. It costs one descent.
+    /// Creates a walk at the beginning of a way. It costs one descent.
     pub fn begin<L: Look>(look: &mut L, root: u64, way: Way<'_>) -> Walk
         requires tree { IsTree (L.page_state look.old) (L.words look.old) root }
         ensures walk { IsWalk (L.page_state look.old) (L.words look.old) result }
@@ -66,7 +66,8 @@ impl Walk {
         walk
     }
 
-    /// The leaf of the next pair; the walk steps past all of the leaf's pairs that it has ahead.
+    /// Returns the leaf of the next pair, and steps past all of the leaf's pairs that were still
+    /// ahead.
     pub fn step_leaf<L: Look>(&mut self, look: &mut L) -> Option<Leaf>
         requires walk { IsWalk (L.page_state look.old) (L.words look.old) self.old }
         ensures none { IfNone result (ahead (L.words look.old) self.old ≡ []) }
@@ -98,7 +99,7 @@ impl Walk {
 }
 
 impl Leaf {
-    /// How many of the leaf's items the walk has ahead.
+    /// Returns how many of the leaf's items the walk has ahead.
     #[inline(always)]
     pub fn count<L: Look>(self, look: &mut L) -> usize
         requires leaf { IsLeaf (L.page_state look.old) (L.words look.old) self }
@@ -111,7 +112,7 @@ impl Leaf {
         look.word(self.page, 1) as usize - self.at
     }
 
-    /// The place of one of the items that the walk has ahead, by its number among them.
+    /// Returns the place of one of the items that the walk has ahead, given its number among them.
     #[inline(always)]
     pub fn place(self, i: usize) -> usize
         requires { IsAhead self i }

@@ -1,4 +1,4 @@
--- Numbers that digits encode.
+-- The numbers that digits encode.
 use Rattle.std.proofs.Common.{◌≡◌, ◌<◌, ◌≤◌, ◌^◌, ◌+◌, ◌*◌, ◌-◌, ℕ, suc, pos, Bool, true, false, List, [], ◌∷◌, Some, None, nat_lt, nat_le, length, take, drop, get_or, refl, sym, ap, ◌∙◌, ap₂, ◌&&◌, arith, cond, drop-cons}
 use Rattle.std.specs.List.{fold}
 use Rattle.std.specs.Option.{option_and_then, option_map}
@@ -10,7 +10,7 @@ use Rattle.std.proofs.lemmas.List.Sums.{fold-append}
 use Rattle.be_value.specs.Number.{are_digits, decimal_value, digits_in, negative, positive, word_in}
 use lib.IntN.{neg_ℤ}
 
--- further digits don't make a number smaller
+-- further digits never make a number smaller
 grows : (n : ℕ) (digits : List ℕ) → n ≤ fold (λ n digit. 10 * n + (digit - 48)) n digits
 grows n [] = omega arith
 grows n (d ∷ digits) = omega (arith, grows (10 * n + (d - 48)) digits)

@@ -24,7 +24,7 @@ use Rattle.be_value.specs.declared.refusals.Refusal.TheVariants.{DataLength, Has
 use Rattle.be_value.specs.declared.values.Value.{Value}
 use Rattle.be_value.specs.declared.values.Value.TheVariants.{Cstr, Long, Llng, Mims, Rawt, Ulng, Ullg}
 
--- comparisons one after another may be grouped either way
+-- successive comparisons may be grouped either way
 then_assoc : (a b c : Ordering) → ordering_then (ordering_then a b) c ≡ ordering_then a (ordering_then b c)
 then_assoc Less b c = refl
 then_assoc Equal b c = refl
@@ -38,7 +38,7 @@ last_bytes (suc i) a = ap (λ w. a % w) (pow-succ' 256 (suc i)) ∙ mod-mul a {m
     pow_positive : (k : ℕ) → 0 < 256 ^ k
     pow_positive k = omega (arith, one-le-pow k 256 (omega arith))
 
--- numbers of two parts are compared by the high part, and then by the low one
+-- numbers with two parts are compared by the high part, then by the low one
 two_parts : (w p q r s : ℕ) → r < w → s < w → nat_cmp (p * w + r) (q * w + s) ≡ ordering_then (nat_cmp p q) (nat_cmp r s)
 two_parts w p q r s h g = sym (nat_cmp_is (p * w + r) (q * w + s) _ (by (nat_cmp p q) (nat_cmp r s) (ranked p q _ refl) (ranked r s _ refl)))
   where
@@ -98,7 +98,7 @@ no_nul true c t h = cc
 no_nul false true t h = cc
 no_nul false false t h = refl
 
--- numbers and their distances from the lowest are in the same order
+-- numbers are in the same order as their distances from the lowest
 counted_order : (half : ℕ) (x y : ℤ) → mag x < half → mag y < half → nat_cmp (counted half x) (counted half y) ≡ int_cmp x y
 counted_order half x y h g = sym (nat_cmp_is (counted half x) (counted half y) (int_cmp x y) (by (int_cmp x y) (int_ranks x y)))
   where
@@ -145,7 +145,7 @@ number_order32 a b xs ys h g =
 node_order : (m n : ℕ) → m < 2 ^ 64 → n < 2 ^ 64 → slice_cmp nat_cmp (to_be_bytes w64 m) (to_be_bytes w64 n) ≡ nat_cmp m n
 node_order m n h g = number_order64 m n [] [] h g ∙ then_equal (nat_cmp m n)
 
--- keys that end with two nodes are only equal if the nodes are
+-- keys that end with two nodes are equal only if the nodes are
 pub same_node : (xs ys : List ℕ) (m n : ℕ) → m < 2 ^ 64 → n < 2 ^ 64 → xs ++ to_be_bytes w64 m ≡ ys ++ to_be_bytes w64 n → m ≡ n
 same_node xs ys m n h g e =
     let lengths : length xs ≡ length ys = omega (arith, length-append xs (to_be_bytes w64 m), length-append ys (to_be_bytes w64 n), ap length e) in

@@ -39,7 +39,7 @@ kind_number kinds.Rawt = 5
 kind_number kinds.Ulng = 6
 kind_number kinds.Ullg = 7
 
--- the kind's name in texts
+-- the kind's name in text form
 abbrev pub kind_name : Kind → List ℕ
 kind_name kinds.Cstr = codes "CSTR"
 kind_name kinds.Long = codes "LONG"
@@ -58,8 +58,8 @@ is_indexable kinds.Rawt = false
 is_indexable kinds.Ulng = true
 is_indexable kinds.Ullg = true
 
--- The order of two values of one kind: numbers by their size, texts and raw bytes by their bytes.
--- It means nothing for values of different kinds.
+-- The order of two values of one kind: numbers by size, texts and raw bytes by their bytes. It is
+-- meaningless for values of different kinds.
 abbrev pub value_cmp : Value → Value → Ordering
 value_cmp (Cstr a) (Cstr b) = slice_cmp nat_cmp a b
 value_cmp (Long a) (Long b) = int_cmp a b

@@ -1,12 +1,12 @@
 //! Keys of an index.
 //!
 //! An index maps a value to the nodes that have it. It keeps its pairs in a tree of byte keys, as
-//! the Be File System does. A key is the value's bytes followed by the node in eight bytes. Within
-//! one kind, keys sorted by their bytes are sorted by their pairs. So a range of values is a range
-//! of keys.
+//! the Be File System does. A key consists of the value's bytes followed by the node in eight
+//! bytes. Within one kind, sorting keys by their bytes sorts them by their pairs. So a range of
+//! values is a range of keys.
 //!
-//! A signed integer is written as its distance from the lowest of its kind, and every integer has
-//! its high byte first. A text ends with a zero byte, which no text contains.
+//! A signed integer is written as its distance from the lowest of its kind, and every integer is
+//! written high byte first. A text is followed by a zero byte, which no text contains.
 ghost use Rattle.std.specs.Prelude.{◌≡◌, ◌<◌, ◌≤◌, ◌^◌, ◌↔◌, ℕ, IsTrue, IfSome, IfNone, length};
 ghost use Rattle.std.specs.Prelude.{Some, None, Ok, List, [], ◌∷◌, ◌++◌, IsUtf8};
 ghost use Rattle.std.specs.Int.{to_be_bytes, w32, w64};
@@ -21,16 +21,16 @@ use crate::{Kind, Text, Value};
 use arrayvec::ArrayVec;
 use std::str;
 
-/// A 32-bit number's distance from the lowest one. Its four bytes, high byte first, are those in
-/// its key.
+/// Returns a 32-bit number's distance from the lowest one. Its four bytes, high byte first, are
+/// those in the number's key.
 pub fn counted32(n: i32) -> u32
     ensures { result ≡ counted (2 ^ 31) n }
 {
     (i64::from(n) + (1 << 31)) as u32
 }
 
-/// A 64-bit number's distance from the lowest one. Its eight bytes, high byte first, are those in
-/// its key.
+/// Returns a 64-bit number's distance from the lowest one. Its eight bytes, high byte first, are
+/// those in the number's key.
 pub fn counted64(n: i64) -> u64
     ensures { result ≡ counted (2 ^ 63) n }
 {
@@ -41,8 +41,8 @@ pub fn counted64(n: i64) -> u64
     }
 }
 
-/// The key of a value and a node: the value's bytes, and then the node's eight. It has at most 264
-/// bytes: a text of 255, a zero byte, and the node.
+/// Returns the key of a value and a node: the value's bytes followed by the node's eight. It has at
+/// most 264 bytes: a text of 255, a zero byte, and the node.
 pub fn key_of(value: &Value, node: u64) -> ArrayVec<u8, 264>
     requires { IsTrue (is_indexable (kind_of value.now)) }
     ensures { result.items ≡ key value.now node }
@@ -67,14 +67,14 @@ pub fn key_of(value: &Value, node: u64) -> ArrayVec<u8, 264>
     key
 }
 
-/// The number at this distance from the lowest.
+/// Returns the number at this distance from the lowest.
 fn number32(n: u32) -> i32
     ensures { counted (2 ^ 31) result ≡ n }
 {
     (i64::from(n) - (1 << 31)) as i32
 }
 
-/// The number at this distance from the lowest.
+/// Returns the number at this distance from the lowest.
 fn number64(n: u64) -> i64
     ensures { counted (2 ^ 63) result ≡ n }
 {
@@ -85,7 +85,7 @@ fn number64(n: u64) -> i64
     }
 }
 
-/// The number that eight bytes encode.
+/// Returns the number that eight bytes encode.
 fn read64(bytes: &[u8]) -> u64
     requires { length bytes.now ≡ 8 }
     ensures { bytes.now ≡ to_be_bytes w64 result }
@@ -95,7 +95,7 @@ fn read64(bytes: &[u8]) -> u64
     ])
 }
 
-/// The number that four bytes encode.
+/// Returns the number that four bytes encode.
 fn read32(bytes: &[u8]) -> u32
     requires { length bytes.now ≡ 4 }
     ensures { bytes.now ≡ to_be_bytes w32 result }
@@ -103,7 +103,7 @@ fn read32(bytes: &[u8]) -> u32
     u32::from_be_bytes([bytes[0], bytes[1], bytes[2], bytes[3]])
 }
 
-/// The text before a final zero byte.
+/// Returns the text before a final zero byte.
 fn read_text(bytes: &[u8]) -> Option<Value>
     ensures valid { IfSome result IsValue }
     ensures found { IfSome result (λ v. (kind_of v ≡ Kind.Cstr) × (bytes.now ≡ value_key v)) }
@@ -118,7 +118,7 @@ fn read_text(bytes: &[u8]) -> Option<Value>
     Some(Value::Cstr(Text::new(text).ok()?))
 }
 
-/// The value of this kind that these bytes encode in a key.
+/// Returns the value of this kind that these bytes encode in a key.
 fn read_value(kind: Kind, bytes: &[u8]) -> Option<Value>
     ensures valid { IfSome result IsValue }
     ensures found { IfSome result (λ v. (kind_of v ≡ kind) × (bytes.now ≡ value_key v)) }
@@ -156,8 +156,8 @@ fn read_value(kind: Kind, bytes: &[u8]) -> Option<Value>
     }
 }
 
-/// The pair that has this key, if its value is of this kind: the exact inverse of `key_of`. It
-/// copies the value once and allocates nothing.
+/// Returns the pair that has this key, if its value is of this kind. This is the exact inverse of
+/// `key_of`. It copies the value once and allocates nothing.
 pub fn read_key(kind: Kind, bytes: &[u8]) -> Option<(Value, u64)>
     ensures found { IfSome result (λ pair. (kind_of pair.0 ≡ kind)
         × (bytes.now ≡ key pair.0 pair.1)) }
@@ -170,7 +170,7 @@ pub fn read_key(kind: Kind, bytes: &[u8]) -> Option<(Value, u64)>
         → IsTrue (is_indexable kind) →
         kind_of v ≡ kind → bytes.now ≡ key v n → (pair.0 ≡ v) × (pair.1 ≡ n)) }
 
-    // For a kind that no index has, there is no such pair.
+    // If no index can have this kind, there is no such pair.
     ensures indexable { IfSome result (λ _. IsTrue (is_indexable kind)) }
 {
     let at = bytes.len().checked_sub(8)?;
@@ -179,7 +179,7 @@ pub fn read_key(kind: Kind, bytes: &[u8]) -> Option<(Value, u64)>
     Some((value, read64(last)))
 }
 
-/// The node that a key ends with. It reads only the last eight bytes.
+/// Returns the node at the end of a key. It reads only the last eight bytes.
 pub fn node_of(bytes: &[u8]) -> u64
     requires { 8 ≤ length bytes.now }
     ensures { (front : List ℕ) (n : ℕ) → n < 2 ^ 64 → bytes.now ≡ front ++ to_be_bytes w64 n
@@ -189,7 +189,7 @@ pub fn node_of(bytes: &[u8]) -> u64
     read64(last)
 }
 
-/// A law: within one kind, the bytes of keys are in the order of their pairs (value, node).
+/// A law: within one kind, keys compare by their bytes as their pairs (value, node) do.
 pub fn key_order()
     ensures { (v w : AnyValue) (m n : ℕ) → IsValue v → IsValue w → m < 2 ^ 64 → n < 2 ^ 64 →
         IsTrue (is_indexable (kind_of v)) → kind_of v ≡ kind_of w →

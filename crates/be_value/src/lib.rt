@@ -2,25 +2,25 @@
 //!
 //! # What an attribute has
 //! It has a name of 1 to 63 bytes and a value of one of seven kinds. These are texts, MIME types,
-//! raw bytes, and integers of 32 or 64 bits, signed or unsigned. A text, a MIME type and raw bytes
-//! have at most 255 bytes. Names and values contain their bytes, so no call allocates memory.
+//! raw bytes, and signed and unsigned integers of 32 or 64 bits. Each text, MIME type or raw value
+//! has at most 255 bytes. Names and values hold their bytes in place, so no call allocates memory.
 //!
 //! # How an index finds a value
-//! It uses a key: the value's bytes, and then the node in eight bytes. Keys of one kind are in the
-//! order of their values and, if the values are equal, of their nodes. So a tree of byte keys is an
+//! It uses a key: the value's bytes followed by the node in eight bytes. Keys of one kind are in
+//! the order of their values and, for equal values, of their nodes. So a tree of byte keys is an
 //! index of any kind, and a range of values is a range of keys. MIME types and raw bytes have no
 //! key, so no index has these kinds.
 //!
 //! # Why there is one error type
-//! A write passes through most crates, and each may refuse it. An error keeps its number and its
-//! name on the way up. So a script's reply and a program's error are those of the crate that
-//! refused.
+//! A write passes through most crates, and any of them may refuse it. An error keeps its number and
+//! its name on the way up. So a script's reply and a program's error are exactly those of the crate
+//! that refused.
 //!
 //! # What is proved
-//! A name or value is made from exactly the bytes within the limits (`specs/Name.antt`).
-//! `key_order` is the law of keys' order, `keys_differ` says that a key belongs to one pair, and
-//! `read_key` reads that pair back (`specs/Key.antt`). `number_of` is the number that a text
-//! encodes (`specs/Number.antt`).
+//! A name or value can be created from exactly the bytes within the limits (`specs/Name.antt`).
+//! `key_order` is the law about the order of keys, `keys_differ` says that each key belongs to one
+//! pair, and `read_key` reads that pair back (`specs/Key.antt`). `number_of` returns the number
+//! that a text encodes (`specs/Number.antt`).
 #![tactic(auto)]
 
 mod keys;

@@ -33,7 +33,7 @@ pub enum Kind {
 }
 
 impl Kind {
-    /// The type code: four ASCII letters as a number.
+    /// Returns the type code: four ASCII letters as a number.
     pub fn code(&self) -> u32
         ensures { result ≡ code_of self.now }
     {
@@ -48,7 +48,7 @@ impl Kind {
         }
     }
 
-    /// Whether an index may have this kind.
+    /// Returns `true` if an index may have this kind.
     pub fn indexable(&self) -> bool
         ensures { result ≡ is_indexable self.now }
     {
@@ -58,7 +58,7 @@ impl Kind {
         )
     }
 
-    /// The kind's number in pages, from 1.
+    /// Returns the kind's number in pages, counting from 1.
     pub fn number(&self) -> u8
         ensures { result ≡ kind_number self.now }
     {
@@ -73,7 +73,7 @@ impl Kind {
         }
     }
 
-    /// The kind with this number in pages.
+    /// Returns the kind with this number in pages, if there is one.
     pub fn numbered(number: u8) -> Option<Kind>
         ensures found { IfSome result (λ kind. kind_number kind ≡ number) }
         ensures none { IfNone result ((kind : AnyKind) → kind_number kind ≡ number → ⊥) }
@@ -90,7 +90,7 @@ impl Kind {
         }
     }
 
-    /// The kind's name in texts.
+    /// Returns the kind's name in text form.
     pub fn name(&self) -> &'static str
         ensures { result.now ≡ kind_name self.now }
     {
@@ -106,7 +106,7 @@ impl Kind {
     }
 }
 
-/// The text of a value: at most 255 bytes of UTF-8 without NUL. A contract sees its bytes.
+/// The text of a value: at most 255 bytes of UTF-8 without NUL. Contracts see its bytes.
 #[derive(Drop)]
 pub struct Text {
     text: ArrayString<255>,
@@ -124,7 +124,8 @@ impl Model for Text {
 }
 
 impl Text {
-    /// Makes a value's text. A wrong length is reported before a NUL.
+    /// Creates a value's text from a string. If the length is wrong and there is a zero byte, the
+    /// error is about the length.
     pub fn new(text: &str) -> Result<Text, Refusal>
         ensures { result ≡ text_from text.now }
     {
@@ -140,7 +141,7 @@ impl Text {
         }
     }
 
-    /// The text as a string, of at most 255 bytes without a zero byte.
+    /// Returns the text as a string, of at most 255 bytes with no zero byte.
     pub fn as_str(&self) -> &str
         ensures text { result.now ≡ self.now }
         ensures valid { text_from self.now ≡ Ok self.now }
@@ -148,7 +149,7 @@ impl Text {
         self.text.as_str()
     }
 
-    /// An equal text. It allocates nothing.
+    /// Returns an equal text. It allocates nothing.
     pub fn copy(&self) -> Text
         ensures { result ≡ self.now }
     {
@@ -181,14 +182,14 @@ impl Hash for Text {
     }
 }
 
-/// The text in quotes.
+/// Prints the text in quotes.
 impl fmt::Debug for Text {
     fn fmt<W: fmt::Write>(&self, f: &mut fmt::Formatter<W>) -> fmt::Result {
         write!(f, "{:?}", self.as_str())
     }
 }
 
-/// The bytes of a raw value, at most 255. A contract sees them as a list.
+/// The bytes of a raw value, at most 255. Contracts see them as a list.
 #[derive(Drop)]
 pub struct Bytes {
     bytes: ArrayVec<u8, 255>,
@@ -203,7 +204,7 @@ impl Model for Bytes {
 }
 
 impl Bytes {
-    /// Makes a raw value from these bytes. The error is `DataLength` if there are more than 255.
+    /// Creates a raw value from these bytes. Fails with `DataLength` if there are more than 255.
     pub fn new(bytes: &[u8]) -> Result<Bytes, Refusal>
         ensures { result ≡ bytes_from bytes.now }
     {
@@ -213,7 +214,7 @@ impl Bytes {
         }
     }
 
-    /// The bytes as a slice of at most 255.
+    /// Returns the bytes as a slice of at most 255.
     pub fn as_slice(&self) -> &[u8]
         ensures bytes { result.now ≡ self.now }
         ensures fits { length self.now ≤ 255 }
@@ -221,7 +222,7 @@ impl Bytes {
         self.bytes.as_slice()
     }
 
-    /// Equal bytes. It allocates nothing.
+    /// Returns equal bytes. It allocates nothing.
     pub fn copy(&self) -> Bytes
         ensures { result ≡ self.now }
     {
@@ -256,7 +257,7 @@ impl Hash for Bytes {
     }
 }
 
-/// The bytes as a list of numbers.
+/// Prints the bytes as a list of numbers.
 impl fmt::Debug for Bytes {
     fn fmt<W: fmt::Write>(&self, f: &mut fmt::Formatter<W>) -> fmt::Result {
         write!(f, "{:?}", self.as_slice())
@@ -276,58 +277,58 @@ pub enum Value {
 }
 
 impl Value {
-    /// The `Long` value of a signed 32-bit number.
+    /// Creates the `Long` value of a signed 32-bit number.
     pub fn int32(n: i32) -> Value
         ensures { result ≡ Value.Long n }
     {
         Self::Long(n)
     }
 
-    /// The `Llng` value of a signed 64-bit number.
+    /// Creates the `Llng` value of a signed 64-bit number.
     pub fn int64(n: i64) -> Value
         ensures { result ≡ Value.Llng n }
     {
         Self::Llng(n)
     }
 
-    /// The `Ulng` value of an unsigned 32-bit number.
+    /// Creates the `Ulng` value of an unsigned 32-bit number.
     pub fn uint32(n: u32) -> Value
         ensures { result ≡ Value.Ulng n }
     {
         Self::Ulng(n)
     }
 
-    /// The `Ullg` value of an unsigned 64-bit number.
+    /// Creates the `Ullg` value of an unsigned 64-bit number.
     pub fn uint64(n: u64) -> Value
         ensures { result ≡ Value.Ullg n }
     {
         Self::Ullg(n)
     }
 
-    /// The `Cstr` value of a text. Errors: `DataLength` if it has more than 255 bytes, `HasNul` if
-    /// it has a zero byte.
+    /// Creates the `Cstr` value of a text. Fails with `DataLength` if it has more than 255 bytes,
+    /// or with `HasNul` if it contains a zero byte.
     pub fn text(text: &str) -> Result<Value, Refusal>
         ensures { result ≡ results.result_map_both Value.Cstr (λ e. e) (text_from text.now) }
     {
         Ok(Value::Cstr(Text::new(text)?))
     }
 
-    /// The `Mims` value of a MIME type. Errors: `DataLength` if it has more than 255 bytes,
-    /// `HasNul` if it has a zero byte.
+    /// Creates the `Mims` value of a MIME type. Fails with `DataLength` if it has more than 255
+    /// bytes, or with `HasNul` if it contains a zero byte.
     pub fn mime(text: &str) -> Result<Value, Refusal>
         ensures { result ≡ results.result_map_both Value.Mims (λ e. e) (text_from text.now) }
     {
         Ok(Value::Mims(Text::new(text)?))
     }
 
-    /// The `Rawt` value of these bytes. Error: `DataLength` if there are more than 255.
+    /// Creates the `Rawt` value of these bytes. Fails with `DataLength` if there are more than 255.
     pub fn raw(bytes: &[u8]) -> Result<Value, Refusal>
         ensures { result ≡ results.result_map_both Value.Rawt (λ e. e) (bytes_from bytes.now) }
     {
         Ok(Value::Rawt(Bytes::new(bytes)?))
     }
 
-    /// The value's kind.
+    /// Returns the value's kind.
     pub fn kind(&self) -> Kind
         ensures { result ≡ kind_of self.now }
     {
@@ -342,7 +343,7 @@ impl Value {
         }
     }
 
-    /// An equal value. It allocates nothing.
+    /// Returns an equal value. It allocates nothing.
     pub fn copy(&self) -> Value
         ensures { result ≡ self.now }
     {
@@ -357,7 +358,7 @@ impl Value {
         }
     }
 
-    /// The order of two values of one kind.
+    /// Compares two values of one kind.
     pub fn order(a: &Value, b: &Value) -> Ordering
         requires { kind_of a.now ≡ kind_of b.now }
         ensures { result ≡ value_cmp a.now b.now }
@@ -375,7 +376,7 @@ impl Value {
     }
 }
 
-/// A law of one value: it satisfies `IsValue`. A contract can't assume this of a borrowed value.
+/// A law about one value: it satisfies `IsValue`. A contract can't assume this of a borrowed value.
 /// The function does nothing.
 pub fn valid(value: &Value)
     ensures { IsValue value.now }
@@ -402,7 +403,7 @@ pub fn valid(value: &Value)
     }
 }
 
-/// An equal value. It allocates nothing.
+/// Returns an equal value. It allocates nothing.
 impl Clone for Value {
     ghost is_clone = { λ a b. b ≡ a };
 

@@ -1,4 +1,4 @@
--- How an accepted operation changes the facts that decide about refusals.
+-- How an accepted operation changes the facts that decide whether operations are refused.
 use Rattle.std.proofs.Common.{◌≡◌, ◌<◌, ◌≤◌, ◌^◌, ℕ, ◌+◌, ◌-◌, Bool, true, false, cond, not, ◌&&◌, ◌||◌, if◌then◌else◌, nat_le, nat_eq, List, [], ◌∷◌, length, refl, sym, ap, subst, ◌∙◌, Some, None, is_some, IsOk, is_ok, arith, unwrap_or, get_or, take, map as each, fold, ◌++◌}
 use Rattle.std.specs.Prelude.{Ok, Err, Result}
 use Rattle.std.specs.Result.{result_map_both}
@@ -266,7 +266,7 @@ made_indices_fits s (Unset node name) h k = k
 made_indices_fits s (MkIndex name kind) h k = let few : nat_le 32 (fin.len s.indices) ≡ false = h.1 in grind (arith, nat_tests)
 made_indices_fits s (RmIndex name) h k = omega arith
 
--- an accepted operation keeps the limits
+-- an accepted operation stays within the limits
 counted : (has full : Bool) (n : ℕ) → not has && full ≡ false → nat_le 64 n ≡ full → n ≤ 64 → (if not has then n + 1 else n) ≤ 64
 counted true full n h e k = k
 counted false true n h e k = cc

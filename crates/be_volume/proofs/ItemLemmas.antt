@@ -45,7 +45,7 @@ tied Less h = cc
 tied Equal h = refl
 tied Greater h = cc
 
--- the weight of a value that may be missing
+-- the weight of an optional value
 abbrev weight : {X : Type 0} → (X → ℕ) → Option X → ℕ
 weight f None = 0
 weight f (Some x) = f x
@@ -110,7 +110,7 @@ module _ {K X : Type 0} {R : K → K → Ordering} (o : IsTotalOrder R) (f : X �
   weigh-empty : weigh fin.empty ≡ 0
   weigh-empty = none_weigh _ (sym (len-entries (fin.empty {R = R})) ∙ len-empty R X)
 
-  -- values that are changed and don't weigh more
+  -- changed values that don't weigh more
   weigh-changed : (g : X → X) → ((x : X) → f (g x) ≤ f x) → (es : List (K × X)) → weigh (from_entries {R = R} (each (λ e. (e.0, g e.1)) es)) ≤ over es
   weigh-changed g less [] = omega (arith, weigh-empty)
   weigh-changed g less (e ∷ es) =
@@ -143,7 +143,7 @@ module _ {K X : Type 0} {R : K → K → Ordering} (o : IsTotalOrder R) (f : X �
             at q true e = sym h ∙ get_tied o m q k (tied _ e)
             at q false e = refl
 
--- the attributes of a node that got new ones
+-- the attributes of a node that was given new ones
 attributes_weigh : (found : Option Attributes) → weight fin.len found ≡ fin.len (unwrap_or found fin.empty)
 attributes_weigh None = sym (len-empty name_cmp Value)
 attributes_weigh (Some a) = refl
@@ -184,7 +184,7 @@ module _ (s : State) where
   abbrev marks : Nodes → ℕ
   marks nodes = fin.len nodes + weigh nat_cmp_total fin.len nodes
 
-  -- the nodes after an existing one got other attributes
+  -- the nodes after an existing one was given other attributes
   set_marks : (node : ℕ) (a : Attributes) → fin.contains_key s.nodes node ≡ true → marks (fin.insert s.nodes node a) + fin.len (attributes_of s.nodes node) ≡ marks s.nodes + fin.len a
   set_marks node a h = omega (arith, len_again nat_cmp_total s.nodes node a h, put_attributes s.nodes node a)
 
@@ -237,7 +237,7 @@ few_indices (Unset node name) = omega arith
 few_indices (MkIndex name kind) = omega arith
 few_indices (RmIndex name) = omega arith
 
--- what operations add in all
+-- what a list of operations adds in total
 record Grows (s t : State) (ops : List Op) : Type 0 where
   few : items t ≤ items s + sum_by most_items ops
   indices : fin.len t.indices ≤ fin.len s.indices + sum_by most_indices ops

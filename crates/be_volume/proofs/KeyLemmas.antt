@@ -30,7 +30,7 @@ use Rattle.be_volume.specs.Volume.{State}
 use Rattle.be_volume.specs.declared.maps.Index.{Index}
 use Rattle.be_volume.proofs.MapLemmas.{names_total, exact_names}
 
--- a comparison read from the other side
+-- a comparison with its sides exchanged
 flipped : (a b : List ℕ) → is_lt (name_cmp a b) ≡ is_gt (name_cmp b a)
 flipped a b = ap is_lt (names_total.antisymm a b) ∙ turned (name_cmp b a)
   where
@@ -47,7 +47,8 @@ not_below a b = turned (name_cmp a b) ∙ ap not (sym (flipped b a))
     turned Equal = refl
     turned Greater = refl
 
--- up to n bytes compare with more than n bytes as with their first n, and are never equal to them
+-- at most n bytes compare with more than n bytes as with the first n of them, and are never equal
+-- to them
 record Cut (n : ℕ) (from k : List ℕ) : Type 0 where
   after : is_gt (name_cmp k from) ≡ is_gt (name_cmp k (take n from))
   at : not (is_lt (name_cmp k from)) ≡ is_gt (name_cmp k (take n from))
@@ -174,7 +175,7 @@ tied Greater h = cc
 own_tie : (k : List ℕ) → eq_by_cmp name_cmp k k ≡ true
 own_tie k = ap is_eq (tied_itself names_total k)
 
--- a key is that of one node
+-- a key belongs to one node
 one_node : (v w : Value) (m n : ℕ) (k : List ℕ) → m < 2 ^ 64 → n < 2 ^ 64 → own_key v m ≡ Some k → own_key w n ≡ Some k → m ≡ n
 one_node v w m n k h g e f = same_node (value_key v) (value_key w) m n h g (sym (key_is v m k e) ∙ key_is w n k f)
 
@@ -328,7 +329,7 @@ module _ (pairs : FinMap nat_cmp Value) (node : ℕ) (v : Value) where
       by q true e = refl
       by q false e = fin.get-remove nat_cmp_total pairs node q ∙ ap (λ b. cond b None (fin.get pairs q)) e
 
-  -- a pair that was put in for a node without one, and taken out again
+  -- a pair that was inserted for a node without one, and removed again
   pub taken_back : fin.get pairs node ≡ None → fin.remove (fin.insert pairs node v) node ≡ pairs
   taken_back none = same_map nat_cmp_total nat_cmp-IsAntisymmetric _ _ (λ q. fin.get-remove nat_cmp_total (fin.insert pairs node v) node q ∙ by q (eq_by_cmp nat_cmp q node) refl)
     where

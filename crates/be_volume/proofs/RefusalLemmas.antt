@@ -44,7 +44,7 @@ unset_found s node name h = unset_passes (map.contains_key s.nodes node) (map.co
 pub not_full : (n : ℕ) → n < 64 → false ≡ nat_le 64 n
 not_full n h = grind (arith, nat_tests)
 
--- a count bounded by two counts that don't reach the limit together
+-- a count bounded by the sum of two counts that doesn't reach the limit
 pub not_reached : (n both : ℕ) → n ≤ both → nat_le 64 both ≡ false → n < 64
 not_reached n both most h = grind (arith, nat_tests)
 

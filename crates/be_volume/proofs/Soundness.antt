@@ -1,4 +1,4 @@
--- Accepted operations keep a volume sound.
+-- Accepted operations preserve a volume's soundness.
 use Rattle.std.proofs.Common.{◌≡◌, ◌⊎◌, inl, inr, ◌<◌, ◌≤◌, ◌+◌, ◌++◌, ◌^◌, ℕ, Bool, true, false, cond, List, [], ◌∷◌, length, IsTrue, refl, sym, ap, ◌∙◌, subst, arith, Some, None, is_some, nat_eq, unwrap_or, fold, All, is_ok}
 use Rattle.std.proofs.lemmas.List.Elements.{All-head, All-tail}
 use Rattle.std.proofs.lemmas.Option.{same_Some}
@@ -116,8 +116,8 @@ module _ (nodes : Nodes) (node : ℕ) where
       by true e = ap (fin.contains_key nodes) (nat_cmp-IsAntisymmetric n node (tied _ e)) ∙ exists
       by false e = sym (ap is_some (get_other nat_cmp_total nodes node n a e)) ∙ h
 
--- An index after an operation comes from the one before it. Each of its pairs is an old one whose attribute stayed, or is the new
--- attribute.
+-- An index after an operation comes from the one before it. Each of its pairs is either an old one
+-- whose attribute is unchanged, or the new attribute.
 record Descends (s t : State) (name : List ℕ) (index : Index) : Type 0 where
   old : Index
   there : fin.get s.indices name ≡ Some old
@@ -174,7 +174,7 @@ module _ (s t : State) (sound : IsSound s) (limits : Few t) (fits : t.next < 2 ^
     few_indices = limits.indices;
   }
 
--- an index stays if the attributes of its pairs do
+-- an index is unchanged if the attributes of its pairs are
 stays : (s t : State) (name : List ℕ) (index : Index) → fin.get s.indices name ≡ Some index →
     ((n : ℕ) (v : Value) → fin.get index.pairs n ≡ Some v → attribute t n name ≡ attribute s n name) → Comes s t name index
 stays s t name index there same = inl (record { old = index; there = there; kind = refl; each = λ n v got. inl (got, same n v got) })
@@ -353,7 +353,7 @@ module _ (s : State) (sound : IsSound s) (fits : s.next + 1 < 2 ^ 64) where
   made_sound (MkIndex name kind) v h = index_sound name kind v h.2 (few s (MkIndex name kind) sound h)
   made_sound (RmIndex name) v h = remove_sound name (few s (RmIndex name) sound h)
 
--- an accepted operation keeps a volume sound
+-- an accepted operation preserves a volume's soundness
 pub step_sound : (s t : State) (op : Op) (done : Done) → IsSound s → s.next + 1 < 2 ^ 64 → IsOperation op → step s op ≡ Ok (t, done) → IsSound t
 step_sound s t op done sound fits is e =
     let a = accepted s op (ap is_ok e) in

@@ -18,7 +18,7 @@ use Rattle.be_volume.specs.declared.ops.Op.TheVariants.{New, Drop, Set, Unset, M
 use Rattle.be_volume.specs.Volume.{State, step, steps, advance}
 use Rattle.be_volume.specs.Ahead.{reached, state_after}
 
--- after an error, the error stays
+-- after an error, the result remains that error
 pub refused_stays : (e : Refusal) (ops : List Op) → fold advance (Err e) ops ≡ Err e
 refused_stays e [] = refl
 refused_stays e (op ∷ ops) = refused_stays e ops

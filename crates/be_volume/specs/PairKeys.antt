@@ -9,7 +9,7 @@ use Rattle.be_value.specs.Value.{kind_of, is_indexable}
 use Rattle.be_value.specs.declared.values.Value.{Value}
 use Rattle.be_volume.specs.Maps.{name_cmp}
 
--- k is at `from` or after it; with `after`, strictly after it. Keys are ordered by their bytes.
+-- k is at or after `from`; if `after` is set, strictly after it. Keys are ordered by their bytes.
 abbrev pub is_at_or_after : List ℕ → Bool → List ℕ → Bool
 is_at_or_after from after k = if after then is_gt (name_cmp k from)
     else not (is_lt (name_cmp k from))

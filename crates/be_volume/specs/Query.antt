@@ -56,7 +56,8 @@ literal_number (Wild parts) = if is_plain parts
     then number_in (encode_utf8_all (literal_prefix parts)) else None
 literal_number (Exact words) = number_in words
 
--- whether a comparison is true of a number; false for every operator if the literal encodes none
+-- whether a comparison is true of a number; it is false for every operator if the literal encodes
+-- none
 abbrev pub holds_of_number : Cmp → ℤ → Option ℤ → Bool
 holds_of_number op n None = false
 holds_of_number op n (Some m) = is_true_of op (int_cmp n m)

@@ -1,4 +1,4 @@
--- What holds for every volume that operations have made.
+-- What holds for every volume that operations have created.
 use Rattle.std.specs.Prelude.{◌≡◌, ◌<◌, ◌≤◌, ◌^◌, ⊤, ℕ, true, List, Some, Ok, IsTrue, IsUtf8}
 use Rattle.std.specs.FinMap as map
 use Rattle.be_value.specs.Key.{IsValue}

@@ -108,16 +108,16 @@ advance (Ok reached) op = result_map_both (λ answer. (answer.0, reached.1 ++ an
 abbrev pub steps : State → List Op → Result (State × List Done) Refusal
 steps s ops = fold advance (Ok (s, [])) ops
 
--- A list of operations is accepted if the steps accept it, with the state after them. Otherwise
--- nothing changes, and the error is that of the steps, or OutOfMemory if they accept.
+-- A list of operations is accepted if the steps accept it, and leads to the state after them.
+-- Otherwise nothing changes, and the error is that of the steps, or OutOfMemory if they accept.
 abbrev pub Writes : {X : Type 0} → (X → List Done) → State → List Op → Result X Refusal → State
     → Type 0
 Writes outcomes_of old ops (Ok answer) new = steps old ops ≡ Ok (new, outcomes_of answer)
 Writes outcomes_of old ops (Err e) new = (new ≡ old)
     × (((e ≡ OutOfMemory) × IsOk (steps old ops)) ⊎ (steps old ops ≡ Err e))
 
--- The same without memory limits: the list is accepted if the steps accept it, with the state after
--- them; otherwise its error is theirs, and nothing changes.
+-- As in `Writes`, but without memory limits: if the steps accept the list, it is accepted and leads
+-- to the state after them; otherwise its error is theirs, and nothing changes.
 abbrev pub Replays : {X : Type 0} → (X → List Done) → State → List Op → Result X Refusal → State
     → Type 0
 Replays outcomes_of old ops (Ok answer) new = steps old ops ≡ Ok (new, outcomes_of answer)

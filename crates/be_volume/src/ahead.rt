@@ -1,10 +1,10 @@
-//! Finds why a list of operations would be refused, from the list and the facts of the old volume.
+//! Finds why a list of operations would be refused, given the list and the facts of the old volume.
 //!
 //! Whether an operation is refused may depend on what earlier operations do. Each fact is read from
 //! the old volume and then carried through those operations, so nothing is copied and no memory is
-//! taken. For a list of n operations this costs n steps per fact. Counting attributes would cost n
-//! reads for each operation. So they are counted only for a new name, if the old count and the
-//! earlier sets of that node together reach the limit.
+//! allocated. For a list of n operations this costs n steps per fact. Counting attributes would
+//! cost n reads per operation. So they are counted only for a new name, and only if the old count
+//! plus the earlier sets on that node reaches the limit.
 ghost use Rattle.std.specs.FinMap as map;
 ghost use Rattle.std.specs.Prelude.{◌≡◌, ◌≤◌, ◌<◌, ◌+◌, ◌^◌, IsOk, false, length, nat_eq};
 ghost use Rattle.std.specs.Prelude.{nat_le};
@@ -20,15 +20,15 @@ ghost use Rattle.be_volume.specs.declared.ops.Op.TheVariants as ops;
 use crate::{Facts, Op};
 use be_value::{Kind, Name, Refusal, Value};
 
-/// The largest number of attributes of a node.
+/// The maximum number of attributes of a node.
 pub const MAX_ATTRIBUTES: usize = 64;
 
-/// The largest number of indices of a volume.
+/// The maximum number of indices of a volume.
 pub const MAX_INDICES: usize = 32;
 
-/// The error, `NoNode` to `NotIndexable`, of the first operation in the list that would be refused,
-/// or None if all would be accepted. It takes no memory and changes nothing: callers call it before
-/// the first change.
+/// Returns the error, `NoNode` to `NotIndexable`, of the first operation in the list that would be
+/// refused, or `None` if all would be accepted. It allocates no memory and changes nothing; callers
+/// use it before the first change.
 pub fn first_refusal<F: Facts>(facts: &mut F, ops: &[Op]) -> Option<Refusal>
     ghost volume: { State }
     requires answers { F.answers_for facts.old volume }
@@ -45,7 +45,7 @@ pub fn first_refusal<F: Facts>(facts: &mut F, ops: &[Op]) -> Option<Refusal>
     None
 }
 
-/// Why the operation is refused after those before it, if it is.
+/// Returns why the operation is refused after those before it, if it is.
 fn refusal_after<F: Facts>(facts: &mut F, before: &[Op], op: &Op) -> Option<Refusal>
     ghost volume: { State }
     requires answers { F.answers_for facts.old volume }
@@ -154,7 +154,7 @@ fn remove_refusal<F: Facts>(facts: &mut F, before: &[Op], name: &Name) -> Option
     }
 }
 
-/// The next node number after an operation.
+/// Returns the next node number after an operation.
 fn next_after(op: &Op, next: u64) -> u64
     requires { next + 1 < 2 ^ 64 }
     ensures { result ≡ next_after op.now next }
@@ -165,7 +165,7 @@ fn next_after(op: &Op, next: u64) -> u64
     }
 }
 
-/// Whether the node exists after these operations.
+/// Returns `true` if the node exists after these operations.
 fn has_node<F: Facts>(facts: &mut F, before: &[Op], node: u64) -> bool
     ghost volume: { State }
     requires answers { F.answers_for facts.old volume }
@@ -192,7 +192,7 @@ fn node_after(op: &Op, next: u64, there: bool, node: u64) -> bool
     }
 }
 
-/// Whether the node has the attribute after these operations.
+/// Returns `true` if the node has the attribute after these operations.
 fn has_attribute<F: Facts>(facts: &mut F, before: &[Op], node: u64, name: &Name) -> bool
     ghost volume: { State }
     requires answers { F.answers_for facts.old volume }
@@ -222,8 +222,8 @@ fn attribute_after(op: &Op, next: u64, there: bool, node: u64, name: &Name) -> b
     }
 }
 
-/// Whether two names are equal. Names in one list usually differ in their length or last byte, so
-/// these are compared first.
+/// Returns `true` if two names are equal. Names in one list usually differ in their length or last
+/// byte, so these are compared first.
 #[inline(always)]
 fn is_same(name: &Name, other: &Name) -> bool
     ensures { result ≡ pointwise nat_eq name.now other.now }
@@ -233,8 +233,8 @@ fn is_same(name: &Name, other: &Name) -> bool
     bytes.len() == others.len() && bytes.last() == others.last() && name == other
 }
 
-/// Whether the node has as many attributes after these operations as it may have. They are counted
-/// only if there may be that many.
+/// Returns `true` if the node has the maximum number of attributes after these operations. They are
+/// counted only if the maximum may have been reached.
 fn is_full<F: Facts>(facts: &mut F, before: &[Op], node: u64) -> bool
     ghost volume: { State }
     requires answers { F.answers_for facts.old volume }
@@ -246,8 +246,8 @@ fn is_full<F: Facts>(facts: &mut F, before: &[Op], node: u64) -> bool
     may_be_full(facts, before, node) && attribute_count(facts, before, node) >= MAX_ATTRIBUTES
 }
 
-/// Whether the old count and the sets of this node among these operations together reach the limit.
-/// Each set adds at most one attribute.
+/// Returns `true` if the old count plus the sets on this node among these operations reaches the
+/// limit. Each set adds at most one attribute.
 fn may_be_full<F: Facts>(facts: &mut F, before: &[Op], node: u64) -> bool
     ghost volume: { State }
     requires answers { F.answers_for facts.old volume }
@@ -264,7 +264,7 @@ fn may_be_full<F: Facts>(facts: &mut F, before: &[Op], node: u64) -> bool
     reach_limit(old, sets)
 }
 
-/// Whether the two counts together reach the largest number of attributes of a node.
+/// Returns `true` if the sum of the two counts reaches the maximum number of attributes of a node.
 fn reach_limit(old: usize, sets: usize) -> bool
     ensures { result ≡ nat_le 64 (old + sets) }
 {
@@ -281,7 +281,7 @@ fn sets_after(op: &Op, sets: usize, node: u64) -> usize
     }
 }
 
-/// How many attributes the node has after these operations.
+/// Returns how many attributes the node has after these operations.
 fn attribute_count<F: Facts>(facts: &mut F, before: &[Op], node: u64) -> usize
     ghost volume: { State }
     requires answers { F.answers_for facts.old volume }
@@ -299,7 +299,7 @@ fn attribute_count<F: Facts>(facts: &mut F, before: &[Op], node: u64) -> usize
     count
 }
 
-/// Whether the operation sets an attribute that exists already.
+/// Returns `true` if the operation sets an attribute that already exists.
 fn sets_again<F: Facts>(facts: &mut F, before: &[Op], op: &Op) -> bool
     ghost volume: { State }
     requires answers { F.answers_for facts.old volume }
@@ -326,7 +326,7 @@ fn count_after(op: &Op, next: u64, count: usize, node: u64, has: bool) -> usize
     }
 }
 
-/// Whether there is an index with this name after these operations.
+/// Returns `true` if there is an index with this name after these operations.
 fn has_index<F: Facts>(facts: &mut F, before: &[Op], name: &Name) -> bool
     ghost volume: { State }
     requires answers { F.answers_for facts.old volume }
@@ -351,7 +351,7 @@ fn index_after(op: &Op, there: bool, name: &Name) -> bool
     }
 }
 
-/// How many indices there are after these operations.
+/// Returns how many indices there are after these operations.
 fn index_count<F: Facts>(facts: &mut F, before: &[Op]) -> usize
     ghost volume: { State }
     requires answers { F.answers_for facts.old volume }

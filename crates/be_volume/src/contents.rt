@@ -1,8 +1,8 @@
 //! A volume's contents, and how an accepted operation changes them.
 //!
-//! Refusals are found ahead, so an operation only does its work here. If memory runs out midway,
-//! nothing is known about the contents that are left: the caller keeps an equal copy, or drops the
-//! volume.
+//! Refusals are found in advance, so an operation only does its work here. If memory runs out
+//! midway, nothing is known about the resulting contents: the caller keeps an equal copy, or drops
+//! the volume.
 ghost use Rattle.std.specs.FinMap as map;
 ghost use Rattle.std.specs.Prelude.{◌≡◌, ℕ, ◌<◌, ◌^◌, ◌+◌, IsOk, IfOk, Ok};
 ghost use Rattle.be_volume.specs.Maps.{attributes_of};
@@ -38,7 +38,7 @@ impl Model for Contents {
 }
 
 impl Contents {
-    /// Empty contents, whose next node is 1.
+    /// Creates empty contents, whose next node is 1.
     pub fn new(alloc: Global) -> Contents
         ensures { result ≡ model.empty }
     {
@@ -50,28 +50,28 @@ impl Contents {
         }
     }
 
-    /// The number of the next new node.
+    /// Returns the number of the next new node.
     pub fn next(&self) -> u64
         ensures { result ≡ self.now.next }
     {
         self.next
     }
 
-    /// The nodes, with their attributes.
+    /// Returns the nodes, with their attributes.
     pub fn nodes(&self) -> &Nodes
         ensures { result.now ≡ self.now.nodes }
     {
         &self.nodes
     }
 
-    /// The indices, by name.
+    /// Returns the indices, by name.
     pub fn indices(&self) -> &Indices
         ensures { result.now ≡ self.now.indices }
     {
         &self.indices
     }
 
-    /// A copy of the contents.
+    /// Returns a copy of the contents.
     pub fn copy(&self) -> Result<Contents, AllocError>
         ensures { IfOk result (λ copy. copy ≡ self.now) }
     {
@@ -85,8 +85,8 @@ impl Contents {
         })
     }
 
-    /// Performs an operation that is accepted. If memory runs out, nothing is known about the
-    /// contents that are left.
+    /// Performs an operation that has been accepted. If memory runs out, nothing is known about the
+    /// resulting contents.
     pub fn perform(&mut self, op: Op) -> Result<Done, AllocError>
         requires accepted { IsOk (step self.old op) }
         requires fits { self.old.next + 1 < 2 ^ 64 }
@@ -159,7 +159,7 @@ impl Contents {
     }
 }
 
-/// The facts of contents that don't change.
+/// A reader of the facts of contents that don't change.
 #[derive(Drop)]
 pub struct Unchanged<'a> {
     pub contents: &'a Contents,

@@ -8,7 +8,7 @@ use crate::maps::Index;
 use be_value::Name;
 use std::collections::BTreeMap;
 
-/// Removes a node's pair from each index, when the node is dropped. It visits each index once.
+/// Removes a node's pair from every index when the node is dropped. It visits each index once.
 pub fn unpair_each(indices: &mut BTreeMap<Name, Index>, node: u64)
     ensures entries { indices.new.entries
         ≡ map (λ e. (e.0, unpaired e.1 node)) indices.old.entries }

@@ -1,8 +1,8 @@
 //! The facts that decide whether operations are refused.
 //!
-//! That depends on a few facts about the volume: whether a node exists, how many attributes it has,
-//! which indices there are. With a reader of these facts, a list of operations can be refused
-//! before anything is changed, wherever the volume is kept.
+//! They are few: whether a node exists, how many attributes it has, and which indices there are.
+//! With a reader of these facts, a list of operations can be refused before anything is changed,
+//! wherever the volume is kept.
 ghost use Rattle.std.specs.FinMap as map;
 ghost use Rattle.std.specs.Prelude.{◌≡◌};
 ghost use Rattle.be_volume.specs.Maps.{attributes_of};
@@ -11,17 +11,17 @@ ghost use Rattle.be_volume.specs.Volume.{State};
 use be_value::Name;
 
 /// A reader of the facts about one volume that decide whether operations are refused. Its calls may
-/// change the reader itself, but neither the volume nor what the reader keeps.
+/// change the reader itself, but not the volume or the reader's `kept` facts.
 pub trait Facts {
     /// The facts about the reader that no call changes.
     ghost Kept: { Type 0 };
 
     ghost kept: { Self → Kept };
 
-    /// The reader's answers are true of this volume.
+    /// Whether the reader's answers are true of this volume.
     ghost answers_for: { Self → State → Type 0 };
 
-    /// The number of the next new node.
+    /// Returns the number of the next new node.
     fn next(&mut self) -> u64
         requires { (volume : State) × answers_for self.old volume }
         ensures answer { (volume : State) → answers_for self.old volume → result ≡ volume.next }
@@ -29,7 +29,7 @@ pub trait Facts {
         ensures answers { (volume : State) → answers_for self.old volume
             → answers_for self.new volume };
 
-    /// Whether the node exists.
+    /// Returns `true` if the node exists.
     fn has_node(&mut self, node: u64) -> bool
         requires { (volume : State) × answers_for self.old volume }
         ensures answer { (volume : State) → answers_for self.old volume → result
@@ -38,7 +38,7 @@ pub trait Facts {
         ensures answers { (volume : State) → answers_for self.old volume
             → answers_for self.new volume };
 
-    /// Whether the node has an attribute with this name.
+    /// Returns `true` if the node has an attribute with this name.
     fn has_attribute(&mut self, node: u64, name: &Name) -> bool
         requires { (volume : State) × answers_for self.old volume }
         ensures answer { (volume : State) → answers_for self.old volume → result
@@ -47,7 +47,7 @@ pub trait Facts {
         ensures answers { (volume : State) → answers_for self.old volume
             → answers_for self.new volume };
 
-    /// How many attributes the node has.
+    /// Returns how many attributes the node has.
     fn attribute_count(&mut self, node: u64) -> usize
         requires { (volume : State) × answers_for self.old volume }
         ensures answer { (volume : State) → answers_for self.old volume → result
@@ -56,7 +56,7 @@ pub trait Facts {
         ensures answers { (volume : State) → answers_for self.old volume
             → answers_for self.new volume };
 
-    /// Whether there is an index with this name.
+    /// Returns `true` if there is an index with this name.
     fn has_index(&mut self, name: &Name) -> bool
         requires { (volume : State) × answers_for self.old volume }
         ensures answer { (volume : State) → answers_for self.old volume → result
@@ -65,7 +65,7 @@ pub trait Facts {
         ensures answers { (volume : State) → answers_for self.old volume
             → answers_for self.new volume };
 
-    /// How many indices there are.
+    /// Returns how many indices there are.
     fn index_count(&mut self) -> usize
         requires { (volume : State) × answers_for self.old volume }
         ensures answer { (volume : State) → answers_for self.old volume → result

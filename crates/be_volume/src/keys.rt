@@ -1,7 +1,7 @@
 //! An index's keys, ordered by their bytes.
 //!
-//! A walk through an index asks for the lowest key from some bytes on. These may be of any length,
-//! but no key has more than 264 bytes: a text of 255, a zero byte and a node.
+//! A walk through an index asks for the lowest key from some bytes on. These bytes may be of any
+//! length, but no key has more than 264: a text of 255 bytes, a zero byte and a node.
 ghost use Rattle.std.specs.BTreeMap.Range.{is_from_start};
 ghost use Rattle.std.specs.Cmp.{partial_equiv_from_equiv};
 ghost use Rattle.std.specs.Cmp.Lexicographic.{pointwise, slice_cmp, nat_list_eq_equiv};
@@ -18,10 +18,10 @@ use std::cmp::Ordering;
 use std::marker::Model;
 use std::ops::Bound;
 
-/// The largest number of bytes of a key.
+/// The maximum number of bytes in a key.
 const MAX_KEY: usize = 264;
 
-/// A key, kept in the value itself. Contracts see its bytes.
+/// A key, held in place. Contracts see its bytes.
 #[derive(Drop)]
 pub struct IndexKey {
     bytes: ArrayVec<u8, 264>,
@@ -36,7 +36,7 @@ impl Model for IndexKey {
 }
 
 impl IndexKey {
-    /// The key of a pair, if the value can be in an index.
+    /// Returns the key of a pair, if the value can be in an index.
     pub fn of(value: &Value, node: u64) -> Option<IndexKey>
         ensures key { result ≡ own_key value.now node }
         ensures short { IfSome result (λ k. length k ≤ 264) }
@@ -49,7 +49,7 @@ impl IndexKey {
         })
     }
 
-    /// These bytes as a key.
+    /// Creates a key from these bytes.
     pub fn new(bytes: &[u8]) -> IndexKey
         requires { length bytes.now ≤ 264 }
         ensures { result ≡ bytes.now }
@@ -59,7 +59,7 @@ impl IndexKey {
         IndexKey { bytes: key }
     }
 
-    /// A copy of the bytes.
+    /// Returns a copy of the bytes.
     pub fn to_bytes(&self) -> ArrayVec<u8, 264>
         ensures { result.items ≡ self.now }
     {
@@ -69,7 +69,8 @@ impl IndexKey {
     }
 }
 
-/// The start of a range: the keys at `from` or after it; with `after`, those strictly after it.
+/// Returns the start of a range: the keys at or after `from`, or, if `after` is set, those strictly
+/// after it.
 pub fn start_of(from: &[u8], after: bool) -> Bound<IndexKey>
     ensures { (k : List ℕ) → length k ≤ 264 → is_from_start name_cmp result k
         ≡ is_at_or_after from.now after k }
@@ -125,7 +126,7 @@ impl Ord for IndexKey {
     }
 }
 
-/// A copy of the key. It takes no memory.
+/// Returns a copy of the key. It allocates no memory.
 impl Clone for IndexKey {
     ghost is_clone = { λ a b. b ≡ a };
 

@@ -10,14 +10,14 @@ ghost use Rattle.be_volume.specs.Volume.{State, step, steps};
 ghost use Rattle.be_volume.specs.declared.ops.Done.{Done as AnyDone};
 ghost use Rattle.be_volume.specs.declared.ops.Op.{Op as AnyOp};
 
-/// Accepted operations keep a volume sound.
+/// Accepted operations preserve a volume's soundness.
 pub fn sound_steps()
     ensures { (s t : State) (dones : List AnyDone) (ops : List AnyOp) → IsSound s → s.next
         + length ops < 2 ^ 64 → All IsOperation ops →
         steps s ops ≡ Ok (t, dones) → IsSound t }
 {}
 
-/// An accepted operation adds at most as many items and indices as its kind may, which is never
+/// An accepted operation adds at most the items and indices that its kind allows, which is never
 /// more than two items and one index.
 pub fn step_items()
     ensures items { (s t : State) (op : AnyOp) (done : AnyDone) → step s op ≡ Ok (t, done)
@@ -28,7 +28,7 @@ pub fn step_items()
 {}
 
 /// While operations are carried out one after another, the volume never has more items and indices
-/// than it had before plus what these may add. Refused operations add none.
+/// than it had before plus what those operations may add. Refused operations add nothing.
 pub fn stays_within()
     ensures sums { (s : State) (ops : List AnyOp) (most indices : ℕ)
         → items s + sum_by most_items ops ≤ most

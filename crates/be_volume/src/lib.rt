@@ -1,8 +1,8 @@
 //! The plain volume: nodes with attributes, and indices that lead from values back to nodes.
 //!
-//! This is the sequential object to which everything else is compared: one thread, ordered maps,
-//! and each call equal to its definition. A store in pages gives the same outcomes, and a journal
-//! is legal if this volume gives its outcomes.
+//! This is the sequential object with which everything else is compared: one thread, ordered maps,
+//! and each call equal to its definition. A store in pages gives the same outcomes as this volume,
+//! and a journal is legal if its outcomes are those that this volume gives.
 #![tactic(auto)]
 
 mod ahead;

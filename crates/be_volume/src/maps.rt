@@ -1,7 +1,7 @@
 //! A volume's maps, each seen as a finite map.
 //!
-//! Each call of a wrapper has one exact clause, so that nothing above this file mentions the trees
-//! that hold the maps.
+//! Each call of a wrapper has one exact clause, so nothing above this file mentions the trees that
+//! hold the maps.
 ghost use Rattle.std.specs.BTreeMap as tree;
 ghost use Rattle.std.specs.FinMap as map;
 ghost use Rattle.std.specs.Option.{option_copied};
@@ -36,7 +36,7 @@ impl<V> Model for Named<V> {
 }
 
 impl<V: Drop> Named<V> {
-    /// A map without names.
+    /// Creates a map without names.
     pub fn new(alloc: Global) -> Named<V>
         ensures { result ≡ map.empty }
     {
@@ -45,21 +45,21 @@ impl<V: Drop> Named<V> {
         }
     }
 
-    /// The number of names.
+    /// Returns the number of names.
     pub fn len(&self) -> usize
         ensures { result ≡ map.len self.now }
     {
         self.named.len()
     }
 
-    /// The value at a name, if the map has the name.
+    /// Returns the value at a name, if the map has the name.
     pub fn get(&self, name: &Name) -> Option<&V>
         ensures { option_copied result ≡ map.get self.now name.now }
     {
         self.named.get(name)
     }
 
-    /// Sets the value at a name. It returns `AllocError` if memory runs out.
+    /// Sets the value at a name. Returns `AllocError` if memory runs out.
     pub fn insert(&mut self, name: Name, value: V) -> Result<(), AllocError>
         ensures { OnOk result (self.new ≡ map.insert self.old name value) }
     {
@@ -79,7 +79,7 @@ impl<V: Drop> Named<V> {
 pub type Attributes = Named<Value>;
 
 impl Named<Value> {
-    /// Lists the attributes, in ascending order of their names.
+    /// Lists the attributes in ascending order of their names.
     pub fn list(&self, alloc: Global) -> Result<Vec<(Name, Value)>, AllocError>
         ensures { IfOk result (λ list. list.items ≡ map.entries self.now) }
     {
@@ -125,7 +125,7 @@ fn numbers_of(alloc: Global, nodes: &BTreeMap<u64, Attributes>) -> Result<Vec<u6
 }
 
 impl Nodes {
-    /// A map without nodes.
+    /// Creates a map without nodes.
     pub fn new(alloc: Global) -> Nodes
         ensures { result ≡ map.empty }
     {
@@ -134,21 +134,21 @@ impl Nodes {
         }
     }
 
-    /// A node's attributes, if the node exists.
+    /// Returns a node's attributes, if the node exists.
     pub fn get(&self, node: u64) -> Option<&Attributes>
         ensures { option_copied result ≡ map.get self.now node }
     {
         self.nodes.get(&node)
     }
 
-    /// The nodes' numbers, in ascending order.
+    /// Returns the numbers of the nodes, in ascending order.
     pub fn numbers(&self, alloc: Global) -> Result<Vec<u64>, AllocError>
         ensures { IfOk result (λ numbers. numbers.items ≡ map.keys self.now) }
     {
         numbers_of(alloc, &self.nodes)
     }
 
-    /// Sets all of a node's attributes. It returns `AllocError` if memory runs out.
+    /// Sets all of a node's attributes. Returns `AllocError` if memory runs out.
     pub fn insert(&mut self, node: u64, attributes: Attributes) -> Result<(), AllocError>
         ensures { OnOk result (self.new ≡ map.insert self.old node attributes) }
     {
@@ -216,7 +216,7 @@ impl Named<Index> {
     ghost use Rattle.std.specs.Prelude.{◌≡◌, IfOk, OnOk};
     ghost use Rattle.be_volume.specs.Indices.{with_pair, without_pair, without_node};
 
-    /// The indices' names and kinds, in ascending order of the names.
+    /// Returns the names and kinds of the indices, in ascending order of the names.
     pub fn kinds(&self, alloc: Global) -> Result<Vec<(Name, Kind)>, AllocError>
         ensures { IfOk result (λ list. list.items
             ≡ each (λ e. (e.0, e.1.kind)) (map.entries self.now)) }
@@ -224,7 +224,8 @@ impl Named<Index> {
         kinds_in(alloc, &self.named)
     }
 
-    /// Removes a node's pair from the index with this name, after the node lost its value there.
+    /// Removes a node's pair from the index with this name, after the node has lost its value
+    /// there.
     pub fn unpair(&mut self, name: &Name, node: u64)
         ensures { self.new ≡ without_pair self.old name.now node }
     {
@@ -234,15 +235,15 @@ impl Named<Index> {
         index.pairs.remove(node);
     }
 
-    /// Removes a node's pair from each index, when the node is dropped.
+    /// Removes a node's pair from every index when the node is dropped.
     pub fn unpair_all(&mut self, node: u64)
         ensures { self.new ≡ without_node self.old node }
     {
         unpair_each(&mut self.named, node);
     }
 
-    /// Updates the index with this name after the node got this value there: removes the node's old
-    /// pair, and adds the new one if the kinds agree.
+    /// Updates the index with this name after the node was given this value there: removes the
+    /// node's old pair, and adds the new one if the kinds agree.
     pub fn pair(&mut self, name: &Name, node: u64, value: Value) -> Result<(), AllocError>
         ensures { OnOk result (self.new ≡ with_pair self.old name.now node value) }
     {

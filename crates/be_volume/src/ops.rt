@@ -1,30 +1,30 @@
 //! A volume's operations, and their outcomes.
 //!
-//! A write is a batch of operations, all or none. An operation holds its name and value in place,
-//! so a list of operations can be copied without taking memory.
+//! A write is a batch of operations: either all of them are applied, or none. An operation holds
+//! its name and value in place, so a list of operations can be copied without allocating memory.
 ghost use Rattle.std.specs.Prelude.{◌≡◌};
 ghost use Rattle.be_volume.specs.Sound.{IsOperation};
 
 use be_value::{Kind, Name, Value, valid};
 use std::alloc::AllocError;
 
-/// One operation. It names nodes by their numbers.
+/// One operation. It identifies nodes by their numbers.
 #[derive(Debug, Drop, PartialEq, Eq, Hash)]
 pub enum Op {
-    /// Makes a node, with the next number. Numbers begin at 1 and are never reused.
+    /// Creates a node with the next number. Numbers begin at 1 and are never reused.
     New,
     /// Removes a node, its attributes, and its pairs in all indices. Error: NoNode.
     Drop(u64),
-    /// Sets an attribute of a node, replacing any value that it has. The old pair leaves the name's
-    /// index, and the new one enters if the kinds agree. Errors: NoNode; TooManyAttrs at a new
-    /// name, if the node has 64 attributes.
+    /// Sets an attribute of a node, replacing any existing value. The old pair leaves the index of
+    /// that name, and the new one enters it if the kinds agree. Errors: NoNode; TooManyAttrs if the
+    /// name is new and the node already has 64 attributes.
     Set(u64, Name, Value),
-    /// Removes an attribute of a node, and its pair. Errors: NoNode, NoAttr.
+    /// Removes an attribute of a node and its pair. Errors: NoNode, NoAttr.
     Unset(u64, Name),
-    /// Makes an index, which is empty at first. Errors: IndexExists; TooManyIndices if there are
-    /// 32; NotIndexable for MIMS and RAWT.
+    /// Creates an index, which is empty at first. Errors: IndexExists; TooManyIndices if there are
+    /// already 32; NotIndexable for MIMS and RAWT.
     MkIndex(Name, Kind),
-    /// Removes an index. If it is made again later, it is empty. Error: NoSuchIndex.
+    /// Removes an index. If it is created again later, it is empty. Error: NoSuchIndex.
     RmIndex(Name),
 }
 
@@ -33,13 +33,13 @@ pub enum Op {
 pub enum Done {
     /// The number of the new node.
     Node(u64),
-    /// What every other operation returns.
+    /// The outcome of every other operation.
     #[default]
     Unit,
 }
 
 impl Op {
-    /// A copy of the operation. It takes no memory.
+    /// Returns a copy of the operation. It allocates no memory.
     pub fn copy(&self) -> Op
         ensures { result ≡ self.now }
     {
@@ -53,8 +53,8 @@ impl Op {
         }
     }
 
-    /// States a law about the operation: its names and values are valid, which a contract doesn't
-    /// know about a borrowed operation. It does nothing else.
+    /// States a law about the operation: its names and values are valid. A contract can't assume
+    /// this of a borrowed operation. It does nothing else.
     pub fn valid(&self)
         ensures { IsOperation self.now }
     {
@@ -71,7 +71,7 @@ impl Op {
     }
 }
 
-/// A copy of the operation. It takes no memory.
+/// Returns a copy of the operation. It allocates no memory.
 impl Clone for Op {
     ghost is_clone = { λ a b. b ≡ a };
 

@@ -1,8 +1,8 @@
 //! An index's pairs (value, node).
 //!
-//! A node has at most one pair, so the pairs are kept by node, and contracts see them so. In
-//! addition, the keys are kept in the order of their bytes. So a walk through the index finds each
-//! next key in one search of a tree, and reads no other pair.
+//! A node has at most one pair, so the pairs are kept by node, and contracts see them by node too.
+//! In addition, the keys are kept in byte order. So a walk through the index finds each next key in
+//! one search of a tree, and reads no other pair.
 ghost use Rattle.std.specs.FinMap as map;
 ghost use Rattle.std.specs.Option.{option_copied, option_map};
 ghost use Rattle.std.specs.Prelude.{◌≡◌, OnOk, true};
@@ -42,7 +42,7 @@ impl Model for Pairs {
 }
 
 impl Pairs {
-    /// An index without pairs.
+    /// Creates an index without pairs.
     pub fn new(alloc: Global) -> Pairs
         ensures { result ≡ map.empty }
     {
@@ -52,14 +52,14 @@ impl Pairs {
         }
     }
 
-    /// The value in a node's pair, if the node has one.
+    /// Returns the value in a node's pair, if the node has one.
     pub fn get(&self, node: u64) -> Option<&Value>
         ensures { option_copied result ≡ map.get self.now node }
     {
         self.values.get(&node)
     }
 
-    /// Whether these bytes are the key of a pair.
+    /// Returns `true` if these bytes are the key of a pair.
     pub fn has_key(&self, bytes: &[u8]) -> bool
         ensures found { result ≡ true → IsKeyOf self.now bytes.now }
         ensures finds { IsKeyOf self.now bytes.now → result ≡ true }
@@ -67,7 +67,7 @@ impl Pairs {
         bytes.len() <= 264 && self.keys.contains(&IndexKey::new(bytes))
     }
 
-    /// The lowest key at `from` or after it; with `after`, strictly after it.
+    /// Returns the lowest key at or after `from`, or, if `after` is set, strictly after it.
     pub fn next_key(&self, from: &[u8], after: bool) -> Option<ArrayVec<u8, 264>>
         ensures { IsNext (IsKeyOf self.now) from.now after (option_map (λ k. k.items) result) }
     {
@@ -76,8 +76,7 @@ impl Pairs {
         Some(next.to_bytes())
     }
 
-    /// Sets a node's pair, replacing the one that it had. It returns `AllocError` if memory runs
-    /// out.
+    /// Sets a node's pair, replacing any that it had. Returns `AllocError` if memory runs out.
     pub fn insert(&mut self, node: u64, value: Value) -> Result<(), AllocError>
         ensures { OnOk result (self.new ≡ map.insert self.old node value) }
     {

@@ -1,8 +1,8 @@
 //! What a query sees of a volume, and which nodes satisfy it.
 //!
-//! A comparison on a name with an index sees the value that the index has for a node, otherwise the
-//! node's attribute. If it sees nothing of a node, it is false, even for `!=`. This is the
-//! definition, node by node; a plan that walks indices has to find the same nodes.
+//! A comparison on a name that has an index sees the value that the index has for a node; otherwise
+//! it sees the node's attribute. If it sees nothing of a node, it is false, even for `!=`. This is
+//! the definition, node by node; a plan that walks indices must find the same nodes.
 ghost use Rattle.std.specs.Option.{option_copied};
 ghost use Rattle.std.specs.Prelude.{◌≡◌};
 ghost use Rattle.be_query.specs.View.{formula, literal as literal_of};
@@ -14,7 +14,7 @@ use be_query::{Cmp, Comparison, Literal, Tree};
 use be_value::{Name, Value, number_of};
 use std::cmp::Ordering;
 
-/// Whether indices cover the tree.
+/// Returns `true` if indices cover the tree.
 pub fn covers(contents: &Contents, tree: &Tree) -> bool
     ensures { result ≡ covered contents.now (formula tree.now) }
 {
@@ -25,7 +25,7 @@ pub fn covers(contents: &Contents, tree: &Tree) -> bool
     }
 }
 
-/// Whether the node satisfies the tree.
+/// Returns `true` if the node satisfies the tree.
 pub fn satisfies(contents: &Contents, tree: &Tree, node: u64) -> bool
     ensures { result ≡ sat contents.now (formula tree.now) node }
 {
@@ -39,7 +39,7 @@ pub fn satisfies(contents: &Contents, tree: &Tree, node: u64) -> bool
     }
 }
 
-/// What a comparison on this name sees of the node.
+/// Returns what a comparison on this name sees of the node.
 fn seen<'a>(contents: &'a Contents, node: u64, name: &Name) -> Option<&'a Value>
     ensures { option_copied result ≡ sees contents.now node name.now }
 {
@@ -49,10 +49,10 @@ fn seen<'a>(contents: &'a Contents, node: u64, name: &Name) -> Option<&'a Value>
     }
 }
 
-/// Whether a comparison is true of a value. Texts match a pattern by their characters, and are
-/// compared with an exact literal by their bytes. Integers of every kind are compared by number
-/// with the number that the literal encodes. If it encodes none, the comparison is false, even for
-/// `!=`. Every comparison with raw bytes is false.
+/// Returns `true` if a comparison is true of a value. Texts match a pattern by their characters,
+/// and are compared with an exact literal by their bytes. Integers of every kind are compared, as
+/// numbers, with the number that the literal encodes. If it encodes no number, the comparison is
+/// false, even for `!=`. Every comparison with raw bytes is false.
 pub fn holds(comparison: &Comparison, value: &Value) -> bool
     ensures { result ≡ holds comparison.now.op value.now (literal_of comparison.now.literal) }
 {
@@ -90,8 +90,8 @@ fn holds_of_number(op: Cmp, n: i128, literal: &Literal) -> bool
     }
 }
 
-/// The number that a literal encodes, if it encodes one. A pattern with a wildcard encodes none. A
-/// plain pattern's number is read from its characters, after the backslashes are removed.
+/// Returns the number that a literal encodes, if any. A pattern with a wildcard encodes no number.
+/// A plain pattern's number is read from its characters after the backslashes are removed.
 pub fn literal_number(literal: &Literal) -> Option<i128>
     ensures { result ≡ literal_number (literal_of literal.now) }
 {
@@ -107,8 +107,8 @@ pub fn literal_number(literal: &Literal) -> Option<i128>
     }
 }
 
-/// Whether an operator is true of a value and something that compares with it in this order, the
-/// value first.
+/// Returns `true` if an operator is true of a value and something that compares with it in this
+/// order, the value first.
 pub fn is_true_of(op: Cmp, order: Ordering) -> bool
     ensures { result ≡ is_true_of op order }
 {

@@ -1,9 +1,9 @@
 //! The volume.
 //!
-//! A volume holds numbered nodes with typed attributes, and indices that are made and removed by
+//! A volume holds numbered nodes with typed attributes, and indices that are created and removed by
 //! name. Both are like those of the Be File System (Giampaolo, "Practical File System Design"; the
-//! Be Book, `fs_attr.h` and `fs_index.h`). That a new index is empty, and takes only attributes set
-//! after it was made, is this project's own choice.
+//! Be Book, `fs_attr.h` and `fs_index.h`). One rule is this project's own choice: a new index is
+//! empty, and takes only attributes set after it was created.
 ghost use Rattle.std.specs.Option.{option_map};
 ghost use Rattle.std.specs.Prelude.{◌≡◌, ◌<◌, ◌≤◌, ◌^◌, ◌+◌, IsOk, IfOk, IfErr, IfSome, Ok, length};
 ghost use Rattle.std.specs.Prelude.{true};
@@ -31,13 +31,13 @@ use std::mem;
 /// and has the index's kind.
 ///
 /// The contents are kept twice, so a volume takes twice the memory of what it holds. `apply` works
-/// on one copy while the other stays, since what was removed from an ordered map can't be put back
-/// without taking memory.
+/// on one copy while the other remains, because what was removed from an ordered map can't be put
+/// back without allocating memory.
 #[derive(Drop)]
 pub struct Volume {
     alloc: Global,
     contents: Contents,
-    /// A copy of the contents, or None if it has yet to be made.
+    /// A copy of the contents, or `None` if it has yet to be made.
     shadow: Option<Contents>,
 }
 
@@ -56,7 +56,8 @@ impl Model for Volume {
 }
 
 impl Volume {
-    /// A volume before any operation: it has no nodes and no indices, and its first node will be 1.
+    /// Creates a volume as it is before any operation: it has no nodes and no indices, and its
+    /// first node will be 1.
     pub fn new(alloc: Global) -> Volume
         ensures { result ≡ model.empty }
     {
@@ -67,7 +68,7 @@ impl Volume {
         }
     }
 
-    /// States a law about the volume: it is sound, which a contract doesn't know about a borrowed
+    /// States a law about the volume: it is sound. A contract can't assume this of a borrowed
     /// volume. It does nothing else.
     pub fn sound(&self)
         ensures { IsSound self.now }
@@ -75,15 +76,15 @@ impl Volume {
         let _next = self.contents.next();
     }
 
-    /// The number of the next new node.
+    /// Returns the number of the next new node.
     pub fn next(&self) -> u64
         ensures { result ≡ self.now.next }
     {
         self.contents.next()
     }
 
-    /// A copy of the volume, at the cost of everything that this one holds. The only error is
-    /// OutOfMemory. The first `apply` on the copy costs as much again.
+    /// Returns a copy of the volume, at the cost of everything that it holds. The only error is
+    /// OutOfMemory. The first `apply` on the copy costs the same again.
     pub fn copy(&self) -> Result<Volume, Refusal>
         ensures { Answers (λ copy. copy) result (Ok self.now) }
     {
@@ -95,8 +96,8 @@ impl Volume {
         })
     }
 
-    /// The error, from NoNode to NotIndexable, that `apply` returns for these operations, if there
-    /// is one. It takes no memory.
+    /// Returns the error, from NoNode to NotIndexable, that `apply` would return for these
+    /// operations, if any. It allocates no memory.
     pub fn refusal(&self, ops: &[Op]) -> Option<Refusal>
         requires few { length ops.now ≤ 64 }
         requires fits { self.now.next + 64 < 2 ^ 64 }
@@ -108,18 +109,18 @@ impl Volume {
         first_refusal(&mut facts, ops)
     }
 
-    /// Applies 1 to 64 operations one after another, all or none, and returns their outcomes. The
-    /// error is that of the first operation that is refused. It is NoNode if the node doesn't
-    /// exist, and NoAttr if it lacks the attribute. It is TooManyAttrs if a new name would be the
-    /// node's 65th. It is IndexExists if the index exists, and NoSuchIndex if it doesn't. It is
-    /// TooManyIndices if the index would be the 33rd, and NotIndexable if the kind can't be
-    /// indexed. All this is found before memory is taken. If memory runs out, the error is
-    /// OutOfMemory. A refused list leaves the volume as it was.
+    /// Applies 1 to 64 operations one after another, either all or none, and returns their
+    /// outcomes. The error is that of the first operation that is refused. It is NoNode if the node
+    /// doesn't exist, and NoAttr if it lacks the attribute. It is TooManyAttrs if a new name would
+    /// be the node's 65th. It is IndexExists if the index exists, and NoSuchIndex if it doesn't. It
+    /// is TooManyIndices if the index would be the 33rd, and NotIndexable if the kind can't be
+    /// indexed. All this is found before any memory is allocated. If memory runs out, it fails with
+    /// OutOfMemory. A refused list leaves the volume unchanged.
     ///
     /// The operations are performed on the shadow copy, which then replaces the contents. They are
     /// performed again on the old contents, which become the new shadow copy. So a call costs twice
     /// what it changes, though no clause says so. The whole volume is copied only if there is no
-    /// shadow copy: at the first call after OutOfMemory, after a `replay`, and on a new copy.
+    /// shadow copy: on the first call after OutOfMemory, after a `replay`, and on a new copy.
     pub fn apply(&mut self, ops: &[Op]) -> Result<ArrayVec<Done, 64>, Refusal>
         requires some { 1 ≤ length ops.now }
         requires few { length ops.now ≤ 64 }
@@ -140,8 +141,8 @@ impl Volume {
     }
 
     /// Applies operations as `apply` does, and returns the volume with the result, which is never
-    /// OutOfMemory. Nothing is kept twice: if memory runs out, the volume is gone. So replaying a
-    /// journal costs what its entries change, in the memory that the volume itself takes.
+    /// OutOfMemory. Nothing is kept twice: if memory runs out, the volume is lost. So replaying a
+    /// journal costs what its entries change, and no memory beyond the volume's own.
     pub fn replay(
         self,
         ops: &[Op],
@@ -170,15 +171,15 @@ impl Volume {
         Ok((volume, Ok(dones)))
     }
 
-    /// An attribute's value, if the node exists and has it.
+    /// Returns an attribute's value, if the node exists and has the attribute.
     pub fn get(&self, node: u64, name: &Name) -> Option<Value>
         ensures { result ≡ attribute self.now node name.now }
     {
         Some(self.contents.nodes().get(node)?.get(name)?.copy())
     }
 
-    /// A node's attributes, in ascending order of their names' bytes. It returns NoNode if the node
-    /// doesn't exist, and OutOfMemory only if it does.
+    /// Returns a node's attributes, in ascending byte order of their names. Fails with NoNode if
+    /// the node doesn't exist, and with OutOfMemory only if it does.
     pub fn attrs(&self, node: u64) -> Result<Vec<(Name, Value)>, Refusal>
         ensures list { Answers (λ list. list.items) result (attributes_at self.now node) }
         ensures wanted { IfErr result (λ e. e ≡ OutOfMemory → IsOk (attributes_at self.now node)) }
@@ -189,23 +190,23 @@ impl Volume {
         Ok(attributes.list(self.alloc)?)
     }
 
-    /// The indices' names and kinds, in ascending order of the names' bytes. The only error is
-    /// OutOfMemory.
+    /// Returns the names and kinds of the indices, in ascending byte order of the names. The only
+    /// error is OutOfMemory.
     pub fn indices(&self) -> Result<Vec<(Name, Kind)>, Refusal>
         ensures { Answers (λ list. list.items) result (Ok (index_kinds self.now)) }
     {
         Ok(self.contents.indices().kinds(self.alloc)?)
     }
 
-    /// The kind of the index with this name, if there is one.
+    /// Returns the kind of the index with this name, if there is one.
     pub fn kind_of(&self, name: &Name) -> Option<Kind>
         ensures { result ≡ index_kind self.now name.now }
     {
         Some(self.contents.indices().get(name)?.kind)
     }
 
-    /// The lowest key at `from` or after it in the index with this name; with `after`, strictly
-    /// after it. It costs one search of a tree.
+    /// Returns the lowest key at or after `from` in the index with this name, or, if `after` is
+    /// set, strictly after it. It costs one tree search.
     pub fn next_key(&self, name: &Name, from: &[u8], after: bool) -> Option<ArrayVec<u8, 264>>
         ensures { IsNextKey self.now name.now from.now after (option_map (λ k. k.items) result) }
     {
@@ -213,7 +214,7 @@ impl Volume {
         index.pairs.next_key(from, after)
     }
 
-    /// Whether the index with this name has the key.
+    /// Returns `true` if the index with this name has the key.
     pub fn has_key(&self, name: &Name, key: &[u8]) -> bool
         ensures found { result ≡ true → IsKey self.now name.now key.now }
         ensures finds { IsKey self.now name.now key.now → result ≡ true }
@@ -224,8 +225,9 @@ impl Volume {
         index.pairs.has_key(key)
     }
 
-    /// The nodes that satisfy the query, in ascending order. It returns NotCovered if indices don't
-    /// cover the query, and OutOfMemory if memory runs out for the result. It reads every node.
+    /// Returns the nodes that satisfy the query, in ascending order. Fails with NotCovered if
+    /// indices don't cover the query, and with OutOfMemory if memory runs out for the result. It
+    /// reads every node.
     pub fn query(&self, query: &Query) -> Result<Vec<u64>, Refusal>
         ensures { Answers (λ nodes. nodes.items) result (scan self.now query.now) }
     {
@@ -242,7 +244,7 @@ impl Volume {
     }
 }
 
-/// The shadow copy of these contents, or a new copy if there is none.
+/// Returns the shadow copy of these contents, or a new copy if there is none.
 fn shadow_of(contents: &Contents, shadow: Option<Contents>) -> Result<Contents, AllocError>
     requires { IfSome shadow (λ shadow. shadow ≡ contents.now) }
     ensures { IfOk result (λ shadow. shadow ≡ contents.now) }
@@ -253,8 +255,8 @@ fn shadow_of(contents: &Contents, shadow: Option<Contents>) -> Result<Contents, 
     }
 }
 
-/// Performs operations that are accepted. If memory runs out, nothing is known about the contents
-/// that are left.
+/// Performs operations that have been accepted. If memory runs out, nothing is known about the
+/// resulting contents.
 fn perform_all(contents: &mut Contents, ops: &[Op]) -> Result<ArrayVec<Done, 64>, AllocError>
     requires few { length ops.now ≤ 64 }
     requires sound { IsSound contents.old }

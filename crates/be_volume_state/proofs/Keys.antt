@@ -1,4 +1,4 @@
--- Whether an index has a node, by the key of the node's attribute.
+-- Whether an index has a node, decided by the key of the node's attribute.
 use Rattle.std.proofs.Common.{◌≡◌, ◌<◌, ◌^◌, ℕ, Bool, true, false, IsTrue, List, refl, sym, ap, ◌∙◌, subst, Some, None, is_some}
 use Rattle.std.proofs.lemmas.Option.{same_Some}
 use Rattle.std.specs.Option.{option_and_then}

@@ -31,7 +31,7 @@ is_below m n h = grind (arith, nat_tests)
 pub not_below : (m n : ℕ) → n ≤ m → nat_lt m n ≡ false
 not_below m n h = grind (arith, nat_tests)
 
--- a number is n, or it is another, and then it is below n + 1 exactly if it is below n
+-- a number either is n, or is below n + 1 exactly if it is below n
 pub by_number : (n m : ℕ) (P : ℕ → Type 0) → P n → (eq_by_cmp nat_cmp m n ≡ false → nat_lt m (n + 1) ≡ nat_lt m n → P m) → P m
 by_number n m P here away = by (nat_cmp m n) refl
   where
@@ -118,7 +118,7 @@ module _ (nodes : Nodes) (n : ℕ) where
       option_and_then (λ (b : Attributes). fin.get b q) (fin.get (fin.remove nodes n) m) ≡ option_and_then (λ (b : Attributes). fin.get b q) (fin.get nodes m)
   lost_away m q e = ap (option_and_then (λ (b : Attributes). fin.get b q)) (left m e)
 
--- the node's pair in an index of this kind, once the node gets the value
+-- the node's pair in an index of this kind once the node has been given the value
 abbrev pub pair_set : Option Kind → Value → Option Value → Option Value
 pair_set None value old = old
 pair_set (Some kind) value old = if same_kind kind (kind_of value) then Some value else None
@@ -142,7 +142,7 @@ pair_in indices q m = option_and_then (λ (i : Index). fin.get i.pairs m) (fin.g
 abbrev kind_in : Indices → List ℕ → Option Kind
 kind_in indices q = option_map (λ (i : Index). i.kind) (fin.get indices q)
 
--- an index once a node gets a value, which may or may not fit it
+-- an index once a node has been given a value, which may or may not fit it
 abbrev paired_if : Bool → Index → ℕ → Value → Index
 paired_if fits index n value = if fits then record { kind = index.kind; pairs = fin.insert index.pairs n value } else record { kind = index.kind; pairs = fin.remove index.pairs n }
 

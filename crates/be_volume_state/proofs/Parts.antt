@@ -1,4 +1,4 @@
--- The entries of maps from names, divided by a test, and what is found in each part.
+-- The entries of maps from names, split by a test, and what is found in each part.
 use Rattle.std.proofs.Common.{◌≡◌, ◌+◌, ℕ, Bool, true, false, cond, not, ◌&&◌, List, [], ◌∷◌, length, T, IsTrue, refl, sym, ap, ◌∙◌, arith, Some, None, map as each}
 use Rattle.std.specs.Prelude.{filter}
 use Rattle.std.specs.Option.{option_map}

@@ -1,4 +1,4 @@
--- The operations of a number, as they are appended.
+-- The operations for a number as they are appended.
 use Rattle.std.proofs.Common.{◌≡◌, ◌<◌, ◌+◌, ◌++◌, ℕ, Bool, true, false, cond, if◌then◌else◌, List, [], ◌∷◌, length, take, get_or, filter, append_assoc, refl, sym, ap, ◌∙◌, Some, None, unwrap_or, Option, option_map, arith}
 use Rattle.std.proofs.lemmas.List.{map-append}
 use Rattle.std.proofs.lemmas.List.Elements.{filter_more}
@@ -15,7 +15,7 @@ module _ (p : List ℕ × Value → Bool) (node : ℕ) (xs : List (List ℕ × V
   set_part front true = map-append (λ e. Set node e.0 e.1) front (x ∷ [])
   set_part front false = map-append (λ e. Set node e.0 e.1) front []
 
-  -- one attribute further, which is set if it passes the test
+  -- one more attribute, which is set if it passes the test
   pub one_further : (old before now : List Op) (wanted : Bool) → i < length xs → x ≡ get_or xs i x → wanted ≡ p x → before ≡ old ++ set_all node (filter p (take i xs)) →
       now ≡ before ++ (if wanted then Set node x.0 x.1 ∷ [] else []) → now ≡ old ++ set_all node (filter p (take (i + 1) xs))
   one_further old before now wanted here at is so_far e =

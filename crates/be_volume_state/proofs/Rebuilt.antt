@@ -100,7 +100,8 @@ both_parts s sound n =
     let sum : length (outside s n) + length (held s n) ≡ length (fin.entries (attributes_of s.nodes n)) = parted (is_held s n) (fin.entries (attributes_of s.nodes n)) in
     omega arith
 
--- What the numbers below the next one have made: their nodes, the attributes that no index has, and no index.
+-- What the numbers below the next one have created: their nodes, the attributes that no index has,
+-- and no index.
 record AtNumber (s t : State) : Type 0 where
   there : (m : ℕ) → fin.contains_key t.nodes m ≡ (nat_lt m t.next && fin.contains_key s.nodes m)
   attribute_is : (m : ℕ) (q : List ℕ) → attribute t m q ≡ cond (nat_lt m t.next && not (is_held s m q)) (attribute s m q) None
@@ -189,7 +190,7 @@ numbers s sound t at (suc k) =
       is = record { next = omega arith; at = r.is.at };
     }
 
--- The volume once the numbers below n have got the attributes that an index has.
+-- The volume once the numbers below n have been given the attributes that an index has.
 record AtHeld (s : State) (n : ℕ) (t : State) : Type 0 where
   next : t.next ≡ s.next
   there : (m : ℕ) → fin.contains_key t.nodes m ≡ fin.contains_key s.nodes m

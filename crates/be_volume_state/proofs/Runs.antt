@@ -1,4 +1,4 @@
--- Lists of operations that a volume accepts, and the volumes they lead to.
+-- Lists of operations that a volume accepts, and the volumes to which they lead.
 use Rattle.std.proofs.Common.{◌≡◌, ◌≤◌, ◌+◌, ℕ, Bool, true, false, cond, List, [], ◌∷◌, ◌++◌, length, refl, sym, ap, ◌∙◌, subst, arith, Some, None, is_some, fold, map as each}
 use Rattle.std.proofs.lemmas.Grind.{fold-append}
 use Rattle.std.specs.Prelude.{Ok, Result, ⊤}
@@ -25,7 +25,7 @@ use Rattle.be_volume.proofs.StepLemmas.{made}
 use Rattle.be_volume_state.specs.Rebuilding.{pair_at, set_all}
 use Rattle.be_volume_state.proofs.Observed.{by_name, same_name, own_name, set_there, set_here, set_away, set_kind, set_pair, set_apart, set_count, set_accepted, index_accepted, pair_set, got_away, kind_here, pair_here}
 
--- the operations are accepted one after the other, and lead to u
+-- the operations are accepted one after another and lead to u
 pub record Goes (t : State) (ops : List Op) (u : State) : Type 0 where
   pub dones : List Done → List Done
   pub is : (old : List Done) → fold advance (Ok (t, old)) ops ≡ Ok (u, dones old)
@@ -56,7 +56,7 @@ abbrev pub Distinct : {X : Type 0} → List (List ℕ × X) → Type 0
 Distinct [] = ⊤
 Distinct (e ∷ es) = (find name_cmp e.0 es ≡ None) × Distinct es
 
--- the node's pair once it has got the value, if it got one
+-- the node's pair once it has been given the value, if it was
 abbrev pub pair_after : Option Value → Option Kind → Option Value → Option Value
 pair_after None kind old = old
 pair_after (Some value) kind old = pair_set kind value old
@@ -112,7 +112,7 @@ sets t n (e ∷ es) d there few =
       };
     }
 
--- how making these indices changes a volume, where no index has a pair
+-- how creating these indices changes a volume, where no index has a pair
 pub record IsMade (t : State) (es : List (List ℕ × Kind)) (u : State) : Type 0 where
   pub next : u.next ≡ t.next
   pub nodes : u.nodes ≡ t.nodes
@@ -150,7 +150,7 @@ has_kind t q = by (fin.get t.indices q)
     by None = refl
     by (Some i) = refl
 
--- the volume doesn't have any of these indices yet
+-- the volume has none of these indices yet
 abbrev pub AreNew : State → List (List ℕ × Kind) → Type 0
 AreNew t es = (q : List ℕ) → is_some (find name_cmp q es) ≡ true → index_kind t q ≡ None
 

@@ -1,4 +1,4 @@
--- No shorter list of operations makes the volume.
+-- No shorter list of operations creates the volume.
 use Rattle.std.proofs.Common.{◌≡◌, ◌<◌, ◌≤◌, ◌+◌, ◌-◌, ◌++◌, ℕ, zero, suc, Bool, true, false, cond, if◌then◌else◌, List, [], ◌∷◌, length, refl, sym, ap, ◌∙◌, subst, arith, is_ok, IsOk, fold}
 use Rattle.std.proofs.lemmas.List.{length-append, length-map}
 use Rattle.std.specs.Prelude.{Ok, Err, Result, is_some, unwrap_or, None, Some}
@@ -27,7 +27,7 @@ use Rattle.be_volume_state.proofs.Parts.{parted}
 use Rattle.be_volume_state.proofs.Numbering.{empty_numbered, reached_numbered}
 use Rattle.be_volume_state.proofs.Observed.{attributes_away, attributes_here, attributes_left, by_number, dropped_away, dropped_here, has_away, has_here}
 
--- the sum of f over k numbers from a on
+-- the sum of f over k numbers starting at a
 total : (ℕ → ℕ) → ℕ → ℕ → ℕ
 total f a zero = 0
 total f a (suc k) = f a + total f (a + 1) k
@@ -43,7 +43,7 @@ total_push f a (suc k) = let e = total_push f (a + 1) k in let s = ap f (shift a
     shift : (n m : ℕ) → (n + 1) + m ≡ n + suc m
     shift n m = omega arith
 
--- sums of functions, if no value grows
+-- sums of functions when no value grows
 total_stays : (f g : ℕ → ℕ) (a k : ℕ) → ((m : ℕ) → a ≤ m → m < a + k → g m ≤ f m) → total g a k ≤ total f a k
 unfolding total
 total_stays f g a zero h = omega arith
@@ -52,7 +52,7 @@ total_stays f g a (suc k) h =
     let rest = total_stays f g (a + 1) k (λ m p q. h m (omega (arith, p)) (omega (arith, q))) in
     omega arith
 
--- sums of functions, if one value grows by at most one
+-- sums of functions when one value grows by at most one
 total_grows : (f g : ℕ → ℕ) (n : ℕ) → g n ≤ f n + 1 → ((m : ℕ) → eq_by_cmp nat_cmp m n ≡ false → g m ≤ f m) → (a k : ℕ) → total g a k ≤ total f a k + 1
 unfolding total
 total_grows f g n here away a zero = omega arith
@@ -134,7 +134,7 @@ weigh_gone n false m = omega arith
 weigh_same : (b c : Bool) (n m : ℕ) → b ≡ c → n ≡ m → weigh_in b n ≤ weigh_in c m
 weigh_same b c n m h e = subst (λ x. weigh_in b n ≤ weigh_in x m) h (subst (λ x. weigh_in b n ≤ weigh_in b x) e (omega arith))
 
--- a node gets other attributes, at most one more
+-- a node is given other attributes, at most one more
 changed : (t : State) (n : ℕ) (a : Attributes) → fin.contains_key t.nodes n ≡ true → fin.len a ≤ fin.len (attributes_of t.nodes n) + 1 → (k : ℕ) →
     total (weigh (fin.insert t.nodes n a)) 1 k ≤ total (weigh t.nodes) 1 k + 1
 changed t n a there few k = total_grows (weigh t.nodes) (weigh (fin.insert t.nodes n a)) n

@@ -23,7 +23,8 @@ left_from s (Held node) = flat_map (held_ops s) (numbers_from s node)
 abbrev pub left : State → Place → List Op
 left s place = place.ready.items ++ left_from s place.step
 
--- the operations of the list that was returned, by a function of it; none if no list was returned
+-- the operations of the list that was returned, as given by a function of it; none if no list was
+-- returned
 abbrev pub given : {X E : Type 0} → (X → List Op) → Result (Option X) E → List Op
 given view (Ok list) = option_map_or view list []
 given view (Err e) = []

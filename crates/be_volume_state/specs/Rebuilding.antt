@@ -32,13 +32,13 @@ held s node = filter (λ e. is_held s node e.0) (map.entries (attributes_of s.no
 abbrev pub set_all : ℕ → List (List ℕ × Value) → List Op
 set_all node attributes = each (λ e. Set node e.0 e.1) attributes
 
--- The operations of a number make its node and set the attributes that no index has. If the volume
--- has no such node, they drop it again.
+-- The operations for a number create its node and set the attributes that no index has. If the
+-- volume has no such node, they then drop it.
 abbrev pub number_ops : State → ℕ → List Op
 number_ops s node = New ∷ (if map.contains_key s.nodes node then set_all node (outside s node)
     else Drop node ∷ [])
 
--- the operations that make the indices
+-- the operations that create the indices
 abbrev pub index_ops : State → List Op
 index_ops s = each (λ e. MkIndex e.0 e.1) (index_kinds s)
 
@@ -50,13 +50,13 @@ held_ops s node = set_all node (held s node)
 abbrev pub numbers_from : State → ℕ → List ℕ
 numbers_from s node = range_with_len node (s.next - node)
 
--- For each number its node and the attributes that no index has, then the indices, then for each
--- number the attributes that an index has.
+-- For each number, its node and the attributes that no index has; then the indices; then, for each
+-- number, the attributes that an index has.
 abbrev pub state_ops : State → List Op
 state_ops s = flat_map (number_ops s) (numbers_from s 1)
     ++ (index_ops s ++ flat_map (held_ops s) (numbers_from s 1))
 
--- Numbers begin at 1, as in every volume that operations have made.
+-- Numbers begin at 1, as in every volume that operations have created.
 pub record IsNumbered (s : State) : Type 0 where
   pub begins : 1 ≤ s.next
   pub no_zero : map.contains_key s.nodes 0 ≡ false

@@ -22,7 +22,7 @@ pub fn numbered()
     ensures stays { (s : State) (ops : List AnyOp) → IsNumbered s → IsNumbered (state_after s ops) }
 {}
 
-/// A law: no shorter list of operations makes the volume from the empty one.
+/// A law: no shorter list of operations creates the volume from the empty one.
 pub fn fewest()
     ensures { (s : State) (dones : List AnyDone) (ops : List AnyOp) → steps empty ops
         ≡ Ok (s, dones) → length (state_ops s) ≤ length ops }

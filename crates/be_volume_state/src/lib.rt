@@ -1,6 +1,6 @@
 //! The operations that rebuild a volume from the empty one.
 //!
-//! A long-running process can drop its history. It reads the operations that make the present
+//! A long-running process can drop its history. It reads the operations that create the present
 //! volume, applies them to a new store, and continues with a short journal.
 #![tactic(auto)]
 

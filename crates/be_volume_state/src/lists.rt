@@ -1,7 +1,7 @@
 //! A volume's operations, read list by list.
 //!
-//! The operations are never all in memory. Apart from the list that is returned, only those of one
-//! number, or those of the indices, are.
+//! The operations are never all in memory at once. Apart from the list being returned, only those
+//! for one number, or those for the indices, are in memory.
 ghost use Rattle.std.specs.Prelude.{◌≡◌, ◌<◌, ◌≤◌, ◌++◌, ◌⊎◌, [], IfOk, IfSome, IfNone, OnOk};
 ghost use Rattle.std.specs.Prelude.{length, true, false};
 ghost use Rattle.be_volume.specs.Volume.{State};
@@ -18,16 +18,16 @@ use std::mem;
 /// What is read next.
 #[derive(Clone, Copy)]
 pub(crate) enum Step {
-    /// This number, and its node's attributes that no index has.
+    /// This number, and those attributes of its node that no index has.
     Number(u64),
     /// The indices.
     Indices,
-    /// The attributes that an index has of the node with this number.
+    /// Those attributes of the node with this number that an index has.
     Held(u64),
 }
 
-/// How far a volume's operations have been read: what is read next, and what was read but not yet
-/// returned.
+/// How far a volume's operations have been read: what to read next, and what has been read but not
+/// yet returned.
 #[derive(Drop)]
 pub struct Place {
     alloc: Global,
@@ -36,7 +36,7 @@ pub struct Place {
 }
 
 impl Place {
-    /// The place before the first operation. It takes no memory.
+    /// Creates the place before the first operation. It allocates no memory.
     pub fn new(alloc: Global) -> Place
         ensures { (volume : State) → left volume result ≡ state_ops volume }
     {
@@ -51,11 +51,11 @@ impl Place {
 /// The maximum number of operations in a list.
 const FULL: usize = 64;
 
-/// The next list of a volume's operations, which has 1 to 64, or `None` after the last. The lists
-/// end to end are `state_ops`, and each but the last has 64. If memory runs out, nothing is lost:
-/// the next call continues.
+/// Returns the next list of a volume's operations, which has 1 to 64, or `None` after the last.
+/// Joined end to end, the lists are `state_ops`, and each but the last has 64 operations. If memory
+/// runs out, nothing is lost: the next call continues.
 ///
-/// All calls together read each number twice, once for the attributes that no index has and once
+/// In total, the calls read each number twice, once for the attributes that no index has and once
 /// for the rest. For each attribute they ask twice whether an index has it.
 pub fn next_list<W: Whole>(whole: &mut W, place: &mut Place) -> Result<Option<Vec<Op>>, AllocError>
     ghost volume: { State }
@@ -74,7 +74,7 @@ pub fn next_list<W: Whole>(whole: &mut W, place: &mut Place) -> Result<Option<Ve
     take(place)
 }
 
-/// Reads on until a list is full, or nothing is left to read.
+/// Reads until a list is full or nothing is left to read.
 fn fill<W: Whole>(whole: &mut W, place: &mut Place) -> Result<(), AllocError>
     ghost volume: { State }
     requires answers { W.answers_for whole.old volume }
@@ -93,7 +93,7 @@ fn fill<W: Whole>(whole: &mut W, place: &mut Place) -> Result<(), AllocError>
     Ok(())
 }
 
-/// Whether a list is full, or nothing is left to read.
+/// Returns `true` if a list is full or nothing is left to read.
 fn is_ready(place: &Place, next: u64) -> bool
     ensures ready { (volume : State) → next ≡ volume.next → result ≡ true →
         (64 ≤ length place.now.ready.items) ⊎ (places.left_from volume place.now.step ≡ []) }
@@ -102,7 +102,7 @@ fn is_ready(place: &Place, next: u64) -> bool
     place.ready.len() >= FULL || is_last(place.step, next)
 }
 
-/// Whether nothing is left to read.
+/// Returns `true` if nothing is left to read.
 fn is_last(step: Step, next: u64) -> bool
     ensures last { (volume : State) → next ≡ volume.next → result ≡ true
         → places.left_from volume step ≡ [] }
@@ -114,7 +114,7 @@ fn is_last(step: Step, next: u64) -> bool
     }
 }
 
-/// The operations of a step, and the step after it.
+/// Returns the operations of a step, and the step after it.
 fn read<W: Whole>(
     alloc: Global,
     whole: &mut W,

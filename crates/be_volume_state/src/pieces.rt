@@ -1,4 +1,4 @@
-//! The operations of one number, and of the indices.
+//! The operations for one number, and those for the indices.
 ghost use Rattle.std.specs.Prelude.{◌≡◌, ◌++◌, ◌∷◌, [], IfOk, OnOk, filter, not, if◌then◌else◌};
 ghost use Rattle.std.specs.Prelude.{map as each};
 ghost use Rattle.be_volume.specs.Volume.{State};
@@ -10,8 +10,8 @@ use be_value::{Kind, Name, Value};
 use be_volume::Op;
 use std::alloc::{AllocError, Global};
 
-/// The operations of the next number. They make its node, and set the attributes that no index has;
-/// if the volume has no such node, they drop it again.
+/// Returns the operations for the next number. They create its node and set the attributes that no
+/// index has; if the volume has no such node, they then drop it.
 pub(crate) fn number_ops<W: Whole>(
     alloc: Global,
     whole: &mut W,
@@ -33,7 +33,7 @@ pub(crate) fn number_ops<W: Whole>(
     Ok(ops)
 }
 
-/// The operations that set those of a node's attributes that an index has.
+/// Returns the operations that set those of a node's attributes that an index has.
 pub(crate) fn held_ops<W: Whole>(
     alloc: Global,
     whole: &mut W,
@@ -53,7 +53,7 @@ pub(crate) fn held_ops<W: Whole>(
     Ok(ops)
 }
 
-/// The operations that make the indices.
+/// Returns the operations that create the indices.
 pub(crate) fn index_ops<W: Whole>(alloc: Global, whole: &mut W) -> Result<Vec<Op>, AllocError>
     ghost volume: { State }
     requires answers { W.answers_for whole.old volume }
@@ -75,7 +75,7 @@ fn made(alloc: Global, indices: &[(Name, Kind)]) -> Result<Vec<Op>, AllocError>
     Ok(ops)
 }
 
-/// Appends the operations that set those of these attributes that no index has.
+/// Appends the operations that set those of the given attributes that no index has.
 fn push_outside<W: Whole>(
     whole: &mut W,
     node: u64,
@@ -96,7 +96,7 @@ fn push_outside<W: Whole>(
     Ok(())
 }
 
-/// Appends the operations that set those of these attributes that an index has.
+/// Appends the operations that set those of the given attributes that an index has.
 fn push_held<W: Whole>(
     whole: &mut W,
     node: u64,

@@ -27,7 +27,7 @@ impl<'a> Model for WholeVolume<'a> {
     ghost view = { λ w. w.volume.now };
 }
 
-/// The volume as a `Whole`, which borrows it.
+/// Borrows the volume as a `Whole`.
 pub fn whole_volume(volume: &Volume) -> WholeVolume<'_>
     ensures { result ≡ volume.now }
 {
@@ -81,8 +81,8 @@ fn indices_of(volume: &Volume) -> Result<Vec<(Name, Kind)>, AllocError>
     }
 }
 
-/// Whether the index of that name has the node. A pair in an index is always an attribute of its
-/// node, so the function looks for the key of that attribute.
+/// Returns `true` if the index of that name has the node. A pair in an index is always an attribute
+/// of its node, so the function looks for the key of that attribute.
 fn index_has(volume: &Volume, node: u64, name: &Name) -> bool
     ensures { result ≡ is_held volume.now node name.now }
 {

@@ -1,8 +1,8 @@
 //! The trait through which a whole volume is read.
 //!
-//! A volume is read by four calls, and each may change the reader itself, as a cursor moves. `kept`
-//! is what no call changes. `answers_for` relates the reader to the volume that it reads. It is
-//! needed because a reader of pages can't compute the volume that its pages encode.
+//! A volume is read through four calls, each of which may change the reader itself, as moving a
+//! cursor does. `kept` is what no call changes. `answers_for` relates the reader to the volume that
+//! it reads. It is needed because a reader of pages can't compute the volume that its pages encode.
 ghost use Rattle.std.specs.FinMap as map;
 ghost use Rattle.std.specs.Option.{option_map};
 ghost use Rattle.std.specs.Prelude.{◌≡◌, IfOk};
@@ -13,9 +13,9 @@ ghost use Rattle.be_volume_state.specs.Rebuilding.{is_held};
 use be_value::{Kind, Name, Value};
 use std::alloc::AllocError;
 
-/// A reader of one whole volume. Its calls may change the reader itself, but neither the volume nor
-/// what the reader keeps. Each call requires that the reader answers for some volume, and its
-/// clauses hold for every volume for which it does.
+/// A reader of one whole volume. Its calls may change the reader itself, but not the volume or the
+/// reader's `kept` facts. Each call requires that the reader answers for some volume, and its
+/// clauses hold for every such volume.
 pub trait Whole {
     /// The facts about the reader that no call changes.
     ghost Kept: { Type 0 };
@@ -25,7 +25,7 @@ pub trait Whole {
     /// Whether the reader answers for this volume.
     ghost answers_for: { Self → State → Type 0 };
 
-    /// The number that the next node will get.
+    /// Returns the number that the next node will get.
     fn next(&mut self) -> u64
         requires { (volume : State) × answers_for self.old volume }
         ensures answer { (volume : State) → answers_for self.old volume → result ≡ volume.next }
@@ -33,8 +33,8 @@ pub trait Whole {
         ensures answers { (volume : State) → answers_for self.old volume
             → answers_for self.new volume };
 
-    /// A node's attributes, in ascending order of their names' bytes, or `None` if there is no such
-    /// node.
+    /// Returns a node's attributes, in ascending byte order of their names, or `None` if there is
+    /// no such node.
     fn attrs(&mut self, node: u64) -> Result<Option<Vec<(Name, Value)>>, AllocError>
         requires { (volume : State) × answers_for self.old volume }
         ensures answer { (volume : State) → answers_for self.old volume →
@@ -44,7 +44,7 @@ pub trait Whole {
         ensures answers { (volume : State) → answers_for self.old volume
             → answers_for self.new volume };
 
-    /// The names and kinds of the indices, in ascending order of the names' bytes.
+    /// Returns the names and kinds of the indices, in ascending byte order of the names.
     fn indices(&mut self) -> Result<Vec<(Name, Kind)>, AllocError>
         requires { (volume : State) × answers_for self.old volume }
         ensures answer { (volume : State) → answers_for self.old volume
@@ -53,7 +53,7 @@ pub trait Whole {
         ensures answers { (volume : State) → answers_for self.old volume
             → answers_for self.new volume };
 
-    /// Whether the index of that name has the node. It takes no memory.
+    /// Returns `true` if the index of that name has the node. It allocates no memory.
     fn is_held(&mut self, node: u64, name: &Name) -> bool
         requires { (volume : State) × answers_for self.old volume }
         ensures answer { (volume : State) → answers_for self.old volume → result

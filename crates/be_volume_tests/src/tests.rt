@@ -1,5 +1,5 @@
-//! Worked examples, by calls. Most are lines `REQUEST => REPLY` in the script language; the
-//! operations of a list are separated by `;`.
+//! Worked examples, tested through public calls. Most are lines `REQUEST => REPLY` in the script
+//! language, with `;` between the operations of a list.
 
 use be_query::parse;
 use be_script_language::{Reply, Request, read_line};
@@ -12,7 +12,7 @@ use be_volume_state::{Place, WholeVolume, next_list, whole_volume};
 use std::alloc::Global;
 use std::test::Fail;
 
-/// The outcomes of a list. The function first checks whether the list may be applied.
+/// Applies a list, after checking whether it may be applied. Returns its outcomes.
 fn write(alloc: Global, volume: &mut Volume, ops: &[Op]) -> Result<String, Refusal> {
     if ops.is_empty() || ops.len() > 64 || volume.next() > u64::MAX - 64 {
         return Err(Refusal::BadLimits);
@@ -50,7 +50,8 @@ struct Plain {
     volume: Volume,
 }
 
-/// The lines of the reply to a request, or of its error. Only OutOfMemory is returned as an error.
+/// The lines of the reply to a request, or of its error. The only error returned as such is
+/// OutOfMemory.
 fn lines_of(alloc: Global, volume: &mut Volume, request: &str) -> Result<String, Refusal> {
     match answer(alloc, volume, request) {
         Err(Refusal::OutOfMemory) => Err(Refusal::OutOfMemory),
@@ -65,7 +66,7 @@ impl Answers for Plain {
     }
 }
 
-/// Writes the next list of operations that rebuild a volume. False if none is left.
+/// Writes the next list of the operations that rebuild a volume. Returns false if no list is left.
 fn write_next(
     alloc: Global,
     whole: &mut WholeVolume<'_>,
@@ -79,7 +80,7 @@ fn write_next(
     Ok(true)
 }
 
-/// The volume that the lists of this one make from an empty one.
+/// The volume that this volume's lists rebuild from an empty one.
 fn made_of(alloc: Global, volume: &Volume) -> Result<Volume, Refusal> {
     let mut again = Volume::new(alloc);
     let mut whole = whole_volume(volume);
@@ -105,14 +106,14 @@ impl Answers for MadeAgain {
     }
 }
 
-/// The volume after these requests, which must have the given replies.
+/// Runs requests, which must get the given replies. Returns the volume after them.
 fn runs(alloc: Global, volume: Volume, lines: &str) -> Result<Volume, Fail> {
     let mut plain = Plain { volume };
     check_lines(alloc, &mut plain, lines)?;
     Ok(plain.volume)
 }
 
-/// The same, starting with an empty volume.
+/// Like `runs`, beginning with an empty volume.
 fn after(alloc: Global, lines: &str) -> Result<Volume, Fail> {
     runs(alloc, Volume::new(alloc), lines)
 }
@@ -126,7 +127,7 @@ fn examples(rt: HostRuntime) -> Result<(), Fail> {
     Ok(())
 }
 
-/// Runs these requests, and rebuilds the volume before each.
+/// Runs these requests, and rebuilds the volume before each of them.
 fn runs_made_again(alloc: Global, lines: &str) -> Result<(), Fail> {
     let mut made = MadeAgain {
         volume: Volume::new(alloc),
@@ -134,7 +135,7 @@ fn runs_made_again(alloc: Global, lines: &str) -> Result<(), Fail> {
     check_lines(alloc, &mut made, lines)
 }
 
-/// A rebuilt volume gives the same replies, also with attributes that are in no index, and with
+/// A rebuilt volume gives the same replies, even if it has attributes that are in no index, and
 /// dropped nodes.
 #[test]
 fn made_again(rt: HostRuntime) -> Result<(), Fail> {
@@ -144,7 +145,7 @@ fn made_again(rt: HostRuntime) -> Result<(), Fail> {
     runs_made_again(rt.alloc(), LISTS)
 }
 
-/// An equal volume. If memory runs out, it is copied again.
+/// A copy of the volume. If memory runs out, it is copied again.
 fn copy_of(volume: &Volume) -> Result<Volume, Refusal> {
     match volume.copy() {
         Err(Refusal::OutOfMemory) => volume.copy(),
@@ -152,7 +153,7 @@ fn copy_of(volume: &Volume) -> Result<Volume, Refusal> {
     }
 }
 
-/// Changing a copy leaves the original as it was.
+/// Changing a copy leaves the original unchanged.
 #[test]
 fn volume_copy(rt: HostRuntime) -> Result<(), Fail> {
     let volume = after(rt.alloc(), EQUAL_VALUES)?;
@@ -162,8 +163,8 @@ fn volume_copy(rt: HostRuntime) -> Result<(), Fail> {
     Ok(())
 }
 
-/// Whether the next key, at these bytes or after them, is this one; if `key` is empty, whether
-/// there is none.
+/// Whether the next key, at these bytes or after them, is `key`, or whether there is no next key if
+/// `key` is empty.
 fn is_next(volume: &Volume, index: &str, from: &[u8], after: bool, key: &[u8]) -> bool {
     let Ok(name) = Name::new(index) else {
         return false;
@@ -185,13 +186,13 @@ fn kind_of(volume: &Volume, index: &str) -> Option<Kind> {
     volume.kind_of(&Name::new(index).ok()?)
 }
 
-/// The key of the text x and node 1.
+/// The key of the string x and node 1.
 const FIRST: [u8; 10] = [0x78, 0, 0, 0, 0, 0, 0, 0, 0, 1];
 
-/// The key of the text x and node 3.
+/// The key of the string x and node 3.
 const LAST: [u8; 10] = [0x78, 0, 0, 0, 0, 0, 0, 0, 0, 3];
 
-/// Whether the next keys are right, and there is none after the last.
+/// Whether the next keys are right, and none follows the last.
 fn goes_on(volume: &Volume) -> bool {
     is_next(volume, "k", &FIRST, true, &LAST)
         && is_next(volume, "k", &LAST, true, &[])
@@ -215,7 +216,7 @@ fn plan_source(rt: HostRuntime) -> Result<(), Fail> {
     Ok(())
 }
 
-/// The text repeated 300 times. If memory runs out, it is made again.
+/// The text repeated 300 times. If memory runs out, it is built again.
 fn longer_than_keys(alloc: Global, text: &str) -> Result<String, Refusal> {
     match text.repeat(alloc, 300) {
         Err(_) => Ok(text.repeat(alloc, 300)?),
@@ -223,15 +224,15 @@ fn longer_than_keys(alloc: Global, text: &str) -> Result<String, Refusal> {
     }
 }
 
-/// Whether bytes below all keys come before the first one, bytes above all keys come after the
-/// last, and neither are a key.
+/// Whether bytes below all keys come before the first key, bytes above all keys come after the last
+/// key, and neither of them is a key.
 fn lie_between(volume: &Volume, below: &[u8], above: &[u8]) -> bool {
     is_next(volume, "k", below, false, &FIRST)
         && is_next(volume, "k", above, false, &[])
         && !has_key(volume, "k", below)
 }
 
-/// Bytes that are longer than any key come between keys.
+/// Bytes that are longer than any key fall between keys.
 #[test]
 fn long_bytes_are_no_key(rt: HostRuntime) -> Result<(), Fail> {
     let below = longer_than_keys(rt.alloc(), "\0")?;
@@ -249,7 +250,7 @@ fn numbered(alloc: Global, before: &str, i: u64, after: &str) -> Result<String, 
     }
 }
 
-/// Runs a number of requests, each with its number, which begins at 0.
+/// Runs a number of requests, each of which contains its number, counting from 0.
 fn runs_numbered(
     alloc: Global,
     volume: Volume,
@@ -264,7 +265,7 @@ fn runs_numbered(
     Ok(volume)
 }
 
-/// The maximum number of indices, and of a node's attributes.
+/// The maximum number of indices, and of attributes of a node.
 #[test]
 fn refusals(rt: HostRuntime) -> Result<(), Fail> {
     let volume = after(rt.alloc(), "new / mkindex r CSTR => node 1 / ok")?;

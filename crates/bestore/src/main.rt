@@ -1,14 +1,14 @@
-//! `bestore`: runs a script and writes the reply to each of its lines to standard output. It can
-//! also race scripts against each other, and write their replies and their journal, or run the
-//! lines of standard input as they come. It also checks a printed journal, and writes the script
-//! that makes it again, or only its last state.
+//! `bestore` runs a script and writes the reply to each of its lines to standard output. It can
+//! also race scripts against each other and write their replies and their journal, or run the lines
+//! of standard input as they arrive. It can check a printed journal, and write the script that
+//! rebuilds the journal or only its last state.
 //!
-//! The exit status is 0 if a run, a race or a shell reaches its end, for a right journal, and for
-//! help or the version. It is 2 for an invalid command line. It is 1, with one line on standard
-//! error, if the program stops early, as a strict run does at the first refused line. It is also 1
-//! if a journal is wrong; the first wrong line is then written to standard output. Replies go
-//! through a buffer, which is written before the program ends; a shell writes each reply
-//! immediately.
+//! The exit status is 0 if a run, a race or a shell reaches the end, if a journal is correct, and
+//! for help and the version. It is 2 if the command line is invalid. If the program stops early, as
+//! a strict run does at the first refused line, the status is 1, with one line on standard error.
+//! It is also 1 if a journal is wrong, in which case the first wrong line is written to standard
+//! output. Replies go through a buffer that is flushed before the program ends, except that a shell
+//! writes each reply immediately.
 #![tactic(auto)]
 
 ghost use Rattle.std.specs.Prelude.{◌≡◌, IfOk, IfSome};
@@ -34,7 +34,7 @@ use std::sync::Wait;
 use std::thread::Threads;
 use std::{env, fs, io};
 
-/// Writes one line to standard error, which says why.
+/// Writes one line to standard error that says what went wrong.
 fn fail(rt: &impl Eprint, why: &str) -> io::Result<Outcome>
     ensures { IfOk result (λ outcome. outcome ≡ Failed) }
 {
@@ -56,7 +56,7 @@ fn fail_to_write(rt: &impl Eprint, file: &str) -> io::Result<Outcome>
     Ok(Outcome::Failed)
 }
 
-/// Why a run or a race stopped.
+/// Returns the reason why a run or a race stopped.
 fn reason(fault: RunFault) -> &'static str {
     match fault {
         RunFault::Limits => "a limit is out of its range",
@@ -67,11 +67,11 @@ fn reason(fault: RunFault) -> &'static str {
     }
 }
 
-/// The file name that means standard input.
+/// The file name that stands for standard input.
 const STANDARD_INPUT: &str = "-";
 
-/// Flushes the buffer, however the work ended. If that fails, it is an error only if the work went
-/// well.
+/// Flushes the buffer, whether or not the work succeeded. A failed flush is reported as an error
+/// only if the work succeeded.
 fn finish<W: Write + Drop>(
     mut writer: BufWriter<W>,
     worked: Result<(), RunFault>,
@@ -90,7 +90,7 @@ enum Running {
     Reporting,
     /// The run ends at the first line that is refused.
     Strictly,
-    /// Both: the run ends there, and the journal is written.
+    /// The run ends at the first line that is refused, and the journal is written.
     StrictlyReporting,
 }
 
@@ -109,7 +109,7 @@ fn run_strictly_into<I: Read, W: Write>(
     Ok(refused)
 }
 
-/// The outcome of a strict run. If a line was refused, standard error says which.
+/// Returns the outcome of a strict run. If a line was refused, it is reported on standard error.
 fn end_strictly(
     rt: &impl Eprint,
     file: &str,
@@ -145,7 +145,7 @@ fn run_strictly_from<R: Runtime + AllocGlobal, I: Read>(
     }
 }
 
-/// Runs a script from a reader to its end, and writes its journal if the task says so.
+/// Runs a script from a reader to its end, and writes its journal if `reports` is set.
 fn run_whole_from<R: Runtime + AllocGlobal, I: Read>(
     rt: &R,
     file: &str,
@@ -244,8 +244,8 @@ fn race_files<R: Runtime + AllocGlobal + Threads + Wait + Sync>(
     }
 }
 
-/// Writes a journal and its check into a file. If writing fails, the file has only the first part
-/// of them.
+/// Writes a journal and the result of its check to a file. If writing fails, the file has only the
+/// first part of them.
 fn write_journal<R: Runtime + AllocGlobal>(
     rt: &R,
     file: &str,
@@ -268,7 +268,7 @@ fn write_journal<R: Runtime + AllocGlobal>(
     }
 }
 
-/// Why a file wasn't opened for a journal.
+/// The reason why a file wasn't opened for a journal.
 enum Unopened {
     Unwritable,
     /// The file isn't empty.
@@ -299,8 +299,8 @@ struct Sides {
     is_shown: bool,
 }
 
-/// Greets and talks to a terminal, once the first peer has no more lines. If replies go to a
-/// terminal too, control characters are shown as codes.
+/// Greets and talks to a terminal once the first peer has no more lines. If replies also go to a
+/// terminal, control characters are shown as codes.
 fn talk_at_terminal<R: Runtime + AllocGlobal, F: Peer, I: Read + Drop>(
     rt: &R,
     first: &mut F,
@@ -324,7 +324,7 @@ fn talk_at_terminal<R: Runtime + AllocGlobal, F: Peer, I: Read + Drop>(
     }
 }
 
-/// Talks to standard input, once the first peer has no more lines. At a terminal it greets and
+/// Talks to standard input once the first peer has no more lines. At a terminal, also greets and
 /// prompts.
 fn talk<R: Runtime + AllocGlobal, F: Peer>(
     rt: &R,
@@ -344,7 +344,7 @@ fn talk<R: Runtime + AllocGlobal, F: Peer>(
     Ok(shell_and_close(rt.alloc(), first, &mut ends, limits))
 }
 
-/// The program's outcome after a conversation that ended like this.
+/// Returns the outcome of the program after a conversation that ended like this.
 fn end_talk(rt: &impl Eprint, talked: Result<(), RunFault>) -> io::Result<Outcome> {
     match talked {
         Ok(()) => Ok(Outcome::Done),
@@ -353,8 +353,8 @@ fn end_talk(rt: &impl Eprint, talked: Result<(), RunFault>) -> io::Result<Outcom
     }
 }
 
-/// Holds the conversation, and at its end writes the journal into a file, however it ended. If both
-/// fail, it reports the conversation's error.
+/// Holds the conversation, and then writes the journal to a file, however the conversation ended.
+/// If both fail, the error of the conversation is reported.
 fn talk_for_journal<R: Runtime + AllocGlobal, F: Peer>(
     rt: &R,
     first: &mut F,
@@ -433,7 +433,7 @@ fn read_whole<R: Runtime + AllocGlobal>(rt: &R, file: &str) -> io::Result<Vec<u8
     Ok(text)
 }
 
-/// Reports why a file couldn't be read whole.
+/// Reports why a file couldn't be read completely.
 fn fail_whole(rt: &impl Eprint, file: &str, error: &io::Error) -> io::Result<Outcome> {
     if matches!(error.kind(), io::ErrorKind::OutOfMemory) {
         return fail(rt, reason(RunFault::Memory));
@@ -457,7 +457,7 @@ fn print_text<R: Runtime>(rt: &R, text: &str, outcome: Outcome) -> io::Result<Ou
     }
 }
 
-/// Prints a check's finding, and reports the number of entries on standard error.
+/// Prints the finding of a check, and reports the number of entries on standard error.
 fn print_finding<R: Runtime>(
     rt: &R,
     text: &str,
@@ -472,7 +472,7 @@ fn print_finding<R: Runtime>(
     Ok(outcome)
 }
 
-/// Checks the journal in a text, and prints that it is right, or the first line that isn't.
+/// Checks the journal in a text, and prints either that it is correct or the first line that isn't.
 fn check_text<R: Runtime + AllocGlobal>(rt: &R, file: &str, text: &[u8]) -> io::Result<Outcome> {
     match check(rt.alloc(), text) {
         Ok(Finding::Right(count)) => print_finding(rt, "replay ok\n", count, Outcome::Done),
@@ -484,7 +484,7 @@ fn check_text<R: Runtime + AllocGlobal>(rt: &R, file: &str, text: &[u8]) -> io::
     }
 }
 
-/// Prints the script that makes the writes of the journal in a text again.
+/// Prints the script that makes the same writes as the journal in a text.
 fn dump_text<R: Runtime + AllocGlobal>(rt: &R, file: &str, text: &[u8]) -> io::Result<Outcome> {
     let entries = match reported_journal(rt.alloc(), text) {
         Ok(Some(entries)) => entries,
@@ -497,7 +497,7 @@ fn dump_text<R: Runtime + AllocGlobal>(rt: &R, file: &str, text: &[u8]) -> io::R
     }
 }
 
-/// Prints the script that makes the last state of the journal in a text.
+/// Prints the script that rebuilds the last state of the journal in a text.
 fn dump_state_of_text<R: Runtime + AllocGlobal>(
     rt: &R,
     file: &str,
@@ -574,7 +574,8 @@ fn report<R: Print + Eprint>(rt: &R, error: &Error) -> io::Result<Outcome> {
     }
 }
 
-/// Parses the command line and performs its task. If memory runs out, it says so on standard error.
+/// Parses the command line and performs its task. If memory runs out, this is reported on standard
+/// error.
 fn obey<R: Runtime + AllocGlobal + Threads + Wait + Sync>(
     rt: &R,
     given: &[String],
@@ -598,7 +599,7 @@ fn read_words(rt: &HostRuntime) -> io::Result<Vec<String>> {
     Ok(env::args(rt)?.collect(rt.alloc())?)
 }
 
-/// Runs the program and returns its status.
+/// Runs the program and returns its exit status.
 fn main(rt: HostRuntime) -> io::Result<ExitCode> {
     let outcome = match read_words(&rt) {
         Ok(given) => {

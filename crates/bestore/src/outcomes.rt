@@ -1,4 +1,4 @@
-//! How the program can end, and its exit status for each outcome, as in the table of bestore(1).
+//! How the program can end, with the exit status of each outcome, as in the table in bestore(1).
 ghost use Rattle.std.specs.Prelude.{◌≡◌};
 ghost use Rattle.std.specs.Process.{exit_status};
 ghost use Rattle.bestore.specs.Statuses.{status_of};
@@ -8,20 +8,21 @@ use std::process::ExitCode;
 #[derive(Clone, Copy)]
 pub(crate) enum Outcome {
     /// The command reached the end of its input, whatever the replies were, or a strict run reached
-    /// it without a refused line. Or a journal was right, or help or the version was printed.
+    /// the end without a refused line, or a journal was correct, or help or the version was
+    /// printed.
     Done,
     /// A strict run ended at a refused line.
     Refused,
     /// A journal is wrong.
     Wrong,
-    /// Something couldn't be read or written, has no journal, or is too long, or memory ran out.
-    /// One line on standard error says which it was.
+    /// Something couldn't be read or written, or has no journal, or is too long, or memory ran out.
+    /// One line on standard error says which.
     Failed,
-    /// The command line is invalid, or a word of it isn't valid UTF-8.
+    /// The command line is invalid, or one of its words isn't valid UTF-8.
     Misused,
 }
 
-/// The exit status of an outcome.
+/// Returns the exit status of an outcome.
 pub(crate) fn status_of(outcome: Outcome) -> ExitCode
     ensures { exit_status result ≡ status_of outcome }
 {

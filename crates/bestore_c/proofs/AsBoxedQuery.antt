@@ -1,4 +1,4 @@
--- As `AsBox`, for what a prepared query's handle owns. Assumes `Logic`.
+-- Like `AsBox`, for what the handle of a prepared query owns. Assumes `Logic`.
 use Rattle.std.proofs.Common.{◌≡◌, refl}
 use mathlib.Core.List.{List, [], ◌∷◌}
 use mathlib.Core.Bool.{true}
@@ -38,7 +38,7 @@ FromOwned = plain (λ _. owned.the_row)
 abbrev pub boxed : OwnedQuery → X E → D E
 boxed h x = record { ptr = h.at; alloc = h.alloc; value = x }
 
--- an owner with a value owns a box of it
+-- An owner with a value owns a box of the value.
 pub opened : {M : Type 1} {𝓤 : Ura M} (𝓛 : Logic 𝓤) (h : OwnedQuery) (vs : List Val) → is_some h.value ≡ true
     → ent 𝓤 (sem 𝓛 ((owned.the_row).own_val h vs)) (ex 𝓤 (λ (x : X E). guard 𝓤 (h.value ≡ Some x) (sem 𝓛 ((B E).own_val (boxed h x) vs))))
 opened {𝓤 = 𝓤} 𝓛 h vs full = opened_at h.value full

@@ -5,18 +5,18 @@ use Rattle.be_session.specs.Sitting.{Sitting}
 use Rattle.bestore_c.specs.Calls.{Calls}
 use Rattle.std.specs.Prelude.{is_some}
 
--- the call leaves the session as it was
+-- The call leaves the session unchanged.
 pub stays : (p : Option Sitting) (closed : Type 0) (does : Sitting → Sitting → Type 0) → is_some p ≡ true → ((s : Sitting) → does s s) → Calls p p closed does
 stays None closed does full all = absurd (false≢true full)
 stays (Some s) closed does full all = (refl, refl, all s)
 
--- if reading the arguments fails before the session is called: the handle is closed, or the session stays as it was
+-- Reading the arguments fails before the session is called. Either the handle is closed, or the session is unchanged.
 pub unasked : (p : Option Sitting) (live : Bool) (closed : Type 0) (does : Sitting → Sitting → Type 0) → live ≡ is_some p
     → (live ≡ false → closed) → (live ≡ true → (s : Sitting) → does s s) → Calls p p closed does
 unasked None live closed does full shut all = shut full
 unasked (Some s) live closed does full shut all = (refl, refl, all full s)
 
--- the call leaves another session of the same store
+-- The call leaves another session of the same store.
 pub called : (p q : Option Sitting) (s t : Sitting) (closed : Type 0) (does : Sitting → Sitting → Type 0) → p ≡ Some s → q ≡ Some t → t.store ≡ s.store
     → t.spare ≡ s.spare
     → does s t → Calls p q closed does

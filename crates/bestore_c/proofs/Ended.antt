@@ -15,7 +15,7 @@ use Rattle.be_table.specs.declared.pass.Knowledge.{Knowledge}
 use Rattle.bestore_c.specs.Finishing.{IsEnd}
 use Rattle.bestore_c.specs.Places.{over}
 
--- the journal begins with what each of the passes has seen
+-- The journal begins with what each of the passes has seen.
 pub starts_seen : (log : List Entry) (first : List Knowledge) (a : Knowledge) (rest : List Knowledge) → KeepsSeen log (first ++ a ∷ rest) → StartsWith log (entries a.seen)
 starts_seen log [] a rest h = h.0
 starts_seen log (b ∷ first) a rest h = starts_seen log first a rest h.2
@@ -26,18 +26,18 @@ none_of (x ∷ xs) h =
     let no : ⊥ = omega (arith, h) in
     absurd no
 
--- a list that begins with another of the same length is equal to it
+-- A list that begins with another list of the same length is equal to it.
 pub is_all : {A : Type 0} (xs ys : List A) → StartsWith ys xs → length ys ≡ length xs → ys ≡ xs
 is_all xs ys more long =
     let none : length more.0 ≡ 0 = omega (arith, ap length more.1, length-append xs more.0, long) in
     more.1 ∙ (ap (λ l. xs ++ l) (none_of more.0 none) ∙ append-nil xs)
 
--- if the journal has as many entries as the closing session has seen, it has exactly these
+-- If the journal has as many entries as the closing session has seen, it has exactly these entries.
 pub all_was_seen : (limits : Limits) (a : Knowledge) (log : Log) → IsFinishedBy limits a log → length log.entries ≡ length a.seen → log.entries ≡ entries a.seen
 all_was_seen limits a log f long =
     is_all (entries a.seen) log.entries (starts_seen log.entries f.0 a f.1 f.2.seen) (long ∙ sym (length-map a.seen (λ (c : Commit). c.entry)))
 
--- so the text of what that session has seen is the journal's
+-- In this case, the text of what that session has seen is the text of the journal.
 pub ended : (limits : Limits) (a : Knowledge) (log : Log) (text places filled : List ℕ) (count : ℕ) → IsFinishedBy limits a log → length log.entries ≡ length a.seen
     → text ≡ text_seen a → length text ≤ length places → count ≡ length text → filled ≡ over text places → IsEnd limits a places filled count 0
 ended limits a log text places filled count f long is fits counted put =

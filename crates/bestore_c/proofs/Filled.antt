@@ -4,7 +4,7 @@ use Rattle.std.proofs.lemmas.List.{drop_min, length-map, take_min, take-append-d
 use Rattle.bestore_c.specs.Places.{over}
 
 module _ {X : Type 0} (number : X → ℕ) (xs : List X) where
-  -- every place that has a number holds it
+  -- Every place for which there is a number holds the number.
   pub filled_all : (was is : List ℕ) (n : ℕ) → n ≡ min (length xs) (length was) → take n is ≡ map number (take n xs) → drop n is ≡ drop n was
       → is ≡ over (map number xs) was
   filled_all was is n count first rest =

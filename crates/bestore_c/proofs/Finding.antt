@@ -1,4 +1,4 @@
--- How C gets a query's answer.
+-- How C gets the answer of a query.
 use Rattle.std.proofs.Common.{◌≡◌, ◌⊎◌, ℕ, List, length, Option, Some, None, Result, Ok, Err, inl, inr, ap, sym, subst}
 use Rattle.be_session.specs.Sitting.{AtPin, ReadAnswers}
 use Rattle.be_session.specs.declared.faults.Fault.{Fault}
@@ -8,7 +8,7 @@ use Rattle.be_value.specs.declared.refusals.Refusal.TheVariants.{OutOfMemory}
 use Rattle.bestore_c.specs.Calls.{PutsOutAtPin, PutsOutAnswer, Refuses}
 use Rattle.bestore_c.specs.Places.{over}
 
--- the call returned an answer
+-- The call returned an answer.
 pub found_nodes : {X : Type 0} (view : X → List ℕ) (pin : Option ℕ) (x : X) (meant : Result (List ℕ) Refusal) (places filled : List ℕ) (count code : ℕ)
     → AtPin pin (Ok x) (ReadAnswers view (Ok x) meant) → code ≡ 0 → count ≡ length (view x) → filled ≡ over (view x) places
     → PutsOutAtPin pin meant places filled count code
@@ -16,12 +16,12 @@ found_nodes view None x meant places filled count code pinned done counted put =
 found_nodes view (Some n) x meant places filled count code pinned done counted put =
     inr (subst (λ m. PutsOutAnswer m places filled count code) (sym pinned) (done, counted, put))
 
--- the result's error, if it has one
+-- The error of the result, if it has one.
 abbrev pub fault_in : {X : Type 0} → Result X Fault → Fault
 fault_in (Ok x) = NotPinned
 fault_in (Err e) = e
 
--- the call returned an error
+-- The call returned an error.
 pub found_fault : {X : Type 0} (view : X → List ℕ) (pin : Option ℕ) (e : Fault) (meant : Result (List ℕ) Refusal) (places filled : List ℕ) (count code : ℕ)
     → AtPin {X = X} pin (Err e) (ReadAnswers view (Err e) meant) → Refuses e count code
     → PutsOutAtPin pin meant places filled count code
@@ -36,7 +36,7 @@ found_fault {X} view (Some n) e meant places filled count code pinned is =
       | inr reported ↦ inr (subst (λ m. PutsOutAnswer m places filled count code) (sym reported) refused)
     ]
 
--- the same for a result that is known to be an answer
+-- The call returned a result that is known to be an answer.
 pub found_ok : {X : Type 0} (view : X → List ℕ) (pin : Option ℕ) (answer : Result X Fault) (x : X) (meant : Result (List ℕ) Refusal) (places filled : List ℕ)
     (count code : ℕ)
     → answer ≡ Ok x → AtPin pin answer (ReadAnswers view answer meant) → code ≡ 0 → count ≡ length (view x) → filled ≡ over (view x) places

@@ -1,4 +1,4 @@
--- The journal's entry with an index is the first of those from that index on.
+-- The journal entry at an index is the first of the entries from that index on.
 use Rattle.std.proofs.Common.{◌≡◌, ◌<◌, ◌≤◌, ◌+◌, ℕ, inl, inr, List, length, take, drop, get_or, Some, sym, ap, ◌∙◌, arith, length-drop}
 use Rattle.std.specs.Prelude.{slice_get}
 use Rattle.std.proofs.lemmas.List.{get_or-drop, get_or-take, length-take}

@@ -14,14 +14,14 @@ use Rattle.bestore_c.specs.Calls.{IsPutOut, Listed}
 use Rattle.bestore_c.specs.Places.{over}
 use Rattle.bestore_c.specs.declared.handle.Counts.{Counts}
 
--- what holds for a result that is an answer holds for that answer
+-- What holds for a result that is an answer holds for that answer.
 pub at_ok : {X E : Type 0} (P : X → Type 0) (r : Result X E) (x : X) → r ≡ Ok x → IfOk r P → P x
 at_ok P r x is all = subst (λ a. IfOk a P) is all
 
 pub at_err : {X E : Type 0} (P : E → Type 0) (r : Result X E) (e : E) → r ≡ Err e → IfErr r P → P e
 at_err P r e is all = subst (λ a. IfErr a P) is all
 
--- encoded operations that a call wrote for C
+-- Encoded operations that a call wrote for C.
 pub put_out : (ops : List Op) (counts : Counts) (places filled : List Operation) (byte_places bytes : List ℕ) (code : ℕ) (os : List Operation) (bs : List ℕ)
     → AreEncoded os bs ops → code ≡ 0 → counts.operations ≡ length os → filled ≡ over os places → counts.bytes ≡ length bs → bytes ≡ over bs byte_places
     → IsPutOut ops counts places filled byte_places bytes code
@@ -31,7 +31,7 @@ module _ {A X : Type 0} (makes : A → Op) (view : X → List A) (counts : Count
   abbrev pub Reported : Option ℕ → Result (List A) Refusal → Type 0
   Reported pin meant = Listed makes pin meant counts places filled byte_places bytes code
 
-  -- memory ran out
+  -- Memory ran out.
   spent : (n : ℕ) (meant : Result (List A) Refusal) → code ≡ 10 → Reported (Some n) meant
   spent n (Ok list) ten = inl ten
   spent n (Err why) ten = inl ten
@@ -52,7 +52,7 @@ module _ {A X : Type 0} (makes : A → Op) (view : X → List A) (counts : Count
         | inr reported ↦ subst (λ m. Reported (Some n) m) (sym reported) (inr coded)
       ]
 
-  -- the same for a result that is known to be an answer
+  -- The call returned a result that is known to be a list.
   pub listed_ok : (pin : Option ℕ) (answer : Result X Fault) (x : X) (meant : Result (List A) Refusal) (list : List A) → answer ≡ Ok x
       → AtPin pin answer (ReadAnswers view answer meant) → list ≡ view x → IsPutOut (map makes list) counts places filled byte_places bytes code → Reported pin meant
   listed_ok pin answer x meant list is pinned same out =

@@ -1,4 +1,4 @@
--- What C's pointer to a box owns may go to another thread, if the box's value may.
+-- What C's pointer to a box owns can be sent to another thread if the value in the box can.
 use Rattle.std.proofs.Common.{Option, Some, None}
 use base.Fraction.{full_share}
 use base.Shift.{Keyless}
@@ -28,7 +28,7 @@ lies R s null_ptr x = tt
 frees : Frees ghosts ghosts.dealloc_token
 frees = search (sendable, crosses) depth 20
 
--- it owns nothing, or a box
+-- The pointer owns either nothing or a box.
 pub goes : (R : RattleType) → IsSend R → (a : Global) (p : Ptr) (o : Option R.Denot) → Keyless (may_own (ghosts.dealloc_token a) R p o)
 goes R s a p None = tt
 goes R s a p (Some x) = (lies R s p x, frees.frees a (raw (lone R.mir)) p)

@@ -20,12 +20,12 @@ use Rattle.bestore_c.specs.Places.{over}
 use Rattle.bestore_c.specs.States.{RemainsToReport, ReportsNext, ReportsState, unreported_at}
 use Rattle.bestore_c.specs.declared.handle.Counts.{Counts}
 
--- a new place has the operations left that its closed handle had
+-- A new place has the same operations left as its closed handle had.
 pub begun : (volume : State) (o : Option StatePlace) (p : StatePlace) → is_some o ≡ false → unreported volume p ≡ state_ops volume → unreported volume p ≡ unreported_at volume o
 begun volume None p closed is = is
 begun volume (Some q) p closed is = absurd (true≢false closed)
 
--- if the list is empty, so is the rest
+-- If the list is empty, so is the rest.
 none_left : (ops rest : List Op) → (ops ≡ [] → ops ++ rest ≡ []) → ops ≡ [] → rest ≡ []
 none_left ops rest ends none = subst (λ (xs : List Op). xs ++ rest ≡ []) none (ends none)
 
@@ -51,7 +51,7 @@ stays ops rest still counts places byte_places os bs many size beyond =
       | inr lacks ↦ inr (short places byte_places counts os bs many size lacks.0, ap (λ (ws : List Op). ws ++ rest) lacks.1)
     ]
 
--- the call returned what was ready
+-- The call returned what was ready.
 pub reported_ready : (volume : State) (p q : StatePlace) (counts : Counts) (places filled : List Operation) (byte_places bytes : List ℕ) (code : ℕ)
     (os : List Operation) (bs : List ℕ)
     → length (waiting p) ≤ 64 → (waiting p ≡ [] → unreported volume p ≡ []) → unread volume q ≡ unread volume p → AreEncoded os bs (waiting p)
@@ -72,7 +72,7 @@ reported_ready volume p q counts places filled byte_places bytes code os bs few 
           (stays ops rest (waiting q) counts places byte_places os bs many size beyond),
     )
 
--- memory ran out, and the call returned nothing
+-- Memory ran out, and the call returned nothing.
 pub reported_none : (volume : State) (p q : StatePlace) (counts : Counts) (places filled : List Operation) (byte_places bytes : List ℕ) (code : ℕ) (e : Fault)
     → code ≡ fault_code e → e ≡ Refused OutOfMemory → unread volume q ≡ unread volume p → waiting q ≡ waiting p
     → ReportsNext (unreported volume p) (unreported volume q) counts places filled byte_places bytes code
@@ -80,19 +80,19 @@ reported_none volume p q counts places filled byte_places bytes code e is none s
     inl (is ∙ ap fault_code none, ap (λ (ws : List Op). ws ++ unread volume q) waits ∙ ap (λ later. waiting p ++ later) same)
 
 module _ (before mid still : List Op) (counts : Counts) (places filled : List Operation) (byte_places bytes : List ℕ) (code : ℕ) where
-  -- the call returned the next list, at a pin
+  -- The call returned the next list, at a pin.
   pub state_reported : {X : Type 0} (pin : Option ℕ) (x : X) (meant : Type 0) → AtPin {X = X} pin (Ok x) meant → mid ≡ before
       → ReportsNext mid still counts places filled byte_places bytes code → ReportsState pin before still counts places filled byte_places bytes code
   state_reported None x meant pinned same reported = cc
   state_reported (Some n) x meant pinned same reported = subst (λ l. ReportsNext l still counts places filled byte_places bytes code) same reported
 
-  -- there was no pin, or memory ran out
+  -- There was no pin, or memory ran out.
   pub state_unreported : (X : Type 0) (pin : Option ℕ) (e : Fault) → AtPin {X = X} pin (Err e) (e ≡ Refused OutOfMemory) → still ≡ before → code ≡ fault_code e
       → ReportsState pin before still counts places filled byte_places bytes code
   state_unreported X None e pinned same is = (inl (is ∙ ap (λ (r : Result X Fault). fault_code (fault_in r)) pinned), same)
   state_unreported X (Some n) e pinned same is = inl (is ∙ ap fault_code pinned, same)
 
-  -- memory ran out for the place itself
+  -- Memory ran out for the place itself.
   pub state_spent : (pin : Option ℕ) → still ≡ before → code ≡ 10 → ReportsState pin before still counts places filled byte_places bytes code
   state_spent None same ten = (inr ten, same)
   state_spent (Some n) same ten = inl (ten, same)

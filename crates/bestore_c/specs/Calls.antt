@@ -44,31 +44,31 @@ use Rattle.bestore_c.specs.declared.handle.Attribute.{Attribute}
 use Rattle.bestore_c.specs.declared.handle.Counts.{Counts}
 use Rattle.bestore_c.specs.declared.handle.UpdateCounts.{UpdateCounts}
 
--- A call on a closed handle leaves it closed and returns the code for that. A call on an open
--- handle leaves it open, with a session of the same store and as many waiting passes. `does` says
--- what the call does to the session.
+-- A call on a closed handle leaves it closed and returns the code for a closed handle. A call on an
+-- open handle leaves it open, with a session of the same store and with the same number of waiting
+-- passes. `does` says what the call does to the session.
 abbrev pub Calls : Option Sitting → Option Sitting → Type 0 → (Sitting → Sitting → Type 0) → Type 0
 Calls None None closed does = closed
 Calls None (Some t) closed does = ⊥
 Calls (Some s) None closed does = ⊥
 Calls (Some s) (Some t) closed does = (t.store ≡ s.store) × (t.spare ≡ s.spare) × does s t
 
--- on a closed handle a call returns the code 64 and the number 0
+-- A call on a closed handle returns the code 64 and the number 0.
 abbrev pub IsClosed : ℕ → ℕ → Type 0
 IsClosed number code = (code ≡ 64) × (number ≡ 0)
 
--- the call returns an error's code, and the number that the error carries
+-- The call returns the code of an error and the number that the error carries.
 abbrev pub Refuses : Fault → ℕ → ℕ → Type 0
 Refuses e number code = (code ≡ fault_code e) × (number ≡ fault_carried e)
 
--- 64 for a closed handle, and 0 for an open one
+-- The call returns 64 for a closed handle, and 0 for an open one.
 abbrev pub AnswersWhetherOpen : {A : Type 0} → Option A → ℕ → Type 0
 AnswersWhetherOpen None code = code ≡ 64
 AnswersWhetherOpen (Some s) code = code ≡ 0
 
--- Opening: an open handle stays as it was, and the call returns 65. A closed one gets a session
--- that has just opened a store with these limits. It stays closed if the store refuses the limits
--- or if memory runs out; then the call returns the error's number.
+-- Opening a store. If the handle is open, it is unchanged, and the call returns 65. A closed handle
+-- gets a session that has just opened a store with these limits. It stays closed if the store
+-- refuses the limits or if memory runs out, in which case the call returns the number of the error.
 abbrev pub Opens : Limits → Option Sitting → Option Sitting → ℕ → Type 0
 Opens limits (Some s) (Some t) code = (code ≡ 65) × (t ≡ s)
 Opens limits (Some s) None code = ⊥
@@ -76,9 +76,10 @@ Opens limits None (Some t) code = (code ≡ 0) × IsOpened limits t
 Opens limits None None code = ((code ≡ 10) × IsWithin limits)
     ⊎ ((why : Refusal) × (code ≡ refusal_number why) × IsOpenRefused limits why)
 
--- Making a second handle: an open one stays as it was, and the call returns 65. A closed one gets a
--- session of the same store, with no waiting pass, whose pass was handed out and has met the first
--- handle's. The call returns 68 if no pass waits, and 10 if memory runs out.
+-- Making a second handle. If that handle is open, it is unchanged, and the call returns 65. A
+-- closed handle gets a session of the same store, with no waiting passes, whose pass was handed out
+-- and has met the pass of the first handle. The call returns 68 if no pass waits, and 10 if memory
+-- runs out.
 abbrev pub OpensSecond : Sitting → Sitting → Option Sitting → Option Sitting → ℕ → Type 0
 OpensSecond s t (Some o) (Some p) code = (code ≡ 65) × (p ≡ o) × (t ≡ s)
 OpensSecond s t (Some o) None code = ⊥
@@ -86,8 +87,8 @@ OpensSecond s t None (Some p) code = (code ≡ 0) × (p.store ≡ s.store) × (p
     × IsHandedOut s t p.knows
 OpensSecond s t None None code = (t ≡ s) × ((code ≡ 10) ⊎ ((code ≡ 68) × (s.spare ≡ 0)))
 
--- The same, if the first handle may be closed: then both stay as they were, and the call returns
--- 64.
+-- Making a second handle when the first one may be closed. In that case both are unchanged, and the
+-- call returns 64.
 abbrev pub GivesAnother : Option Sitting → Option Sitting → Option Sitting → Option Sitting → ℕ
     → Type 0
 GivesAnother None None o p code = (code ≡ 64) × (p ≡ o)
@@ -95,7 +96,7 @@ GivesAnother None (Some t) o p code = ⊥
 GivesAnother (Some s) None o p code = ⊥
 GivesAnother (Some s) (Some t) o p code = (t.store ≡ s.store) × OpensSecond s t o p code
 
--- Moving a handle: its content goes to a closed handle, and it is closed itself. The call returns
+-- Moving a handle. Its content goes to a closed handle, and it is closed itself. The call returns
 -- 65 if the other handle is open, and 64 if this one is closed.
 abbrev pub MovesHandle : {A : Type 0} → Option A → Option A → Option A → Option A → ℕ → Type 0
 MovesHandle None o from to code = (code ≡ 64) × (from ≡ None) × (to ≡ o)
@@ -103,9 +104,9 @@ MovesHandle (Some s) (Some o) from to code = (code ≡ 65) × (from ≡ Some s) 
 MovesHandle (Some s) None from to code = (code ≡ 0) × (from ≡ None) × (to ≡ Some s)
 
 -- A write of encoded operations. If one of them is invalid, nothing happens, and the number is its
--- index in the list. Otherwise they encode operations. If the store accepts these, the call returns
--- the numbers of new nodes, and the number is the journal's length. If it doesn't, the number is
--- what the error carries.
+-- index in the list. Otherwise they encode a list of operations. If the store accepts these, the
+-- call returns the numbers of new nodes, and the number is the journal's length. If the store
+-- refuses them, the number is what the error carries.
 abbrev pub WritesEncoded : Sitting → Sitting → List Operation → List ℕ → List ℕ → List ℕ → ℕ → ℕ
     → Type 0
 WritesEncoded s t encoded bytes places filled number code =
@@ -115,9 +116,9 @@ WritesEncoded s t encoded bytes places filled number code =
     × (filled ≡ over (map node_of dones) places))
     ⊎ ((e : Fault) × Refuses e number code × IsUnwritten s.knows t.knows ops e)))
 
--- A conditional write of encoded operations. If one of them is invalid, nothing happens. Otherwise
--- the store accepts them on a journal of `expected` entries, and the number is the journal's
--- length; or it writes nothing, and the number is what the error carries.
+-- A conditional write of encoded operations. If one of them is invalid, nothing happens. Otherwise,
+-- either the store accepts them on a journal with `expected` entries and the number is the
+-- journal's length, or the store writes nothing and the number is what the error carries.
 abbrev pub WritesEncodedIf : Sitting → Sitting → ℕ → List Operation → List ℕ → List ℕ → List ℕ → ℕ
     → ℕ → Type 0
 WritesEncodedIf s t expected encoded bytes places filled number code =
@@ -127,26 +128,27 @@ WritesEncodedIf s t expected encoded bytes places filled number code =
     × (filled ≡ over (map node_of dones) places))
     ⊎ ((e : Fault) × Refuses e number code × IsUnwrittenIf s.knows t.knows expected ops e)))
 
--- a number that is read from the pinned version; without a pin, NotPinned
+-- A number that is read from the pinned version, or NotPinned if there is no pin.
 abbrev pub ReportsNumber : Option ℕ → ℕ → ℕ → ℕ → Type 0
 ReportsNumber None meant number code = Refuses NotPinned number code
 ReportsNumber (Some n) meant number code = (code ≡ 0) × (number ≡ meant)
 
--- A version's answer, a list of nodes or of a text's bytes: its length, and as many items as there
--- are places. Or an error, with what it carries.
+-- An answer of a version, which is a list of nodes or of the bytes of a text. The call returns its
+-- length and as many items as fit, or an error with what it carries.
 abbrev pub PutsOutAnswer : Result (List ℕ) Refusal → List ℕ → List ℕ → ℕ → ℕ → Type 0
 PutsOutAnswer (Ok nodes) places filled count code = (code ≡ 0) × (count ≡ length nodes)
     × (filled ≡ over nodes places)
 PutsOutAnswer (Err why) places filled count code = Refuses (Refused why) count code
 
--- the pinned version's answer; without a pin, NotPinned; 10 if memory runs out
+-- An answer of the pinned version. Without a pin, the error is NotPinned, and if memory runs out,
+-- it is 10.
 abbrev pub PutsOutAtPin : Option ℕ → Result (List ℕ) Refusal → List ℕ → List ℕ → ℕ → ℕ → Type 0
 PutsOutAtPin None answer places filled count code = Refuses NotPinned count code
 PutsOutAtPin (Some n) answer places filled count code = Refuses (Refused OutOfMemory) count code
     ⊎ PutsOutAnswer answer places filled count code
 
--- A query by its text. If the bytes aren't a query, nothing happens; otherwise the call returns the
--- query's answer.
+-- Running a query that is given by its text. If the bytes aren't a query, nothing happens.
+-- Otherwise the call returns the answer of the query.
 abbrev pub Finds : Sitting → Sitting → List ℕ → List ℕ → List ℕ → ℕ → ℕ → Type 0
 Finds s t text places filled count code =
     ((e : Fault) × Refuses e count code × IsNoQuery text e × (t ≡ s))
@@ -154,8 +156,8 @@ Finds s t text places filled count code =
     × PutsOutAtPin (pinned_number s.knows.phase) (scan (volume_pinned s.knows) query) places filled
     count code)
 
--- The indices that would answer a query, by its text. If the bytes aren't a query, nothing happens;
--- otherwise the call returns the text that describes these indices.
+-- Explaining a query that is given by its text. If the bytes aren't a query, nothing happens.
+-- Otherwise the call returns the text that describes which indices would be used.
 abbrev pub Explains : Sitting → Sitting → List ℕ → List ℕ → List ℕ → ℕ → ℕ → Type 0
 Explains s t text places filled count code =
     ((e : Fault) × Refuses e count code × IsNoQuery text e × (t ≡ s))
@@ -163,8 +165,8 @@ Explains s t text places filled count code =
     × PutsOutAtPin (pinned_number s.knows.phase) (explanation_in (volume_pinned s.knows) query)
     places filled count code)
 
--- A query by its items. If they build no query, nothing happens; otherwise the call returns the
--- query's answer.
+-- Running a query that is given by its items. If they build no query, nothing happens. Otherwise
+-- the call returns the answer of the query.
 abbrev pub FindsBuilt : Sitting → Sitting → List PredicateItem → List ℕ → List ℕ → List ℕ → ℕ → ℕ
     → Type 0
 FindsBuilt s t encoded bytes places filled count code =
@@ -173,21 +175,22 @@ FindsBuilt s t encoded bytes places filled count code =
     × PutsOutAtPin (pinned_number s.knows.phase) (scan (volume_pinned s.knows) query) places filled
     count code)
 
--- a value's type code, number and length, and as many of its bytes as there are places
+-- The type code, number and length of a value, and as many of its bytes as fit.
 abbrev pub ShowsValue : Value → Attribute → List ℕ → List ℕ → Type 0
 ShowsValue value reported places filled =
     (bytes : List ℕ) × IsValueMeant reported.code reported.number bytes value
     × HasNoMore reported.number bytes value
     × (reported.length ≡ length bytes) × (filled ≡ over bytes places)
 
--- the attribute in the pinned version; 66 without a pin, and 3 if there is no such attribute
+-- The attribute in the pinned version. The call returns 66 if there is no pin, and 3 if there is no
+-- such attribute.
 abbrev pub Shown : Option ℕ → Option Value → Attribute → List ℕ → List ℕ → ℕ → Type 0
 Shown None found reported places filled code = code ≡ 66
 Shown (Some n) None reported places filled code = code ≡ 3
 Shown (Some n) (Some value) reported places filled code = (code ≡ 0)
     × ShowsValue value reported places filled
 
--- A read of an attribute. If the bytes aren't a valid name, nothing happens; otherwise the call
+-- Reading an attribute. If the bytes aren't a valid name, nothing happens. Otherwise the call
 -- returns the attribute.
 abbrev pub Reads : Sitting → Sitting → ℕ → List ℕ → Attribute → List ℕ → List ℕ → ℕ → Type 0
 Reads s t node name reported places filled code =
@@ -196,20 +199,20 @@ Reads s t node name reported places filled code =
     × Shown (pinned_number s.knows.phase) (attribute (volume_pinned s.knows) node name) reported
     places filled code)
 
--- the same for a name that was checked before
+-- Reading an attribute, given a name that was checked before.
 abbrev pub ReadsHeld : Sitting → Sitting → ℕ → List ℕ → Attribute → List ℕ → List ℕ → ℕ → Type 0
 ReadsHeld s t node name reported places filled code =
     HasRead s.knows t.knows × Shown (pinned_number s.knows.phase)
     (attribute (volume_pinned s.knows) node name) reported places filled code
 
--- A call checks a name and keeps it. If the bytes aren't a valid name, `held` stays as it was.
+-- Checking a name and keeping it. If the bytes aren't a valid name, `held` is unchanged.
 abbrev pub HoldsName : List ℕ → HeldName → HeldName → ℕ → Type 0
 HoldsName bytes was held code =
     ((code ≡ 0) × (name_in held ≡ bytes) × (name_from bytes ≡ Ok bytes) × IsUtf8 bytes)
     ⊎ ((e : Fault) × (code ≡ fault_code e) × IsNoName bytes e × (held ≡ was))
 
--- The cells of these nodes at these names in the pinned version. Without a pin, NotPinned; with
--- more than 2^32 cells, BadCount.
+-- The cells of these nodes and names in the pinned version. The error is NotPinned if there is no
+-- pin, and BadCount if there are more than 2^32 cells.
 abbrev pub ReportsAtPin : Option ℕ → State → List ℕ → List (List ℕ) → List Cell → List Cell → List ℕ
     → List ℕ → ℕ → ℕ → Type 0
 ReportsAtPin None volume nodes names cell_places cells places filled needed code = Refuses NotPinned
@@ -218,8 +221,8 @@ ReportsAtPin (Some n) volume nodes names cell_places cells places filled needed 
     ((code ≡ 0) × ReportsColumns volume nodes names cell_places cells places filled needed)
     ⊎ (Refuses BadCount needed code × (2 ^ 32 < length nodes * length names))
 
--- A list is returned as these operations: how many operations and bytes their encoding has, and as
--- many of both as there are places. Or memory runs out.
+-- A list is returned as these operations. The call returns how many operations and bytes their
+-- encoding has, and as many of the operations and bytes as fit, unless memory runs out.
 abbrev pub IsPutOut : List Op → Counts → List Operation → List Operation → List ℕ → List ℕ → ℕ
     → Type 0
 IsPutOut ops counts places filled byte_places bytes code =
@@ -228,8 +231,8 @@ IsPutOut ops counts places filled byte_places bytes code =
     × (counts.operations ≡ length os) × (filled ≡ over os places) × (counts.bytes ≡ length bs)
     × (bytes ≡ over bs byte_places))
 
--- A list of the pinned version, returned as the operations that would make it; 66 without a pin. Or
--- the reason why there is no list.
+-- A list in the pinned version is returned as the operations that would create it. The call returns
+-- 66 if there is no pin. Otherwise it returns the list, or the reason why there is none.
 abbrev pub Listed : {A : Type 0} → (A → Op) → Option ℕ → Result (List A) Refusal → Counts
     → List Operation → List Operation → List ℕ → List ℕ → ℕ → Type 0
 Listed makes None meant counts places filled byte_places bytes code = code ≡ 66
@@ -238,13 +241,13 @@ Listed makes (Some n) (Err why) counts places filled byte_places bytes code = (c
 Listed makes (Some n) (Ok list) counts places filled byte_places bytes code = IsPutOut
     (map makes list) counts places filled byte_places bytes code
 
--- why a text isn't a query, and what its error carries
+-- The reason why a text isn't a query, and what the error carries.
 abbrev pub IsTextFault : List ℕ → Fault → ℕ → Type 0
 IsTextFault text e place = IsNoQuery text e × (place ≡ fault_carried e)
 
--- Preparing a query: an open handle stays as it was, and the call returns 65. A closed one gets a
--- query that these bytes or items mean, and that was never refreshed. After an error it stays
--- closed. The number belongs to the error, and is 0 otherwise.
+-- Preparing a query. If the handle is open, it is unchanged, and the call returns 65. A closed
+-- handle gets a query that these bytes or items encode and that has never been refreshed. After an
+-- error, it stays closed. The number belongs to the error, and is 0 if there is none.
 abbrev pub Prepares : (Formula → Type 0) → (Fault → ℕ → Type 0) → Option PreparedQuery
     → Option PreparedQuery → ℕ → ℕ → Type 0
 Prepares is_meant is_fault (Some p) (Some q) place code = (code ≡ 65) × (q ≡ p) × (place ≡ 0)
@@ -255,8 +258,8 @@ Prepares is_meant is_fault None None place code = (e : Fault) × (code ≡ fault
     × is_fault e place
 
 -- A query ran in the pinned version and keeps what it found. The call returns how many nodes these
--- are, and as many of them as there are places. Or it returns an error with what that carries, and
--- the query keeps no nodes. What its last refresh found stays.
+-- are, and as many of them as fit. If an error occurs, the call returns it with what it carries,
+-- and the query keeps no nodes. The results of the last refresh are unchanged.
 abbrev pub Asked : Sitting → PreparedQuery → PreparedQuery → List ℕ → List ℕ → ℕ → ℕ → Type 0
 Asked s p q places filled count code =
     (q ≡ with_found p q.found)
@@ -267,8 +270,8 @@ Asked s p q places filled count code =
     × IsUnrefreshed (pinned_number s.knows.phase) (scan (volume_pinned s.knows) p.live.query)
     e))
 
--- Running a prepared query. If its handle is closed, it stays closed, and nothing happens;
--- otherwise it stays open, and the query runs.
+-- Running a prepared query. If its handle is closed, it stays closed, and nothing happens.
+-- Otherwise it stays open, and the query runs.
 abbrev pub AsksPrepared : Sitting → Sitting → Option PreparedQuery → Option PreparedQuery → List ℕ
     → List ℕ → ℕ → ℕ → Type 0
 AsksPrepared s t None None places filled count code = IsClosed count code × (t ≡ s)
@@ -277,15 +280,16 @@ AsksPrepared s t (Some p) None places filled count code = ⊥
 AsksPrepared s t (Some p) (Some q) places filled count code = HasRead s.knows t.knows
     × Asked s p q places filled count code
 
--- What a prepared query found when it last ran: how many nodes these are, and as many of them from
--- an index on as there are places. Or its handle is closed.
+-- What a prepared query found when it last ran. The call returns how many nodes these are, and as
+-- many of them as fit, starting at an index, unless the handle is closed.
 abbrev pub ShowsFound : Option PreparedQuery → ℕ → List ℕ → List ℕ → ℕ → ℕ → Type 0
 ShowsFound None from places filled count code = IsClosed count code
 ShowsFound (Some p) from places filled count code = (code ≡ 0) × (count ≡ length p.found)
     × (filled ≡ over (drop from p.found) places)
 
--- A query was refreshed in the pinned version, and keeps which nodes joined its answer and which
--- left it; the call returns how many. Or it returns an error, and the query stays as it was.
+-- A query was refreshed in the pinned version. It keeps which nodes were added to its answer and
+-- which were removed, and the call returns how many there are. If an error occurs, the call returns
+-- it, and the query is unchanged.
 abbrev pub Refreshed : Sitting → PreparedQuery → PreparedQuery → UpdateCounts → ℕ → Type 0
 Refreshed s p q counts code =
     ((code ≡ 0) × (n : ℕ) × IsPinnedTo s.knows n
@@ -294,8 +298,8 @@ Refreshed s p q counts code =
     ⊎ ((e : Fault) × (code ≡ fault_code e) × (q ≡ p)
     × IsUnrefreshed (pinned_number s.knows.phase) (scan (volume_pinned s.knows) p.live.query) e)
 
--- Refreshing a prepared query. If its handle is closed, it stays closed, and nothing happens;
--- otherwise it stays open, and the query is refreshed.
+-- Refreshing a prepared query. If its handle is closed, it stays closed, and nothing happens.
+-- Otherwise it stays open, and the query is refreshed.
 abbrev pub RefreshesPrepared : Sitting → Sitting → Option PreparedQuery → Option PreparedQuery
     → UpdateCounts → ℕ → Type 0
 RefreshesPrepared s t None None counts code = (code ≡ 64) × (t ≡ s)
@@ -304,15 +308,15 @@ RefreshesPrepared s t (Some p) None counts code = ⊥
 RefreshesPrepared s t (Some p) (Some q) counts code = HasRead s.knows t.knows
     × Refreshed s p q counts code
 
--- The nodes that joined the answer at the last refresh, and those that left it, as many of each as
--- there are places.
+-- The nodes that the last refresh added to the answer, and those that it removed, as many of each
+-- as fit.
 abbrev pub ShowsChanges : Option PreparedQuery → List ℕ → List ℕ → List ℕ → List ℕ → ℕ → Type 0
 ShowsChanges None created_places created removed_places removed code = code ≡ 64
 ShowsChanges (Some p) created_places created removed_places removed code =
     (code ≡ 0) × (created ≡ over p.came created_places) × (removed ≡ over p.went removed_places)
 
--- A prepared query's canonical text: its length in bytes, and as many of them as there are places.
--- Or its handle is closed, or memory runs out.
+-- The canonical text of a prepared query. The call returns its length in bytes, and as many of the
+-- bytes as fit, unless the handle is closed or memory runs out.
 abbrev pub PrintsPrepared : Option PreparedQuery → List ℕ → List ℕ → ℕ → ℕ → Type 0
 PrintsPrepared None places filled count code = IsClosed count code
 PrintsPrepared (Some p) places filled count code =
@@ -320,10 +324,10 @@ PrintsPrepared (Some p) places filled count code =
     ⊎ ((code ≡ 0) × (count ≡ length (or_text p.live.query))
     × (filled ≡ over (or_text p.live.query) places))
 
--- A journal entry, if there is one: its pass, and an encoding of its operations, in which each that
--- made a node has its number. The call returns how many operations and bytes there are, and as many
--- of both as there are places. If there is no entry, the lists stay as they were, and all three
--- numbers are 0.
+-- A journal entry, if there is one. The call returns its pass and an encoding of its operations, in
+-- which each operation that created a node has the number of that node. It returns how many
+-- operations and bytes there are, and as many of them as fit. If there is no entry, the lists are
+-- unchanged, and all three numbers are 0.
 abbrev pub IsEntryPutOut : Option Entry → ℕ → Counts → List Operation → List Operation → List ℕ
     → List ℕ → Type 0
 IsEntryPutOut None by counts places filled byte_places bytes = (by ≡ 0) × (counts.operations ≡ 0)
@@ -334,9 +338,9 @@ IsEntryPutOut (Some entry) by counts places filled byte_places bytes =
     × (counts.operations ≡ length os) × (filled ≡ over os places) × (counts.bytes ≡ length bs)
     × (bytes ≡ over bs byte_places)
 
--- The journal's entry with this index, as far as the pass has seen the journal after the call, and
--- the journal's length. The call's moves are a lock and an unlock. Or an error, with what it
--- carries.
+-- The journal entry with this index, as far as the pass has seen the journal after the call, and
+-- the journal's length. The call's moves are a lock and an unlock. If an error occurs, the call
+-- returns it with what it carries.
 abbrev pub ReportsEntry : Sitting → Sitting → ℕ → ℕ → Counts → List Operation → List Operation
     → List ℕ → List ℕ → ℕ → ℕ → Type 0
 ReportsEntry s t from by counts places filled byte_places bytes number code =
@@ -347,8 +351,8 @@ ReportsEntry s t from by counts places filled byte_places bytes number code =
     ⊎ ((why : Refusal) × Refuses (Refused why) number code × IsUnreported s.knows t.knows why))
 
 -- The journal, as far as the pass has seen it after the call, is legal. The call returns the length
--- of its text, and as many of its bytes as there are places. Its moves are a lock and an unlock. Or
--- it returns an error, with what that carries.
+-- of its text, and as many of the bytes as fit. The call's moves are a lock and an unlock. If an
+-- error occurs, the call returns it with what it carries.
 abbrev pub ReportsJournal : Sitting → Sitting → List ℕ → List ℕ → ℕ → ℕ → Type 0
 ReportsJournal s t places filled count code =
     Learns s.knows t.knows × IsLegal (entries t.knows.seen)

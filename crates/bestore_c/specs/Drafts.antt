@@ -24,9 +24,9 @@ use Rattle.bestore_c.specs.Calls.{IsClosed, IsPutOut, Refuses, Shown}
 use Rattle.bestore_c.specs.declared.handle.Attribute.{Attribute}
 use Rattle.bestore_c.specs.declared.handle.Counts.{Counts}
 
--- Beginning a change: an open handle stays as it was, and the call returns 65. A closed one gets a
--- change that has just begun and checks kinds; the call returns the numbers of its snapshot and of
--- its first new node. The handle stays closed if memory runs out.
+-- Beginning a change. If the handle is open, it is unchanged, and the call returns 65. A closed
+-- handle gets a change that has just begun and checks kinds, and the call returns the numbers of
+-- its snapshot and of its first new node. The handle stays closed if memory runs out.
 abbrev pub BeginsDraft : Sitting → Sitting → Option Changing → Option Changing → ℕ → ℕ → ℕ → Type 0
 BeginsDraft s t (Some c) (Some d) number next code = (code ≡ 65) × (number ≡ 0) × (d ≡ c) × (t ≡ s)
 BeginsDraft s t (Some c) None number next code = ⊥
@@ -35,15 +35,15 @@ BeginsDraft s t None (Some d) number next code = (code ≡ 0) × Begins d true s
 BeginsDraft s t None None number next code = Refuses (Refused OutOfMemory) number code
     × IsNotBegun s.knows t.knows
 
--- the change takes any kind from now on, or its handle is closed
+-- The change takes any kind from now on, unless its handle is closed.
 abbrev pub TakesAnyKind : Option Changing → Option Changing → ℕ → Type 0
 TakesAnyKind None None code = code ≡ 64
 TakesAnyKind None (Some d) code = ⊥
 TakesAnyKind (Some c) None code = ⊥
 TakesAnyKind (Some c) (Some d) code = (code ≡ 0) × (d ≡ record c { checks = false })
 
--- The change collects an operation, and the call returns the number of the node that it will make,
--- or 0. After an error the change is as it was. Or its handle is closed.
+-- The change collects an operation, and the call returns the number of the node that it will
+-- create, or 0. After an error, the change is unchanged. The change's handle may also be closed.
 abbrev pub AddsEncoded : Option Changing → Option Changing → Operation → List ℕ → ℕ → ℕ → Type 0
 AddsEncoded None None o bytes node code = IsClosed node code
 AddsEncoded None (Some d) o bytes node code = ⊥
@@ -52,8 +52,8 @@ AddsEncoded (Some c) (Some d) o bytes node code =
     ((code ≡ 0) × CollectsMeant c d o bytes node)
     ⊎ ((e : Fault) × Refuses e node code × (d ≡ c) × IsNotCollected c o bytes e)
 
--- An attribute as the change's operations leave it, or 3 if there is none, if the session is pinned
--- to the change's snapshot. Otherwise 66.
+-- An attribute as the change's operations leave it. If the session is pinned to the change's
+-- snapshot, the call returns the attribute, or 3 if there is none. Otherwise it returns 66.
 abbrev pub ShowsChanged : Changing → Knowledge → ℕ → List ℕ → Attribute → List ℕ → List ℕ → ℕ
     → Type 0
 ShowsChanged c a node name reported places filled code =
@@ -63,7 +63,8 @@ ShowsChanged c a node name reported places filled code =
     × (Reads c (volume_pinned a)
     → After c (volume_pinned a) (λ s. found ≡ attribute s node name)))
 
--- A read in a change. If its handle is closed, or the bytes aren't a valid name, nothing happens.
+-- Reading in a change. If its handle is closed, or if the bytes aren't a valid name, nothing
+-- happens.
 abbrev pub ReadsDraft : Sitting → Sitting → Option Changing → ℕ → List ℕ → Attribute → List ℕ
     → List ℕ → ℕ → Type 0
 ReadsDraft s t None node name reported places filled code = (code ≡ 64) × (t ≡ s)
@@ -72,14 +73,14 @@ ReadsDraft s t (Some c) node name reported places filled code =
     ⊎ (IsUtf8 name × (name_from name ≡ Ok name) × HasRead s.knows t.knows
     × ShowsChanged c s.knows node name reported places filled code)
 
--- the operations that a change has collected, or its handle is closed
+-- The operations that a change has collected, unless its handle is closed.
 abbrev pub ListsDraft : Option Changing → Counts → List Operation → List Operation → List ℕ
     → List ℕ → ℕ → Type 0
 ListsDraft None counts places filled byte_places bytes code = code ≡ 64
 ListsDraft (Some c) counts places filled byte_places bytes code = IsPutOut c.ops counts places
     filled byte_places bytes code
 
--- a call returns this number with the code 0, or an error's code and what the error carries
+-- A call returns this number with the code 0, or the code of an error and what the error carries.
 abbrev pub Returns : Result ℕ Fault → ℕ → ℕ → Type 0
 Returns (Ok n) number code = (code ≡ 0) × (number ≡ n)
 Returns (Err e) number code = Refuses e number code
@@ -95,10 +96,10 @@ abbrev pub AbandonsDraft : Sitting → Sitting → Option Changing → ℕ → T
 AbandonsDraft s t None code = (code ≡ 64) × (t ≡ s)
 AbandonsDraft s t (Some c) code = (code ≡ 0) × Abandons c s.knows t.knows
 
--- A change that is written in one call, with encoded operations. If one of them is invalid, nothing
--- happens, and the number is its index in the list. Otherwise they encode operations. If the store
--- accepts these, the number is the commit number. If it doesn't, the number is the index of the
--- first set of a wrong kind, or what the error carries.
+-- Writing encoded operations as a change in one call. If one of them is invalid, nothing happens,
+-- and the number is its index in the list. Otherwise they encode a list of operations. If the store
+-- accepts these, the number is the commit number. If it refuses them, the number is the index of
+-- the first set of a wrong kind, or what the error carries.
 abbrev pub WritesEncodedChange : Sitting → Sitting → List Operation → List ℕ → ℕ → ℕ → Type 0
 WritesEncodedChange s t encoded bytes number code =
     ((e : Fault) × (code ≡ fault_code e) × IsInvalid encoded bytes e number × (t ≡ s))

@@ -1,4 +1,4 @@
--- What a handle owns before and after it lends this.
+-- What a handle owns before and after it lends its content.
 use Rattle.std.specs.Prelude.{Some}
 use Rattle.std.specs.Borrow.{Lends, MutBor, Fml}
 use Rattle.be_change.specs.Changing.{Changing}
@@ -22,36 +22,36 @@ use Rattle.bestore_c.specs.declared.owned_place.OwnedPlace.{OwnedPlace}
 use Rattle.bestore_c.specs.declared.owned_query.OwnedQuery.{OwnedQuery}
 use Rattle.bestore_c.specs.declared.owned_witness.OwnedWitness.{OwnedWitness}
 
--- the owner with this session as what it owns
+-- The owner, with the given session as its content.
 abbrev pub with_session : Owned → Sitting → Owned
 with_session o s = record o { value = Some s }
 
--- after the borrow the handle owns what the session has become
+-- When the borrow ends, the handle owns the session as it is then.
 abbrev pub LendsSession : MutBor Owned → MutBor Sitting → Fml
 LendsSession o s = Lends owned.the_row session.the_row o s (with_session o.now)
 
--- the same for a prepared query
+-- The same definitions for a prepared query.
 abbrev pub with_query : OwnedQuery → PreparedQuery → OwnedQuery
 with_query o p = record o { value = Some p }
 
 abbrev pub LendsQuery : MutBor OwnedQuery → MutBor PreparedQuery → Fml
 LendsQuery o p = Lends owned_query.the_row prepared.the_row o p (with_query o.now)
 
--- and for a place
+-- The same definitions for a place.
 abbrev pub with_place : OwnedPlace → StatePlace → OwnedPlace
 with_place o p = record o { value = Some p }
 
 abbrev pub LendsPlace : MutBor OwnedPlace → MutBor StatePlace → Fml
 LendsPlace o p = Lends owned_place.the_row place.the_row o p (with_place o.now)
 
--- and for a witness
+-- The same definitions for a witness.
 abbrev pub with_witness : OwnedWitness → WitnessFacts → OwnedWitness
 with_witness o w = record o { value = Some w }
 
 abbrev pub LendsWitness : MutBor OwnedWitness → MutBor WitnessFacts → Fml
 LendsWitness o w = Lends owned_witness.the_row witness.the_row o w (with_witness o.now)
 
--- and for a change
+-- The same definitions for a change.
 abbrev pub with_draft : OwnedDraft → Changing → OwnedDraft
 with_draft o c = record o { value = Some c }
 

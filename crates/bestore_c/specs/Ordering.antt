@@ -1,4 +1,4 @@
--- What C gets of an answer that it reads a part at a time.
+-- What C gets when it reads an answer in parts.
 use Rattle.std.specs.Prelude.{◌≡◌, ◌⊎◌, ◌≤◌, ℕ, Bool, List, [], length, None, Ok, Some}
 use Rattle.std.specs.Prelude.{if◌then◌else◌}
 use Rattle.std.specs.declared.option.Option.{Option}
@@ -17,22 +17,22 @@ use Rattle.bestore_c.specs.Calls.{IsClosed, Refreshed, Refuses}
 use Rattle.bestore_c.specs.Places.{over}
 use Rattle.bestore_c.specs.declared.handle.UpdateCounts.{UpdateCounts}
 
--- 1 if there are more nodes, otherwise 0
+-- The number that says whether there are more nodes: 1 if there are, and otherwise 0.
 abbrev pub more_in : Bool → ℕ
 more_in others = if others then 1 else 0
 
--- A prepared query keeps these nodes, and the call returns their number and all of them.
+-- A prepared query keeps these nodes, and the call returns how many there are and all of them.
 abbrev pub KeepsPart : PreparedQuery → List ℕ → List ℕ → ℕ → ℕ → Type 0
 KeepsPart q places filled count code = (code ≡ 0) × (count ≡ length q.found)
     × (filled ≡ over q.found places)
 
--- The call returns an error with what it carries, and the prepared query keeps no node.
+-- The call returns an error with what it carries, and the prepared query keeps no nodes.
 abbrev pub KeepsNone : PreparedQuery → Fault → ℕ → ℕ → Type 0
 KeepsNone q e count code = Refuses e count code × (q.found ≡ [])
 
--- A page of a prepared query in the pinned version: as many nodes as there are places. The call
--- returns it and whether there are more nodes, and moves the cursor. Or it returns an error. What
--- the last refresh found stays.
+-- Reading a page of a prepared query's answer in the pinned version, with as many nodes as fit. The
+-- call returns the page and whether more nodes follow, and moves the cursor. If an error occurs,
+-- the call returns it. The results of the last refresh are unchanged.
 abbrev pub Ordered : Sitting → PreparedQuery → PreparedQuery → List ℕ → Bool → Cursor → Cursor
     → List ℕ → List ℕ → ℕ → ℕ → ℕ → Type 0
 Ordered s p q by descending cursor moved places filled count more code =
@@ -44,7 +44,7 @@ Ordered s p q by descending cursor moved places filled count more code =
     ⊎ ((e : Fault) × KeepsNone q e count code × IsUnread (pinned_number s.knows.phase)
     (IsNoPage (volume_pinned s.knows) p.live.query by descending (length places) cursor e) e))
 
--- A prepared query's first nodes from a number on, in the pinned version.
+-- A prepared query's nodes in the pinned version, starting at a given number.
 abbrev pub First : Sitting → PreparedQuery → PreparedQuery → ℕ → List ℕ → List ℕ → ℕ → ℕ → Type 0
 First s p q from places filled count code =
     (q ≡ with_found p q.found)
@@ -55,7 +55,7 @@ First s p q from places filled count code =
     (AreUnread (from_number (volume_pinned s.knows) p.live.query from (length places))
     (length places) e) e))
 
--- Any of a prepared query's nodes, in the pinned version.
+-- Arbitrary nodes of a prepared query in the pinned version.
 abbrev pub AnyFew : Sitting → PreparedQuery → PreparedQuery → List ℕ → List ℕ → ℕ → ℕ → Type 0
 AnyFew s p q places filled count code =
     (q ≡ with_found p q.found)
@@ -65,8 +65,8 @@ AnyFew s p q places filled count code =
     ⊎ ((e : Fault) × KeepsNone q e count code × IsUnread (pinned_number s.knows.phase)
     (AreUnread (scan (volume_pinned s.knows) p.live.query) (length places) e) e))
 
--- A read of a prepared query by its handle. If that is closed, it stays closed, and nothing
--- happens; otherwise it stays open, and `does` says what happens to the query.
+-- Reading from a prepared query through its handle. If the handle is closed, it stays closed, and
+-- nothing happens. Otherwise it stays open, and `does` says what happens to the query.
 abbrev pub ReadsPrepared : Sitting → Sitting → Option PreparedQuery → Option PreparedQuery → ℕ → ℕ
     → (PreparedQuery → PreparedQuery → Type 0) → Type 0
 ReadsPrepared s t None None count code does = IsClosed count code × (t ≡ s)
@@ -74,14 +74,14 @@ ReadsPrepared s t None (Some q) count code does = ⊥
 ReadsPrepared s t (Some p) None count code does = ⊥
 ReadsPrepared s t (Some p) (Some q) count code does = HasRead s.knows t.knows × does p q
 
--- if both handles are open, the query was last refreshed in the session's store
+-- If both handles are open, the query was last refreshed in the session's store.
 abbrev pub IsRefreshedHere : Option Sitting → Option PreparedQuery → Type 0
 IsRefreshedHere None o = Unit {0}
 IsRefreshedHere (Some s) None = Unit {0}
 IsRefreshedHere (Some s) (Some p) = IsLiveOf s.store p.live
 
--- A query was refreshed in the pinned version by what was written since its last refresh. The pass
--- took the lock at most once for this. The next refresh may be of this sort too.
+-- A query was refreshed in the pinned version from what was written since its last refresh. The
+-- pass took the lock at most once for this. The next refresh can also be of this kind.
 abbrev pub RefreshedByWrites : Sitting → Sitting → PreparedQuery → PreparedQuery → UpdateCounts → ℕ
     → Type 0
 RefreshedByWrites s t p q counts code =
@@ -89,7 +89,7 @@ RefreshedByWrites s t p q counts code =
     × (volume_pinned t.knows ≡ volume_pinned s.knows) × IsLiveOf s.store q.live
     × Refreshed s p q counts code
 
--- The same, by the query's handle.
+-- Refreshing a query in this way through its handle.
 abbrev pub RefreshesByWrites : Sitting → Sitting → Option PreparedQuery → Option PreparedQuery
     → UpdateCounts → ℕ → Type 0
 RefreshesByWrites s t None None counts code = (code ≡ 64) × (t ≡ s)

@@ -1,4 +1,4 @@
--- What the calls on queries' texts write.
+-- What the calls on the texts of queries write.
 use Rattle.std.specs.Prelude.{◌≡◌, ◌⊎◌, ℕ, IsUtf8, List, None, length}
 use Rattle.be_query.specs.Faults.{fault}
 use Rattle.be_query.specs.Grammar.{Formula, IsTextOf}
@@ -12,8 +12,7 @@ use Rattle.bestore_c.specs.Calls.{Refuses}
 use Rattle.bestore_c.specs.Places.{over}
 use Rattle.bestore_c.specs.declared.handle.Counts.{Counts}
 
--- How many comparisons there are, how many bytes these take, and as many of both as there are
--- places.
+-- How many comparisons there are, how many bytes these take, and as many of both as fit.
 pub record Lists (ds : List Description) (counts : Counts) (rows listed : List EncodedComparison)
     (places filled : List ℕ) : Type 0 where
   pub comparisons : counts.operations ≡ length (encoded_from 0 ds)
@@ -28,8 +27,8 @@ ListsComparisons text counts rows listed bytes filled = (fault text ≡ None) ×
     × IsTextOf text tree
     × Lists (described (leaves tree) (places text)) counts rows listed bytes filled
 
--- A text that a call makes from another one, as far as there is room; 70 if that isn't valid UTF-8,
--- 10 if memory runs out.
+-- A text that a call makes from another text, as far as there is room. The call returns 70 if the
+-- other text isn't valid UTF-8, and 10 if memory runs out.
 abbrev pub MakesText : (List ℕ → Type 0) → List ℕ → List ℕ → List ℕ → ℕ → ℕ → Type 0
 MakesText is_made text bytes filled count code =
     ((made : List ℕ) × is_made made × (code ≡ 0) × (count ≡ length made)

@@ -12,12 +12,12 @@ use Rattle.be_value.specs.declared.refusals.Refusal.{Refusal}
 use Rattle.bestore_c.specs.Calls.{Refuses}
 use Rattle.bestore_c.specs.declared.handle.Usage.{Usage}
 
--- the oldest published version, if there is one, with the pass that published it
+-- The oldest published version, if there is one, with the pass that published it.
 abbrev pub ShowsOldest : Option Announcement → Usage → Type 0
 ShowsOldest None u = (u.is_held ≡ false) × (u.oldest ≡ 0) × (u.holder ≡ 0)
 ShowsOldest (Some a) u = (u.is_held ≡ true) × (u.oldest ≡ a.number) × (u.holder ≡ a.pass)
 
--- the figures of a status
+-- The figures of a status.
 pub record Shows (s : Status) (u : Usage) : Type 0 where
   pub pages : u.pages ≡ s.pages
   pub free : u.free ≡ s.free
@@ -26,8 +26,8 @@ pub record Shows (s : Status) (u : Usage) : Type 0 where
   pub commits : u.commits ≡ s.commits
   pub oldest : ShowsOldest s.oldest u
 
--- How full the store is: the call returns what the store reports. Or another pass holds the lock,
--- and the error names it.
+-- The call returns what the store reports about how full it is. If another pass holds the lock, it
+-- returns an error that names this pass.
 abbrev pub ReportsUsage : Sitting → Sitting → Usage → ℕ → ℕ → Type 0
 ReportsUsage s t usage number code =
     Learns s.knows t.knows

@@ -1,4 +1,4 @@
-//! Writes the answers of queries and their explanations for C, and runs prepared queries.
+//! Writes the answers and explanations of queries for C, and runs prepared queries.
 ghost use Rattle.std.specs.Prelude.{◌≡◌, ◌⊎◌, ℕ, List, IfErr, IfOk, false, length, string_bytes};
 ghost use Rattle.std.specs.Prelude.{true};
 ghost use Rattle.std.specs.declared.option.Option.{Option as AnyOption};
@@ -19,8 +19,8 @@ use be_query::Query;
 use be_session::{Fault, Prepared, Session, query_of};
 use std::alloc::Global;
 
-/// Parses this text as a query, if the handle is open. Otherwise returns the code of a call that
-/// did nothing, and writes the number that goes with it.
+/// Parses this text as a query if the handle is open. Otherwise returns the code of a call that did
+/// nothing, and writes the number that goes with it.
 pub(crate) fn query_for(
     alloc: Global,
     live: bool,
@@ -43,8 +43,8 @@ pub(crate) fn query_for(
     }
 }
 
-/// Writes how many nodes a session found, and as many of them as there is room for; or the number
-/// that its error carries. What this means for the version follows from the session's own contract.
+/// Writes how many nodes a session found, and as many of them as fit. On failure, writes the number
+/// that the error carries. What this means for the version follows from the session's own contract.
 pub(crate) fn report(answer: Result<Vec<u64>, Fault>, nodes: &mut [u64], count: &mut u64) -> u32
     ensures found { (pin : AnyOption ℕ) (meant : AnyResult (List ℕ) AnyRefusal)
         → AtPin pin answer (ReadAnswers (λ found. found.items) answer meant)
@@ -61,7 +61,7 @@ pub(crate) fn report(answer: Result<Vec<u64>, Fault>, nodes: &mut [u64], count: 
     }
 }
 
-/// Writes how many bytes a text has, and as many of them as there is room for.
+/// Writes the length of a text in bytes, and as many of the bytes as fit.
 pub(crate) fn put_text(text: &str, bytes: &mut [u8], count: &mut u64)
     ensures count { count.new ≡ length text.now }
     ensures bytes { bytes.new ≡ over text.now bytes.old }
@@ -70,8 +70,8 @@ pub(crate) fn put_text(text: &str, bytes: &mut [u8], count: &mut u64)
     put(bytes, text.as_bytes());
 }
 
-/// Writes the length of a session's text in bytes, and as many of them as there is room for.
-/// Otherwise as `report`.
+/// Writes the length of a session's text in bytes, and as many of the bytes as fit. Otherwise like
+/// `report`.
 pub(crate) fn report_text(answer: Result<String, Fault>, bytes: &mut [u8], count: &mut u64) -> u32
     ensures found { (pin : AnyOption ℕ) (meant : AnyResult (List ℕ) AnyRefusal)
         → AtPin pin answer (ReadAnswers string_bytes answer meant)
@@ -113,8 +113,8 @@ pub(crate) fn find_prepared(
     }
 }
 
-/// Refreshes a prepared query in the session's pinned version. Writes how many nodes joined its
-/// answer and how many left it.
+/// Refreshes a prepared query in the session's pinned version. Writes how many nodes were added to
+/// its answer and how many were removed.
 pub(crate) fn refresh_prepared(
     session: &mut Session,
     prepared: &mut Prepared,

@@ -1,4 +1,4 @@
-//! Changes that C holds: reads in them, and taking one out of its handle.
+//! Changes that are held by C: reading through a change, and taking a change out of its handle.
 ghost use Rattle.std.specs.Prelude.{◌≡◌, ◌⊎◌, ℕ, None, Some};
 ghost use Rattle.be_store.specs.Passes.{HasRead};
 ghost use Rattle.bestore_c.specs.Calls.{Shown};
@@ -54,7 +54,7 @@ pub(crate) fn read_changed(
     }
 }
 
-/// Takes the change out of its handle, and closes that.
+/// Takes the change out of its handle, and closes the handle.
 pub(crate) fn take_change(alloc: Global, draft: &mut DraftHandle) -> Option<Change>
     ensures closed { draft.new.owned.value ≡ None }
     ensures change { result ≡ draft.old.owned.value }

@@ -1,4 +1,4 @@
-//! One journal entry, as C reads it.
+//! A journal entry in the form in which C reads it.
 ghost use Rattle.std.specs.Option.{option_copied};
 ghost use Rattle.std.specs.Prelude.{◌≡◌, IfErr, IfOk, OnErr, OnOk, length, slice_get};
 ghost use Rattle.be_store.specs.History.{IsUnreported, Learns, LocksAndUnlocks};
@@ -14,8 +14,8 @@ use be_session::{Fault, Operation, Session, encoded_entry};
 use be_store::Entry;
 use std::alloc::Global;
 
-/// Writes an entry's pass and operations for the caller, as far as there is room. An operation that
-/// made a node has its number. Without an entry it writes zeros.
+/// Writes the pass and the operations of an entry for the caller, as far as there is room. An
+/// operation that created a node has the number of that node. Without an entry, writes zeros.
 fn put_entry(
     alloc: Global,
     entry: Option<&Entry>,
@@ -44,8 +44,8 @@ fn put_entry(
     Ok(())
 }
 
-/// Writes the journal's entry with this index for the caller, if there is one, as far as there is
-/// room. Returns the journal's length.
+/// Writes the journal entry at this index for the caller, if there is one, as far as there is room.
+/// Returns the journal's length.
 pub(crate) fn report_entry(
     alloc: Global,
     session: &mut Session,

@@ -1,4 +1,4 @@
-//! Closes a store, and returns its journal's text.
+//! Closes a store, and returns the text of its journal.
 ghost use Rattle.std.specs.Prelude.{◌≡◌, ◌⊎◌, ◌≤◌, IfErr, IfOk, length, string_bytes};
 ghost use Rattle.be_store.specs.History.{Learns, LocksAndUnlocks, text_seen};
 ghost use Rattle.bestore_c.specs.Finishing.{IsEnd, IsNoEnd};
@@ -7,9 +7,9 @@ use crate::asking::put_text;
 use crate::refusing::refuse;
 use be_session::{Fault, Session, Unfinished};
 
-/// The journal's text, if the session is the store's last one and there is room for the whole text.
-/// Otherwise returns the code of a call that left the store as it was. Writes the text's length, or
-/// the number that the error carries.
+/// Returns the journal's text if the session is the last one of its store and there is room for the
+/// whole text. Otherwise returns the code of a call that left the store unchanged. Writes the
+/// length of the text, or the number that the error carries.
 pub(crate) fn last_text(session: &mut Session, room: usize, count: &mut u64) -> Result<String, u32>
     ensures store { (session.new.store ≡ session.old.store)
         × (session.new.spare ≡ session.old.spare) }
@@ -31,8 +31,9 @@ pub(crate) fn last_text(session: &mut Session, room: usize, count: &mut u64) -> 
     }
 }
 
-/// Closes the session's store, and writes its journal's text, which the caller passes, and the
-/// text's length. If the store can't be closed after all, it closes the session and returns InUse.
+/// Closes the session's store, and writes the text of its journal, which the caller passes in, and
+/// the length of the text. If it turns out that the store can't be closed, closes only the session
+/// and returns `InUse`.
 pub(crate) fn end(session: Session, text: &str, bytes: &mut [u8], count: &mut u64) -> u32
     requires text { text.now ≡ text_seen session.knows }
     requires room { length text.now ≤ length bytes.old }

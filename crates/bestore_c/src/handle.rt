@@ -8,7 +8,8 @@ use crate::owned_query::OwnedQuery;
 use crate::owned_witness::OwnedWitness;
 use be_session::sent;
 
-/// C's handle of a pass: closed, or open with a session. Zero bytes are a closed handle.
+/// The handle of a pass in C, which is either closed or open with a session. A handle of all zero
+/// bytes is closed.
 #[repr(C)]
 #[derive(Drop)]
 pub struct Handle {
@@ -17,7 +18,8 @@ pub struct Handle {
     ghost full: { live ≡ is_some owned.value },
 }
 
-/// C's handle of a prepared query: closed, or open with the query. Zero bytes are a closed handle.
+/// The handle of a prepared query in C, which is either closed or open with the query. A handle of
+/// all zero bytes is closed.
 #[repr(C)]
 #[derive(Drop)]
 pub struct PreparedHandle {
@@ -26,8 +28,8 @@ pub struct PreparedHandle {
     ghost full: { live ≡ is_some owned.value },
 }
 
-/// C's handle of a place in a version's operations: closed, which is before the first operation, or
-/// open with the place. Zero bytes are a closed handle.
+/// The handle of a place in the operations of a version in C. It is either open with the place, or
+/// closed, which means before the first operation. A handle of all zero bytes is closed.
 #[repr(C)]
 #[derive(Drop)]
 pub struct PlaceHandle {
@@ -36,7 +38,8 @@ pub struct PlaceHandle {
     ghost full: { live ≡ is_some owned.value },
 }
 
-/// C's handle of a witness: closed, or open with the witness. Zero bytes are a closed handle.
+/// A witness's handle in C, which is either closed or open with the witness. A handle of all zero
+/// bytes is closed.
 #[repr(C)]
 #[derive(Drop)]
 pub struct WitnessHandle {
@@ -45,7 +48,8 @@ pub struct WitnessHandle {
     ghost full: { live ≡ is_some owned.value },
 }
 
-/// C's handle of a change: closed, or open with the change. Zero bytes are a closed handle.
+/// A change's handle in C, which is either closed or open with the change. A handle of all zero
+/// bytes is closed.
 #[repr(C)]
 #[derive(Drop)]
 pub struct DraftHandle {
@@ -54,30 +58,30 @@ pub struct DraftHandle {
     ghost full: { live ≡ is_some owned.value },
 }
 
-/// A law: a handle may go to another thread, with its session. The function returns the handle as
-/// it is.
+/// A law: a handle can be sent to another thread together with its session. The function returns
+/// the handle unchanged.
 pub fn may_move(pass: Handle) -> Handle
     ensures { result ≡ pass }
 {
     sent(pass)
 }
 
-/// The same for a witness's handle.
+/// The same law for a witness's handle.
 pub fn witness_may_move(witness: WitnessHandle) -> WitnessHandle
     ensures { result ≡ witness }
 {
     sent(witness)
 }
 
-/// The same for a change's handle.
+/// The same law for a change's handle.
 pub fn draft_may_move(draft: DraftHandle) -> DraftHandle
     ensures { result ≡ draft }
 {
     sent(draft)
 }
 
-/// A value as C gets it: its type code, its length in bytes, and the number that it is, or 0. A
-/// signed number is in two's complement.
+/// A value as it is returned to C: its type code, its length in bytes, and the number if it is one,
+/// or 0. A signed number is in two's complement.
 #[repr(C)]
 #[derive(Clone, Copy)]
 pub struct Attribute {
@@ -108,7 +112,7 @@ pub struct Usage {
     pub holder: u64,
 }
 
-/// How many nodes joined the answer at a refresh, and how many left it.
+/// How many nodes a refresh added to the answer, and how many it removed.
 #[repr(C)]
 #[derive(Clone, Copy)]
 pub struct UpdateCounts {

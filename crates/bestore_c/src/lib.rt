@@ -1,9 +1,9 @@
-//! The exports of the library for C. `include/bestore.h` declares them.
+//! The functions that the library exports to C, as declared in `include/bestore.h`.
 //!
-//! Each export takes a handle that its caller owns, calls the handle's session, and returns a
-//! number: 0, an error's number, or 64 or 65, which are about the handle itself. Two exports have a
-//! `requires`: `bes_join` takes a witness of the pass's own store, and `bes_refresh_changed` takes
-//! a query that was last refreshed in that store.
+//! Each export takes a handle that its caller owns, calls the session of the handle, and returns a
+//! number: 0, the number of an error, or 64 or 65, which concern the handle itself. Two exports
+//! have a `requires` clause: `bes_join` takes a witness of the pass's own store, and
+//! `bes_refresh_changed` takes a query that was last refreshed in that store.
 #![tactic(auto)]
 
 ghost use Rattle.std.specs.Prelude.{◌≡◌, ◌⊎◌, ◌+◌, ◌==◌, None, Ok, length, map, not};
@@ -85,7 +85,7 @@ use states::{begin, report_state};
 use std::alloc::Global;
 use std::mem;
 
-/// What a call without an error returns.
+/// The return value of a call without an error.
 const DONE: u32 = 0;
 
 const NO_MEMORY: u32 = 10;
@@ -93,11 +93,11 @@ const NO_MEMORY: u32 = 10;
 /// The handle is closed.
 pub(crate) const CLOSED: u32 = 64;
 
-/// The handle that the call should open is open already.
+/// The handle that the call should open is already open.
 const OPEN: u32 = 65;
 
-/// The library's version: 4,000 for 0.4.0, with a million for each major number and a thousand for
-/// each minor one.
+/// Returns the version of the library, with a million for each major version and a thousand for
+/// each minor version. Version 0.4.0 is 4,000.
 #[unsafe(no_mangle)]
 pub extern "C" fn bes_version() -> u32
     ensures { result ≡ 4000 }
@@ -105,7 +105,7 @@ pub extern "C" fn bes_version() -> u32
     4000
 }
 
-/// Opens a store, and opens the handle as its first pass.
+/// Opens a store, and opens the handle as the store's first pass.
 #[unsafe(no_mangle)]
 pub extern "C" fn bes_open(
     alloc: Global,
@@ -140,7 +140,7 @@ pub extern "C" fn bes_open(
     }
 }
 
-/// Opens a second handle, for another pass of the same store.
+/// Opens a second handle for another pass of the same store.
 #[unsafe(no_mangle)]
 pub extern "C" fn bes_another(alloc: Global, pass: &mut Handle, other: &mut Handle) -> u32
     ensures { GivesAnother pass.old.owned.value pass.new.owned.value other.old.owned.value
@@ -164,7 +164,7 @@ pub extern "C" fn bes_another(alloc: Global, pass: &mut Handle, other: &mut Hand
     }
 }
 
-/// Moves the handle's session to a closed handle, and closes this one.
+/// Moves the session of the handle to a closed handle, and closes this one.
 #[unsafe(no_mangle)]
 pub extern "C" fn bes_move(alloc: Global, pass: &mut Handle, other: &mut Handle) -> u32
     ensures { MovesHandle pass.old.owned.value other.old.owned.value pass.new.owned.value
@@ -184,8 +184,8 @@ pub extern "C" fn bes_move(alloc: Global, pass: &mut Handle, other: &mut Handle)
     DONE
 }
 
-/// Closes the handle: releases its pin and gives its pass back to the store. The last handle's
-/// close also frees the store.
+/// Closes the handle, which releases its pin and gives its pass back to the store. Closing the last
+/// handle also frees the store.
 #[unsafe(no_mangle)]
 pub extern "C" fn bes_close(alloc: Global, pass: &mut Handle) -> u32
     ensures closed { pass.new.owned.value ≡ None }
@@ -201,7 +201,7 @@ pub extern "C" fn bes_close(alloc: Global, pass: &mut Handle) -> u32
 }
 
 /// Closes the store and its last handle. Returns the journal's text and its length in bytes. If
-/// there is too little room, it returns only the length, and the handle stays open.
+/// there isn't enough room, returns only the length, and the handle stays open.
 #[unsafe(no_mangle)]
 pub extern "C" fn bes_finish(
     alloc: Global,
@@ -227,8 +227,8 @@ pub extern "C" fn bes_finish(
     }
 }
 
-/// Meets a pass that was given back: afterwards both have seen what either had. Returns the length
-/// of what they have seen.
+/// Meets a pass that was given back, so that both have then seen what either had seen. Returns the
+/// number of journal entries that they have seen.
 #[unsafe(no_mangle)]
 pub extern "C" fn bes_meet(pass: &mut Handle, seen: &mut u64) -> u32
     ensures pass { Calls pass.old.owned.value pass.new.owned.value (IsClosed seen.new result)
@@ -248,7 +248,7 @@ pub extern "C" fn bes_meet(pass: &mut Handle, seen: &mut u64) -> u32
     }
 }
 
-/// Opens the witness's handle with a witness of what the pass has seen.
+/// Opens the witness handle with a witness of what the pass has seen.
 #[unsafe(no_mangle)]
 pub extern "C" fn bes_witness_of(
     alloc: Global,
@@ -277,8 +277,8 @@ pub extern "C" fn bes_witness_of(
     }
 }
 
-/// Joins the pass and the witness: afterwards both have seen what either had. Returns the length of
-/// what they have seen.
+/// Joins the pass and the witness, so that both have then seen what either had seen. Returns the
+/// number of journal entries that they have seen.
 #[unsafe(no_mangle)]
 pub extern "C" fn bes_join(pass: &mut Handle, witness: &mut WitnessHandle, seen: &mut u64) -> u32
     requires { AreOfOneStore pass.old.owned.value witness.old.owned.value }
@@ -297,7 +297,7 @@ pub extern "C" fn bes_join(pass: &mut Handle, witness: &mut WitnessHandle, seen:
     DONE
 }
 
-/// Moves the handle's witness to a closed handle, and closes this one.
+/// Moves the witness of the handle to a closed handle, and closes this one.
 #[unsafe(no_mangle)]
 pub extern "C" fn bes_move_witness(
     alloc: Global,
@@ -321,7 +321,7 @@ pub extern "C" fn bes_move_witness(
     DONE
 }
 
-/// Closes a witness's handle.
+/// Closes a witness handle.
 #[unsafe(no_mangle)]
 pub extern "C" fn bes_dismiss(alloc: Global, witness: &mut WitnessHandle) -> u32
     ensures closed { witness.new.owned.value ≡ None }
@@ -372,8 +372,8 @@ pub extern "C" fn bes_unpin(pass: &mut Handle) -> u32
     }
 }
 
-/// Writes 1 to 64 operations, all or none. Returns the journal's length with them. For each
-/// operation it also returns the number of the node that it made, or 0, as far as there is room.
+/// Writes 1 to 64 operations, all or none. Returns the journal's length including them. For each
+/// operation, also returns the number of the node that it created, or 0, as far as there is room.
 #[unsafe(no_mangle)]
 pub extern "C" fn bes_apply(
     alloc: Global,
@@ -407,8 +407,8 @@ pub extern "C" fn bes_apply(
     }
 }
 
-/// Writes as `bes_apply` does if the journal has exactly `expected` entries. Otherwise it writes
-/// nothing and returns the length that it found.
+/// Does what `bes_apply` does if the journal has exactly `expected` entries. Otherwise writes
+/// nothing and returns the length that was found.
 #[unsafe(no_mangle)]
 pub extern "C" fn bes_apply_if(
     alloc: Global,
@@ -444,9 +444,10 @@ pub extern "C" fn bes_apply_if(
     }
 }
 
-/// Writes encoded operations as a change on the pinned snapshot, all or none, if no other write
-/// came in between. Refuses a set whose kind differs from that of the name's index, and returns its
-/// place in the list. Otherwise it does what `bes_apply_if` does with the snapshot's number.
+/// Writes encoded operations as a change on the pinned snapshot, all or none, if no other write has
+/// been made since. A set whose kind differs from that of the name's index is refused, and its
+/// place in the list is returned. Otherwise does what `bes_apply_if` does with the snapshot's
+/// number.
 #[unsafe(no_mangle)]
 pub extern "C" fn bes_apply_change(
     alloc: Global,
@@ -527,7 +528,7 @@ pub extern "C" fn bes_change_any_kind(draft: &mut DraftHandle) -> u32
 }
 
 /// Collects an operation, which is written when the change ends. Returns the number of the node
-/// that it will make, or 0.
+/// that it will create, or 0.
 #[unsafe(no_mangle)]
 pub extern "C" fn bes_change_add(
     draft: &mut DraftHandle,
@@ -551,7 +552,7 @@ pub extern "C" fn bes_change_add(
     }
 }
 
-/// Reads a node's attribute as the change's operations leave it. Otherwise as `bes_get`.
+/// Reads an attribute of a node as the change's operations leave it. Otherwise like `bes_get`.
 #[unsafe(no_mangle)]
 pub extern "C" fn bes_change_get(
     pass: &mut Handle,
@@ -583,7 +584,7 @@ pub extern "C" fn bes_change_get(
 }
 
 /// Lists the operations that the change has collected. Returns how many there are and how many
-/// bytes their parts take, and as much of both as there is room for.
+/// bytes their parts take, and as many of the operations and bytes as fit.
 #[unsafe(no_mangle)]
 pub extern "C" fn bes_change_batch(
     alloc: Global,
@@ -605,9 +606,9 @@ pub extern "C" fn bes_change_batch(
     put_encoded(encoded, counts, listed, bytes)
 }
 
-/// Ends the change: writes what it has collected if no other write came since its snapshot, and
-/// unpins the pass if `bes_begin_change` pinned it. This closes the handle, also after an error.
-/// Returns the commit number, or the snapshot's if nothing was collected.
+/// Ends the change. Writes what it has collected if no other write has been made since its
+/// snapshot, and unpins the pass if `bes_begin_change` pinned it. The handle is closed, even after
+/// an error. Returns the commit number, or the snapshot's number if nothing was collected.
 #[unsafe(no_mangle)]
 pub extern "C" fn bes_end_change(
     alloc: Global,
@@ -636,8 +637,8 @@ pub extern "C" fn bes_end_change(
     }
 }
 
-/// Ends the change without writing, and unpins the pass if `bes_begin_change` pinned it. This
-/// closes the handle, even if the pass is closed.
+/// Ends the change without writing, and unpins the pass if `bes_begin_change` pinned it. The change
+/// handle is closed, even if the handle of the pass is closed.
 #[unsafe(no_mangle)]
 pub extern "C" fn bes_abandon_change(
     alloc: Global,
@@ -659,7 +660,7 @@ pub extern "C" fn bes_abandon_change(
     DONE
 }
 
-/// Moves the handle's change to a closed handle, and closes this one.
+/// Moves the change of the handle to a closed handle, and closes this one.
 #[unsafe(no_mangle)]
 pub extern "C" fn bes_move_draft(
     alloc: Global,
@@ -697,7 +698,7 @@ pub extern "C" fn bes_number(pass: &mut Handle, number: &mut u64) -> u32
     DONE
 }
 
-/// Returns the number that the next new node would get, in the pinned version.
+/// Returns the number that the next new node would get in the pinned version.
 #[unsafe(no_mangle)]
 pub extern "C" fn bes_next(pass: &mut Handle, node: &mut u64) -> u32
     ensures pass { Calls pass.old.owned.value pass.new.owned.value (IsClosed node.new result)
@@ -717,9 +718,9 @@ pub extern "C" fn bes_next(pass: &mut Handle, node: &mut u64) -> u32
     }
 }
 
-/// Returns the journal's entry with this index, counted from 0: its pass and its operations, as
-/// many as there is room for. An operation that made a node has its number. At the journal's end
-/// there is no entry. `number` is the journal's length.
+/// Returns the journal entry at this index, counting from 0: its pass and as many of its operations
+/// as fit. An operation that created a node has the number of that node. There is no entry at the
+/// end of the journal. `number` receives the journal's length.
 #[unsafe(no_mangle)]
 pub extern "C" fn bes_journal_from(
     alloc: Global,
@@ -752,7 +753,7 @@ pub extern "C" fn bes_journal_from(
 }
 
 /// Runs the query with this text in the pinned version. Returns how many nodes it found, and as
-/// many of them as there is room for.
+/// many of them as fit.
 #[unsafe(no_mangle)]
 pub extern "C" fn bes_query(
     alloc: Global,
@@ -773,7 +774,7 @@ pub extern "C" fn bes_query(
     report(answer, nodes, count)
 }
 
-/// Runs the query that these items build in reverse Polish order. Otherwise as `bes_query`.
+/// Runs the query that these items build in reverse Polish notation. Otherwise like `bes_query`.
 #[unsafe(no_mangle)]
 pub extern "C" fn bes_query_items(
     alloc: Global,
@@ -799,8 +800,8 @@ pub extern "C" fn bes_query_items(
     report(answer, nodes, count)
 }
 
-/// Returns a text that names the indices which would answer this query in the pinned version.
-/// Returns its length in bytes, and as many of them as there is room for.
+/// Returns a text that names the indices which would be used for this query in the pinned version.
+/// Returns its length in bytes, and as many of the bytes as fit.
 #[unsafe(no_mangle)]
 pub extern "C" fn bes_explain(
     alloc: Global,
@@ -821,8 +822,8 @@ pub extern "C" fn bes_explain(
     report_text(answer, bytes, count)
 }
 
-/// Lists the pinned version's nodes from a number on, in ascending order, as many as there is room
-/// for. Returns how many it listed.
+/// Lists the nodes of the pinned version in ascending order, starting at a given number, as many as
+/// fit. Returns how many were listed.
 #[unsafe(no_mangle)]
 pub extern "C" fn bes_nodes(
     alloc: Global,
@@ -846,7 +847,7 @@ pub extern "C" fn bes_nodes(
     report(answer, nodes, count)
 }
 
-/// Returns how full the store is, and the oldest version that a pass has published.
+/// Reports how full the store is, and the oldest version that a pass has published.
 #[unsafe(no_mangle)]
 pub extern "C" fn bes_status(pass: &mut Handle, usage: &mut Usage, number: &mut u64) -> u32
     ensures pass { Calls pass.old.owned.value pass.new.owned.value (IsClosed number.new result)
@@ -866,8 +867,8 @@ pub extern "C" fn bes_status(pass: &mut Handle, usage: &mut Usage, number: &mut 
     }
 }
 
-/// Reads a node's attribute in the pinned version. Returns its type code, its number, its length in
-/// bytes, and as many of its bytes as there is room for.
+/// Reads an attribute of a node in the pinned version. Returns its type code, its number, its
+/// length in bytes, and as many of its bytes as fit.
 #[unsafe(no_mangle)]
 pub extern "C" fn bes_get(
     pass: &mut Handle,
@@ -903,7 +904,8 @@ pub extern "C" fn bes_check_name(name_bytes: &[u8], held: &mut HeldName) -> u32
     }
 }
 
-/// Reads a node's attribute in the pinned version by a checked name. Otherwise as `bes_get`.
+/// Reads an attribute of a node in the pinned version, given a checked name. Otherwise like
+/// `bes_get`.
 #[unsafe(no_mangle)]
 pub extern "C" fn bes_get_named(
     pass: &mut Handle,
@@ -922,9 +924,9 @@ pub extern "C" fn bes_get_named(
     read(pass.owned.lent(), node, held, attribute, bytes)
 }
 
-/// Reads the attributes with these names of these nodes in the pinned version. Returns a cell for
-/// each, and the bytes of all texts one after another, as many of both as there is room for.
-/// `count` is the number of bytes that all texts take.
+/// Reads the attributes with these names from each of these nodes in the pinned version. Returns
+/// one cell per node and name, and the concatenated bytes of all strings, as many of the cells and
+/// bytes as fit. `count` receives the number of bytes that are needed for all strings.
 #[unsafe(no_mangle)]
 pub extern "C" fn bes_columns(
     pass: &mut Handle,
@@ -953,8 +955,9 @@ pub extern "C" fn bes_columns(
     }
 }
 
-/// Lists a node's attributes in the pinned version, as the operations that set them. Returns how
-/// many there are and how many bytes their parts take, and as much of both as there is room for.
+/// Lists the attributes of a node in the pinned version, as the operations that set them. Returns
+/// how many there are and how many bytes their parts take, and as many of the operations and bytes
+/// as fit.
 #[unsafe(no_mangle)]
 pub extern "C" fn bes_attributes(
     alloc: Global,
@@ -978,7 +981,7 @@ pub extern "C" fn bes_attributes(
     report_attributes(alloc, node, answer, counts, listed, bytes)
 }
 
-/// Lists the pinned version's indices, as the operations that make them. Otherwise as
+/// Lists the pinned version's indices, as the operations that create them. Otherwise like
 /// `bes_attributes`.
 #[unsafe(no_mangle)]
 pub extern "C" fn bes_indices(
@@ -1002,9 +1005,9 @@ pub extern "C" fn bes_indices(
     report_indices(alloc, answer, counts, listed, bytes)
 }
 
-/// Returns the next operations that rebuild the pinned version, up to 64, and none after the last.
-/// Returns how many there are and how many bytes their parts take, and as much of both as there is
-/// room for. If there is room for all of them, the place moves past them.
+/// Returns the next operations that rebuild the pinned version, up to 64, or none after the last.
+/// Returns how many there are and how many bytes their parts take, and as many of the operations
+/// and bytes as fit. If all of them fit, the place moves past them.
 #[unsafe(no_mangle)]
 pub extern "C" fn bes_state(
     alloc: Global,
@@ -1039,7 +1042,7 @@ pub extern "C" fn bes_state(
     )
 }
 
-/// Closes a place's handle. It is then before the first operation again.
+/// Closes a place handle, which is then before the first operation again.
 #[unsafe(no_mangle)]
 pub extern "C" fn bes_leave(alloc: Global, place: &mut PlaceHandle) -> u32
     ensures closed { place.new.owned.value ≡ None }
@@ -1054,7 +1057,7 @@ pub extern "C" fn bes_leave(alloc: Global, place: &mut PlaceHandle) -> u32
     DONE
 }
 
-/// Parses a query's text, and opens the handle with the query.
+/// Parses the text of a query, and opens the handle with the query.
 #[unsafe(no_mangle)]
 pub extern "C" fn bes_prepare(
     alloc: Global,
@@ -1081,7 +1084,7 @@ pub extern "C" fn bes_prepare(
     }
 }
 
-/// Opens the handle with the query that these items build in reverse Polish order.
+/// Opens the handle with the query that these items build in reverse Polish notation.
 #[unsafe(no_mangle)]
 pub extern "C" fn bes_prepare_items(
     alloc: Global,
@@ -1109,8 +1112,8 @@ pub extern "C" fn bes_prepare_items(
     }
 }
 
-/// Returns a prepared query's canonical text: its length in bytes, and as many of them as there is
-/// room for.
+/// Returns the canonical text of a prepared query: its length in bytes, and as many of the bytes as
+/// fit.
 #[unsafe(no_mangle)]
 pub extern "C" fn bes_prepared_text(
     alloc: Global,
@@ -1135,7 +1138,7 @@ pub extern "C" fn bes_prepared_text(
     }
 }
 
-/// Moves the handle's prepared query to a closed handle, and closes this one.
+/// Moves the prepared query of the handle to a closed handle, and closes this one.
 #[unsafe(no_mangle)]
 pub extern "C" fn bes_move_prepared(
     alloc: Global,
@@ -1159,7 +1162,7 @@ pub extern "C" fn bes_move_prepared(
     DONE
 }
 
-/// Moves the handle's place to a closed handle, and closes this one.
+/// Moves the place of the handle to a closed handle, and closes this one.
 #[unsafe(no_mangle)]
 pub extern "C" fn bes_move_place(
     alloc: Global,
@@ -1183,7 +1186,7 @@ pub extern "C" fn bes_move_place(
     DONE
 }
 
-/// Closes a prepared query's handle.
+/// Closes the handle of a prepared query.
 #[unsafe(no_mangle)]
 pub extern "C" fn bes_release(alloc: Global, prepared: &mut PreparedHandle) -> u32
     ensures closed { prepared.new.owned.value ≡ None }
@@ -1198,8 +1201,8 @@ pub extern "C" fn bes_release(alloc: Global, prepared: &mut PreparedHandle) -> u
     DONE
 }
 
-/// Runs a prepared query in the pinned version, and keeps what it finds for `bes_found`. What the
-/// last refresh found stays. Otherwise as `bes_query`.
+/// Runs a prepared query in the pinned version, and keeps what it finds for `bes_found`. The
+/// results of the last refresh are unchanged. Otherwise like `bes_query`.
 #[unsafe(no_mangle)]
 pub extern "C" fn bes_query_prepared(
     pass: &mut Handle,
@@ -1225,9 +1228,9 @@ pub extern "C" fn bes_query_prepared(
     find_prepared(pass.owned.lent(), query, nodes, count)
 }
 
-/// Reads a page of a prepared query's answer in the pinned version, in the order of an index: the
-/// first nodes after the cursor, as many as there is room for. Returns them, their number, and
-/// whether there are more, and moves the cursor to the last of them.
+/// Reads a page of a prepared query's answer in the pinned version, in the order of an index. The
+/// page has the first nodes after the cursor, as many as fit. Returns the nodes, how many there
+/// are, and whether more follow, and moves the cursor to the last of them.
 #[unsafe(no_mangle)]
 pub extern "C" fn bes_ordered(
     pass: &mut Handle,
@@ -1263,8 +1266,8 @@ pub extern "C" fn bes_ordered(
     find_ordered(pass.owned.lent(), query, order, cursor, nodes, count, more)
 }
 
-/// Returns a prepared query's nodes in the pinned version from a number on, in ascending order, as
-/// many as there is room for. Also returns how many these are.
+/// Returns a prepared query's nodes in the pinned version in ascending order, starting at a given
+/// number, as many as fit. Also returns how many there are.
 #[unsafe(no_mangle)]
 pub extern "C" fn bes_first(
     pass: &mut Handle,
@@ -1290,8 +1293,8 @@ pub extern "C" fn bes_first(
     find_first(pass.owned.lent(), query, from, nodes, count)
 }
 
-/// Returns any of a prepared query's nodes in the pinned version, each only once, as many as there
-/// is room for. Also returns how many these are.
+/// Returns arbitrary nodes of a prepared query in the pinned version, without duplicates, as many
+/// as fit. Also returns how many there are.
 #[unsafe(no_mangle)]
 pub extern "C" fn bes_any(
     pass: &mut Handle,
@@ -1316,8 +1319,8 @@ pub extern "C" fn bes_any(
     find_any(pass.owned.lent(), query, nodes, count)
 }
 
-/// Returns the nodes that a prepared query found when it last ran, from an index on, as many as
-/// there is room for. `count` is how many it found in all.
+/// Returns the nodes that a prepared query found when it last ran, starting at an index, as many as
+/// fit. `count` receives how many it found in total.
 #[unsafe(no_mangle)]
 pub extern "C" fn bes_found(
     prepared: &mut PreparedHandle,
@@ -1339,8 +1342,9 @@ pub extern "C" fn bes_found(
     DONE
 }
 
-/// Refreshes a prepared query in the pinned version. Returns how many nodes have joined the answer
-/// since its last refresh, and how many have left it. `bes_changes` returns which.
+/// Refreshes a prepared query in the pinned version. Returns how many nodes have been added to the
+/// answer since the last refresh, and how many have been removed. `bes_changes` returns these
+/// nodes.
 #[unsafe(no_mangle)]
 pub extern "C" fn bes_refresh(
     pass: &mut Handle,
@@ -1362,8 +1366,8 @@ pub extern "C" fn bes_refresh(
     refresh_prepared(pass.owned.lent(), prepared.owned.lent(), counts)
 }
 
-/// Refreshes a prepared query in the pinned version by what was written since its last refresh.
-/// That has to be one in this store. Otherwise as `bes_refresh`.
+/// Refreshes a prepared query in the pinned version from what was written since its last refresh,
+/// which must have been in this store. Otherwise like `bes_refresh`.
 #[unsafe(no_mangle)]
 pub extern "C" fn bes_refresh_changed(
     pass: &mut Handle,
@@ -1387,8 +1391,8 @@ pub extern "C" fn bes_refresh_changed(
     refresh_changed(pass.owned.lent(), prepared.owned.lent(), counts)
 }
 
-/// Returns which nodes joined a prepared query's answer at its last refresh, and which left it.
-/// Writes as many of each as there is room for.
+/// Returns the nodes that the last refresh added to a prepared query's answer, and those that it
+/// removed. Writes as many of each as fit.
 #[unsafe(no_mangle)]
 pub extern "C" fn bes_changes(
     prepared: &mut PreparedHandle,
@@ -1409,8 +1413,7 @@ pub extern "C" fn bes_changes(
     DONE
 }
 
-/// Returns the journal's text up to now: its length in bytes, and as many of them as there is room
-/// for.
+/// Returns the journal's text so far: its length in bytes, and as many of the bytes as fit.
 #[unsafe(no_mangle)]
 pub extern "C" fn bes_journal(pass: &mut Handle, bytes: &mut [u8], count: &mut u64) -> u32
     ensures pass { Calls pass.old.owned.value pass.new.owned.value (IsClosed count.new result)

@@ -1,4 +1,4 @@
-//! Returns lists as the operations that would make them.
+//! Returns lists in the form of the operations that would create them.
 ghost use Rattle.std.specs.Prelude.{◌≡◌, ◌⊎◌, ℕ, List, IfOk, IfErr, length};
 ghost use Rattle.std.specs.declared.option.Option.{Option as AnyOption};
 ghost use Rattle.std.specs.declared.result.Result.{Result as AnyResult};
@@ -19,7 +19,8 @@ use be_session::{Encoding, Fault, Operation, encoded_attributes, encoded_indices
 use be_store::{Kind, Name, Value};
 use std::alloc::Global;
 
-/// Writes how many operations and bytes an encoding has, and as many of both as there is room for.
+/// Writes how many operations and bytes an encoding has, and as many of the operations and bytes as
+/// fit.
 pub(crate) fn put_encoding(
     encoding: &Encoding,
     counts: &mut Counts,
@@ -62,8 +63,8 @@ pub(crate) fn put_encoded(
     }
 }
 
-/// Writes a node's attributes, as far as there is room. What this means for the version follows
-/// from the session's own contract.
+/// Writes the attributes of a node, as far as there is room. What this means for the version
+/// follows from the session's own contract.
 pub(crate) fn report_attributes(
     alloc: Global,
     node: u64,

@@ -1,4 +1,4 @@
-//! Reads answers of prepared queries a part at a time, and refreshes queries by what was written.
+//! Reads the answers of prepared queries in parts, and refreshes queries from what was written.
 ghost use Rattle.std.specs.Prelude.{◌≡◌, ◌⊎◌, IfErr, OnOk, length};
 ghost use Rattle.be_paged_reading.specs.Cells.{name_in};
 ghost use Rattle.be_store.specs.Live.{IsLiveOf};
@@ -12,7 +12,7 @@ use crate::places::put;
 use crate::refusing::refuse;
 use be_session::{Cursor, Fault, HeldOrder, Prepared, Session};
 
-/// Writes how many nodes a prepared query has found, and as many of them as there is room for; or
+/// Writes how many nodes a prepared query has found, and as many of them as fit. On failure, writes
 /// the number that the error carries.
 fn report_found(
     answer: Result<(), Fault>,
@@ -36,7 +36,7 @@ fn report_found(
     }
 }
 
-/// 1 if there are more nodes, otherwise 0.
+/// Returns 1 if there are more nodes, and otherwise 0.
 fn number_of(others: bool) -> u32
     ensures { result ≡ more_in others }
 {
@@ -44,8 +44,8 @@ fn number_of(others: bool) -> u32
 }
 
 /// Reads a page of a prepared query's answer in the session's pinned version, in the order of an
-/// index: as many nodes as there is room for. Writes them, their number, and whether there are
-/// more, and moves the cursor to the last of them.
+/// index, with as many nodes as fit. Writes the nodes, how many there are, and whether more follow,
+/// and moves the cursor to the last of them.
 pub(crate) fn find_ordered(
     session: &mut Session,
     prepared: &mut Prepared,
@@ -73,8 +73,8 @@ pub(crate) fn find_ordered(
     }
 }
 
-/// Writes a prepared query's nodes in the session's pinned version from a number on, as many as
-/// there is room for.
+/// Writes a prepared query's nodes in the session's pinned version, starting at a given number, as
+/// many as fit.
 pub(crate) fn find_first(
     session: &mut Session,
     prepared: &mut Prepared,
@@ -93,8 +93,7 @@ pub(crate) fn find_first(
     report_found(answer, prepared, nodes, count)
 }
 
-/// Writes any of a prepared query's nodes in the session's pinned version, as many as there is room
-/// for.
+/// Writes arbitrary nodes of a prepared query in the session's pinned version, as many as fit.
 pub(crate) fn find_any(
     session: &mut Session,
     prepared: &mut Prepared,
@@ -112,9 +111,9 @@ pub(crate) fn find_any(
     report_found(answer, prepared, nodes, count)
 }
 
-/// Refreshes a prepared query in the session's pinned version by what was written since its last
-/// refresh. That has to be one in the session's store. Writes how many nodes joined the query's
-/// answer and how many left it.
+/// Refreshes a prepared query in the session's pinned version from what was written since its last
+/// refresh, which must have been in the session's store. Writes how many nodes were added to the
+/// query's answer and how many were removed.
 pub(crate) fn refresh_changed(
     session: &mut Session,
     prepared: &mut Prepared,

@@ -1,6 +1,7 @@
-//! What a pass's handle owns: a session's box, kept as a pointer, or nothing.
+//! The content of a pass handle: a boxed session that is kept as a pointer, or nothing.
 //!
-//! The pointer's type doesn't name the session's, so the struct can lie in memory that C passes.
+//! The type of the pointer doesn't mention the session, so the struct can be stored in memory that
+//! C passes.
 ghost use Rattle.std.specs.Prelude.{◌≡◌, Option, None, Some, is_some, true};
 ghost use Rattle.std.specs.contracts.impls.GlobalAllocator.TheImpl.{ghosts};
 ghost use Rattle.be_session.specs.declared.session.Session.{Session};
@@ -30,7 +31,7 @@ impl Owned {
     ghost use Rattle.std.specs.Borrow.{sem};
     ghost use Rattle.bestore_c.specs.Lent.{LendsSession};
 
-    /// Lends the owned session. After the borrow the handle owns what the session has become.
+    /// Lends the owned session. When the borrow ends, the handle owns the session as it is then.
     pub fn lent(&mut self) -> &mut Session
         requires { is_some self.old.value ≡ true }
         ensures* writes_back { sem 𝓛 (LendsSession self.entry result) }
@@ -39,7 +40,7 @@ impl Owned {
         unsafe { &mut *(self.at as *mut Session) }
     }
 
-    /// An owner of nothing: a null pointer.
+    /// Returns an owner of nothing, which is a null pointer.
     pub fn none(alloc: Global) -> Owned
         ensures { result.value ≡ None }
     {
@@ -70,14 +71,14 @@ impl Owned {
         }
     }
 
-    /// Takes ownership of this session, whose box becomes a pointer.
+    /// Takes ownership of a session, whose box becomes a pointer.
     pub fn of(session: Box<Session, Global>) -> Owned
         ensures { result.value ≡ Some session.value }
     {
         Owned::of_loose(Loose::of(session))
     }
 
-    /// Makes the owned session's box again.
+    /// Turns the owned session back into a box.
     pub fn into_box(self) -> Box<Session, Global>
         requires { is_some self.value ≡ true }
         ensures { self.value ≡ Some result.value }

@@ -1,5 +1,5 @@
-//! What a change's handle owns: a change's box, kept as a pointer, or nothing. As in `owned`, the
-//! struct can lie in memory that C passes.
+//! The content of a change handle: a boxed change that is kept as a pointer, or nothing. As in
+//! `owned`, the struct can be stored in memory that C passes.
 ghost use Rattle.std.specs.Prelude.{◌≡◌, Option, None, Some, is_some, true};
 ghost use Rattle.std.specs.contracts.impls.GlobalAllocator.TheImpl.{ghosts};
 ghost use Rattle.be_change.specs.declared.changes.Change.{Change};
@@ -29,7 +29,7 @@ impl OwnedDraft {
     ghost use Rattle.std.specs.Borrow.{sem};
     ghost use Rattle.bestore_c.specs.Lent.{LendsDraft};
 
-    /// Lends the owned change. After the borrow the handle owns what the change has become.
+    /// Lends the owned change. When the borrow ends, the handle owns the change as it is then.
     pub fn lent(&mut self) -> &mut Change
         requires { is_some self.old.value ≡ true }
         ensures* writes_back { sem 𝓛 (LendsDraft self.entry result) }
@@ -38,7 +38,7 @@ impl OwnedDraft {
         unsafe { &mut *(self.at as *mut Change) }
     }
 
-    /// An owner of nothing: a null pointer.
+    /// Returns an owner of nothing, which is a null pointer.
     pub fn none(alloc: Global) -> OwnedDraft
         ensures { result.value ≡ None }
     {
@@ -69,14 +69,14 @@ impl OwnedDraft {
         }
     }
 
-    /// Takes ownership of this change, whose box becomes a pointer.
+    /// Takes ownership of a change, whose box becomes a pointer.
     pub fn of(change: Box<Change, Global>) -> OwnedDraft
         ensures { result.value ≡ Some change.value }
     {
         OwnedDraft::of_loose(Loose::of(change))
     }
 
-    /// Makes the owned change's box again.
+    /// Turns the owned change back into a box.
     pub fn into_box(self) -> Box<Change, Global>
         requires { is_some self.value ≡ true }
         ensures { self.value ≡ Some result.value }

@@ -1,5 +1,5 @@
-//! What a place's handle owns: a place's box, kept as a pointer, or nothing. As in `owned`, the
-//! struct can lie in memory that C passes.
+//! The content of a place handle: a boxed place that is kept as a pointer, or nothing. As in
+//! `owned`, the struct can be stored in memory that C passes.
 ghost use Rattle.std.specs.Prelude.{◌≡◌, Option, None, Some, is_some, true};
 ghost use Rattle.std.specs.contracts.impls.GlobalAllocator.TheImpl.{ghosts};
 ghost use Rattle.be_session.specs.declared.states.StatePlace.{StatePlace};
@@ -27,7 +27,7 @@ impl OwnedPlace {
     ghost use Rattle.std.specs.Borrow.{sem};
     ghost use Rattle.bestore_c.specs.Lent.{LendsPlace};
 
-    /// Lends the owned place. After the borrow the handle owns what the place has become.
+    /// Lends the owned place. When the borrow ends, the handle owns the place as it is then.
     pub fn lent(&mut self) -> &mut StatePlace
         requires { is_some self.old.value ≡ true }
         ensures* writes_back { sem 𝓛 (LendsPlace self.entry result) }
@@ -36,7 +36,7 @@ impl OwnedPlace {
         unsafe { &mut *(self.at as *mut StatePlace) }
     }
 
-    /// An owner of nothing: a null pointer.
+    /// Returns an owner of nothing, which is a null pointer.
     pub fn none(alloc: Global) -> OwnedPlace
         ensures { result.value ≡ None }
     {
@@ -67,14 +67,14 @@ impl OwnedPlace {
         }
     }
 
-    /// Takes ownership of this place, whose box becomes a pointer.
+    /// Takes ownership of a place, whose box becomes a pointer.
     pub fn of(place: Box<StatePlace, Global>) -> OwnedPlace
         ensures { result.value ≡ Some place.value }
     {
         OwnedPlace::of_loose(Loose::of(place))
     }
 
-    /// Makes the owned place's box again.
+    /// Turns the owned place back into a box.
     pub fn into_box(self) -> Box<StatePlace, Global>
         requires { is_some self.value ≡ true }
         ensures { self.value ≡ Some result.value }

@@ -1,5 +1,5 @@
-//! What a prepared query's handle owns: a prepared query's box, kept as a pointer, or nothing. As
-//! in `owned`, the struct can lie in memory that C passes.
+//! The content of a prepared query's handle: a boxed prepared query that is kept as a pointer, or
+//! nothing. As in `owned`, the struct can be stored in memory that C passes.
 ghost use Rattle.std.specs.Prelude.{◌≡◌, Option, None, Some, is_some, true};
 ghost use Rattle.std.specs.Coded.{coded_option};
 ghost use Rattle.std.specs.contracts.impls.GlobalAllocator.TheImpl.{ghosts};
@@ -29,7 +29,7 @@ impl OwnedQuery {
     ghost use Rattle.std.specs.Borrow.{sem};
     ghost use Rattle.bestore_c.specs.Lent.{LendsQuery};
 
-    /// Lends the owned query. After the borrow the handle owns what the query has become.
+    /// Lends the owned query. When the borrow ends, the handle owns the query as it is then.
     pub fn lent(&mut self) -> &mut Prepared
         requires { is_some self.old.value ≡ true }
         ensures* writes_back { sem 𝓛 (LendsQuery self.entry result) }
@@ -38,7 +38,7 @@ impl OwnedQuery {
         unsafe { &mut *(self.at as *mut Prepared) }
     }
 
-    /// An owner of nothing: a null pointer.
+    /// Returns an owner of nothing, which is a null pointer.
     pub fn none(alloc: Global) -> OwnedQuery
         ensures { result.value ≡ None }
     {
@@ -69,14 +69,14 @@ impl OwnedQuery {
         }
     }
 
-    /// Takes ownership of this query, whose box becomes a pointer.
+    /// Takes ownership of a query, whose box becomes a pointer.
     pub fn of(prepared: Box<Prepared, Global>) -> OwnedQuery
         ensures { result.value ≡ Some prepared.value }
     {
         OwnedQuery::of_loose(Loose::of(prepared))
     }
 
-    /// Makes the owned query's box again.
+    /// Turns the owned query back into a box.
     pub fn into_box(self) -> Box<Prepared, Global>
         requires { is_some self.value ≡ true }
         ensures { self.value ≡ Some result.value }

@@ -1,5 +1,5 @@
-//! What a witness's handle owns: a witness's box, kept as a pointer, or nothing. As in `owned`, the
-//! struct can lie in memory that C passes.
+//! The content of a witness handle: a boxed witness that is kept as a pointer, or nothing. As in
+//! `owned`, the struct can be stored in memory that C passes.
 ghost use Rattle.std.specs.Prelude.{◌≡◌, Option, None, Some, is_some, true};
 ghost use Rattle.std.specs.contracts.impls.GlobalAllocator.TheImpl.{ghosts};
 ghost use Rattle.be_table.specs.declared.witness.Witness.{Witness};
@@ -29,7 +29,7 @@ impl OwnedWitness {
     ghost use Rattle.std.specs.Borrow.{sem};
     ghost use Rattle.bestore_c.specs.Lent.{LendsWitness};
 
-    /// Lends the owned witness. After the borrow the handle owns what the witness has become.
+    /// Lends the owned witness. When the borrow ends, the handle owns the witness as it is then.
     pub fn lent(&mut self) -> &mut Witness
         requires { is_some self.old.value ≡ true }
         ensures* writes_back { sem 𝓛 (LendsWitness self.entry result) }
@@ -38,7 +38,7 @@ impl OwnedWitness {
         unsafe { &mut *(self.at as *mut Witness) }
     }
 
-    /// An owner of nothing: a null pointer.
+    /// Returns an owner of nothing, which is a null pointer.
     pub fn none(alloc: Global) -> OwnedWitness
         ensures { result.value ≡ None }
     {
@@ -69,14 +69,14 @@ impl OwnedWitness {
         }
     }
 
-    /// Takes ownership of this witness, whose box becomes a pointer.
+    /// Takes ownership of a witness, whose box becomes a pointer.
     pub fn of(witness: Box<Witness, Global>) -> OwnedWitness
         ensures { result.value ≡ Some witness.value }
     {
         OwnedWitness::of_loose(Loose::of(witness))
     }
 
-    /// Makes the owned witness's box again.
+    /// Turns the owned witness back into a box.
     pub fn into_box(self) -> Box<Witness, Global>
         requires { is_some self.value ≡ true }
         ensures { self.value ≡ Some result.value }

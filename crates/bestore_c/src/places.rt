@@ -1,10 +1,10 @@
-//! Writes to C's arrays, as far as there is room.
+//! Writes to arrays of C, as far as there is room.
 ghost use Rattle.std.specs.Prelude.{◌≡◌, drop, map};
 ghost use Rattle.bestore_c.specs.Places.{over, node_of};
 
 use be_store::Done;
 
-/// Copies as many items as fit to the first places. The other places keep what they had.
+/// Copies as many items as fit to the first places. The remaining places are unchanged.
 pub(crate) fn put<T: Copy>(places: &mut [T], numbers: &[T])
     ensures { places.new ≡ over numbers.now places.old }
 {
@@ -15,7 +15,7 @@ pub(crate) fn put<T: Copy>(places: &mut [T], numbers: &[T])
     }
 }
 
-/// The numbers from an index on. There are none if the index is at the end or beyond it.
+/// Returns the numbers starting at an index. There are none if the index is at or past the end.
 pub(crate) fn from_on(numbers: &[u64], from: u64) -> &[u64]
     ensures { result.now ≡ drop from numbers.now }
 {

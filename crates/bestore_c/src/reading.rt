@@ -1,7 +1,7 @@
-//! Reads an attribute into C's places.
+//! Reads an attribute into memory that C provides.
 //!
-//! A value's bytes go from its page to the caller's places. The pin is tested first. So the proof
-//! needs only what the session says about a pinned read.
+//! The bytes of a value are copied from its page directly to the caller's memory. The pin is
+//! checked first, so the proof needs only what the session says about a pinned read.
 ghost use Rattle.std.specs.Prelude.{◌≡◌, ◌⊎◌};
 ghost use Rattle.be_paged_reading.specs.Cells.{name_in};
 ghost use Rattle.be_store.specs.Passes.{HasRead, volume_pinned};
@@ -13,10 +13,10 @@ use crate::handle::Attribute;
 use be_session::{Fault, Session};
 use be_store::{Cell, HeldName};
 
-/// The error's number for a name that the node doesn't have.
+/// The number of the error for a name that the node doesn't have.
 pub(crate) const NO_ATTRIBUTE: u32 = 3;
 
-/// A value as C gets it, from its cell.
+/// Converts a cell to a value as it is returned to C.
 fn attribute_of(cell: Cell) -> Attribute
     ensures { result ≡ record { code = cell.code; length = cell.length; number = cell.number } }
 {

@@ -1,11 +1,11 @@
-//! What a call that did nothing returns: an error's code, and the number that goes with it.
+//! What a call that did nothing returns: the code of an error, and the number that goes with it.
 ghost use Rattle.std.specs.Prelude.{◌≡◌};
 ghost use Rattle.be_session.specs.Fault.{fault_code};
 ghost use Rattle.bestore_c.specs.Calls.{Refuses};
 
 use be_session::{Fault, ListFault};
 
-/// Writes the number that an error carries, and returns the error's code.
+/// Writes the number that an error carries, and returns the code of the error.
 pub(crate) fn refuse(fault: Fault, number: &mut u64) -> u32
     ensures { Refuses fault number.new result }
 {
@@ -13,7 +13,7 @@ pub(crate) fn refuse(fault: Fault, number: &mut u64) -> u32
     fault.code()
 }
 
-/// Writes the place of the list's invalid item, and returns the error's code.
+/// Writes the place of the invalid item in the list, and returns the code of the error.
 pub(crate) fn refuse_list(invalid: ListFault, number: &mut u64) -> u32
     ensures code { result ≡ fault_code invalid.fault }
     ensures place { number.new ≡ invalid.place }

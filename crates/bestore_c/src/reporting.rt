@@ -1,11 +1,11 @@
-//! A store's figures, as C gets them.
+//! The figures of a store, as they are returned to C.
 ghost use Rattle.std.specs.Prelude.{◌≡◌};
 ghost use Rattle.bestore_c.specs.Usage.{Shows};
 
 use crate::handle::Usage;
 use be_store::Status;
 
-/// A store's figures. A flag says whether there is an oldest version.
+/// Returns the figures of a store. A flag says whether there is an oldest version.
 pub(crate) fn usage_of(status: &Status) -> Usage
     ensures { Shows status.now result }
 {

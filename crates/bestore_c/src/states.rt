@@ -1,4 +1,4 @@
-//! Returns the operations that rebuild a version, list by list.
+//! Returns the operations that rebuild a version, one list at a time.
 ghost use Rattle.std.specs.Prelude.{◌≡◌, ◌⊎◌, ◌≤◌, [], OnOk, length, true};
 ghost use Rattle.be_store.specs.Passes.{HasRead, volume_pinned};
 ghost use Rattle.be_session.specs.States.{unreported, waiting};
@@ -12,7 +12,7 @@ use crate::owned_place::OwnedPlace;
 use be_session::{Operation, Session, StatePlace};
 use std::alloc::{AllocError, Global};
 
-/// Opens a place's handle if it is closed.
+/// Opens the handle of a place if it is closed.
 pub(crate) fn begin(alloc: Global, place: &mut PlaceHandle) -> Result<(), AllocError>
     ensures same { (volume : State) → unreported_at volume place.new.owned.value
         ≡ unreported_at volume place.old.owned.value }

@@ -1,5 +1,5 @@
-//! Calls on the texts of queries: what a query compares, and how to put a text into one. These
-//! calls take no handle.
+//! Calls on the texts of queries: listing what a query compares, and escaping a text for use in a
+//! query. These calls take no handle.
 ghost use Rattle.std.specs.Prelude.{◌≡◌, ◌⊎◌, ◌≢◌, ℕ, List, IfErr, IfOk, None, false, length, map};
 ghost use Rattle.std.specs.Prelude.{string_bytes};
 ghost use Rattle.be_query.specs.Faults.{fault};
@@ -26,12 +26,12 @@ use be_store::Refusal;
 use std::alloc::{AllocError, Global};
 use std::str;
 
-/// The number of a call that ran out of memory.
+/// The number of the error for running out of memory.
 const NO_MEMORY: u32 = 10;
 
-/// Lists the comparisons in a query's text, from left to right, and the bytes of their names and
-/// values. Writes as many as there is room for. If the text isn't a query, it returns the error and
-/// the number that goes with it.
+/// Lists the comparisons in the text of a query, from left to right, and the bytes of their names
+/// and values. Writes as many as fit. If the text isn't a query, returns the error and the number
+/// that goes with it.
 #[unsafe(no_mangle)]
 pub extern "C" fn bes_query_comparisons(
     alloc: Global,
@@ -67,7 +67,7 @@ pub extern "C" fn bes_query_comparisons(
 }
 
 /// Escapes a text so that a query reads it back as a name or a value. Returns the length of the
-/// result in bytes, and as many of them as there is room for.
+/// result in bytes, and as many of the bytes as fit.
 #[unsafe(no_mangle)]
 pub extern "C" fn bes_escape_bytes(
     alloc: Global,
@@ -88,8 +88,8 @@ pub extern "C" fn bes_escape_bytes(
     }
 }
 
-/// Makes a pattern that matches every text which differs from this one only in upper and lower
-/// case. Otherwise as `bes_escape_bytes`.
+/// Creates a pattern that matches every text which equals this one except for case. Otherwise like
+/// `bes_escape_bytes`.
 #[unsafe(no_mangle)]
 pub extern "C" fn bes_any_case_bytes(
     alloc: Global,
@@ -124,7 +124,7 @@ fn comparisons_of(alloc: Global, text: &[u8]) -> Result<Vec<Compared>, Fault>
     }
 }
 
-/// Writes a text that one of these calls made, as far as there is room.
+/// Writes the text that one of these calls created, as far as there is room.
 fn report_made(made: Result<String, AllocError>, bytes: &mut [u8], count: &mut u64) -> u32
     ensures made { IfOk made (λ s. (result ≡ 0) × (count.new ≡ length (string_bytes s))
         × (bytes.new ≡ over (string_bytes s) bytes.old)) }

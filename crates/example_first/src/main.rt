@@ -1,4 +1,5 @@
-//! A first program with the store: it files a letter, queries who wrote, and prints the journal.
+//! A first program with the store: it files a letter, queries the store for senders, and prints the
+//! journal.
 #![tactic(auto)]
 
 use be_store::{ApplyIfError, Journal, Kind, Limits, Name, Op, Store, Value, parse};
@@ -6,7 +7,7 @@ use std::alloc::AllocGlobal;
 use std::io;
 use std::process::ExitCode;
 
-/// The nodes of the letters whose sender begins with an A, and the store's journal.
+/// The nodes of the letters whose sender begins with A, and the store's journal.
 fn first_letters<R: AllocGlobal>(rt: &R) -> Result<(Vec<u64>, Journal), ApplyIfError> {
     let limits = Limits {
         pages: 64,

@@ -1,4 +1,4 @@
--- If two passes write and then query, the one that wrote later queries the whole journal.
+-- If two passes write and then query, the later writer queries the whole journal.
 use Rattle.std.proofs.Common.{◌≡◌, ◌≢◌, ◌<◌, ◌≤◌, ◌+◌, ◌⊎◌, inl, inr, ℕ, zero, suc, List, [], ◌∷◌, ◌++◌, length, take, Option, Some, None, refl, sym, ap, ◌∙◌, subst, arith, length-append}
 use Rattle.std.specs.Prelude.{All, Ok, Result, map, slice_get}
 use Rattle.std.proofs.lemmas.Bool.{cases_lt, eq-eqb, ne_eqb}
@@ -27,7 +27,7 @@ written_of : (xs : List (Step volume × PassView volume)) → written volume xs 
 written_of [] = refl
 written_of (x ∷ xs) = ap (λ (l : List Entry). written_by volume x.0 ++ l) (written_of xs)
 
--- each entry is by one of the two passes
+-- each entry was written by one of the two passes
 count : (log : List Entry) → All (λ (e : Entry). (0 ≡ e.by) ⊎ (1 ≡ e.by)) log → length log ≡ length (entries_by volume 0 log) + length (entries_by volume 1 log)
 count [] all = refl
 count (e ∷ log) all = one (All-head (λ (x : Entry). (0 ≡ x.by) ⊎ (1 ≡ x.by)) e log all) (count log (All-tail (λ (x : Entry). (0 ≡ x.by) ⊎ (1 ≡ x.by)) e log all))
@@ -39,7 +39,7 @@ count (e ∷ log) all = one (All-head (λ (x : Entry). (0 ≡ x.by) ⊎ (1 ≡ x
 
 -- ## What a visit found
 
--- a run whose first step is this one
+-- a run that begins with this step
 first_step : (s : Step volume) (steps : List (Step volume)) (xs : List (Step volume × PassView volume)) → map (λ (x : Step volume × PassView volume). x.0) xs ≡ s ∷ steps
     → (c : PassView volume) × (rest : List (Step volume × PassView volume)) × (xs ≡ (s, c) ∷ rest) × (map (λ (x : Step volume × PassView volume). x.0) rest ≡ steps)
 first_step s steps [] e = absurd (let short = ap length e in omega (arith, short))
@@ -54,7 +54,7 @@ first_step s steps (x ∷ xs) e =
     but_head [] = []
     but_head (y ∷ ys) = ys
 
--- the view c after a step of a run, and what remains of the run
+-- the view c after a step of a run, and the rest of the run
 record After (journal : List Entry) (a : PassView volume) (s : Step volume) (steps : List (Step volume)) (z : PassView volume) : Type 0 where
   c : PassView volume
   leads : Leads volume a s c
@@ -72,7 +72,7 @@ after journal a s steps xs z e run kept =
     let kept_here : AreKept volume journal a ((s, f.0) ∷ f.1) = subst (AreKept volume journal a) f.2 kept in
     record { c = f.0; leads = run_here.0; kept = kept_here.0; rest = f.1; named = f.3; run = run_here.1; all = kept_here.2 }
 
--- what is known about a visit that wrote entry e with the number n and found these nodes
+-- what is known about a visit that wrote entry e at the number n and found these nodes
 record Visited (journal : List Entry) (query : Formula) (seen : ℕ) (e : Entry) (n : ℕ) (nodes : List ℕ) : Type 0 where
   later : seen < n
   place : (i : ℕ) × (n ≡ suc i) × (slice_get journal i ≡ Some e)
@@ -112,7 +112,7 @@ abbrev nodes_in : Answer → Result (List ℕ) Refusal
 nodes_in (Nodes r) = r
 nodes_in other = Ok []
 
--- the later write's entry is the last, so the pin after it is at the whole journal
+-- the later write's entry is the last, so the pin after it includes the whole journal
 at_last : (journal : List Entry) (query : Formula) (seen : ℕ) (e : Entry) (n : ℕ) (nodes : List ℕ) → length journal ≡ 3 → n ≡ 3 → Visited journal query seen e n nodes → scan (state_of volume journal) query ≡ Ok nodes
 at_last journal query seen e n nodes three last v =
     let late = v.late in

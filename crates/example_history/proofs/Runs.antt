@@ -1,4 +1,4 @@
--- The calls of two passes, as runs of be_store's small machine.
+-- The calls of two passes, as runs in be_store's small machine.
 use Rattle.std.proofs.Common.{◌≡◌, ℕ, List, [], ◌∷◌, refl, sym, ap, ◌∙◌, ◌++◌, subst, arith}
 use Rattle.std.specs.Prelude.{◌≢◌, All, AllPairs, map}
 use Rattle.std.proofs.lemmas.List.Elements.{All-cons, All-nil}
@@ -48,7 +48,7 @@ two_apart first second none one =
     (All-cons (λ k. first.number ≢ k) second.number [] (λ same. omega (arith, none, one, same)) (All-nil (λ k. first.number ≢ k)))
     (AllPairs-cons ◌≢◌ second.number [] (All-nil (λ k. second.number ≢ k)) (λ i j d lt end. absurd (omega (arith, end))))
 
--- a first write, and what each pass then called, given the passes' numbers
+-- a first write and each pass's later calls are one history, given the passes' numbers
 pub history_of_two : Law → (journal : List Entry) (a b w z y : Knowledge) (begin more other : ℕ → List (Step volume)) → IsNew a 0 → IsNew b 1 → Calls a (begin a.number) w → Calls w (more w.number) z → Calls b (other b.number) y → IsClosed 2 journal (z ∷ y ∷ [])
     → IsHistoryOf journal (begin 0 ++ more 0) (other 1)
 history_of_two law journal a b w z y begin more other new_a new_b began went made closed =

@@ -1,4 +1,4 @@
--- The calls of a thread that writes and then runs a query, as steps of be_store's small machine.
+-- The calls of a thread that writes and then runs a query, as steps in be_store's small machine.
 use Rattle.std.specs.Prelude.{◌≡◌, ◌≢◌, ◌<◌, ℕ, List, [], ◌∷◌, ◌++◌, length, map, Ok, Some}
 use Rattle.be_journal.specs.declared.entries.Entry.{Entry}
 use Rattle.be_journal.specs.Journal.{replay}
@@ -13,21 +13,21 @@ use Rattle.be_store.specs.OneHistory.{IsOneHistory, PassRun, steps_of}
 use Rattle.be_store.specs.SmallMachine.{Step, Apply, Pin, Unpin, Read}
 use Rattle.be_store.specs.Views.{Nodes, volume}
 
--- what pass k of a store knows at first
+-- the knowledge that pass k of a store begins with
 abbrev pub IsNew : Knowledge → ℕ → Type 0
 IsNew a k = (limits : Limits) × (steps : ℕ) × (a ≡ newcomer limits steps k)
 
--- Pass k writes these operations. The write is accepted with the commit number n and these
+-- Pass k writes these operations. The write is accepted, with the commit number n and these
 -- outcomes.
 abbrev pub writes : ℕ → List Op → ℕ → List Done → List (Step volume)
 writes k ops n dones = Apply (record { by = k; ops = ops; dones = dones }) n ∷ []
 
--- A pass pins and gets this commit number, runs the query and gets these nodes, and unpins.
+-- A pass pins and gets this commit number, runs the query and gets these nodes, and then unpins.
 abbrev pub asks : Formula → ℕ → List ℕ → List (Step volume)
 asks query pin nodes = Pin pin ∷ Read (λ s. Nodes (scan s query)) (Some (Nodes (Ok nodes))) ∷ Unpin
     ∷ []
 
--- a write, and then a query
+-- a write followed by a query
 abbrev pub visits : ℕ → List Op → ℕ → List Done → Formula → ℕ → List ℕ → List (Step volume)
 visits k ops n dones query pin nodes = writes k ops n dones ++ asks query pin nodes
 
@@ -38,7 +38,7 @@ IsHistoryOf journal first second = (runs : List (PassRun volume))
     × (map (steps_of volume) runs ≡ first ∷ second ∷ []) × IsOneHistory volume journal runs
 
 -- The journal has three entries. The writes a and b have different numbers, and the query after the
--- later write found what the volume has in the end.
+-- later write found the nodes that match in the final volume.
 abbrev pub FindsAll : List Entry → Formula → (a b : ℕ) → (found_a found_b : List ℕ) → Type 0
 FindsAll journal query a b found_a found_b = (length journal ≡ 3) × (a ≢ b)
     × (b < a → scan (replay journal) query ≡ Ok found_a)

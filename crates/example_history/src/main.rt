@@ -1,6 +1,6 @@
-//! In one store, two threads each sign a letter and query which letters are signed. The store's
-//! journal is one history of all calls of both. The contract of `sign_both` says so, in terms of
-//! be_store's statement.
+//! Two threads share one store. Each signs a letter and queries which letters are signed. The
+//! store's journal is one history of all the calls of both threads. The contract of `sign_both`
+//! says so, in terms of be_store's main statement.
 #![tactic(auto)]
 
 ghost use Rattle.std.specs.Prelude.{◌≡◌, ◌≤◌, ℕ, [], ◌∷◌, ◌++◌, IfOk, None, length};
@@ -20,32 +20,32 @@ use std::process::ExitCode;
 use std::thread::Threads;
 use std::{io, thread};
 
-/// The maximum number of tries of a write while another pass is writing.
+/// The maximum number of times that a write is tried while another pass is writing.
 const TRIES: u64 = 10_000_000;
 
-/// What an accepted write returned: its commit number, and the outcomes of its operations.
+/// The result of an accepted write: its commit number, and the outcomes of its operations.
 #[derive(Drop)]
 struct Accepted {
     number: u64,
     outcomes: ArrayVec<Done, 64>,
 }
 
-/// What a query found: the nodes, and the commit number of its pin.
+/// The result of a query: the nodes, and the commit number of its pin.
 #[derive(Drop)]
 struct Found {
     pin: u64,
     nodes: Vec<u64>,
 }
 
-/// What the calls of one thread returned.
+/// The results of one thread's calls.
 #[derive(Drop)]
 struct Visit {
     signed: Accepted,
     found: Found,
 }
 
-/// What all calls on a store returned: a write before the threads, both threads' calls, and the
-/// journal when the store was closed.
+/// The results of all calls on a store: those of a write before the threads start and of both
+/// threads' calls, and the journal returned when the store was closed.
 #[derive(Drop)]
 struct Outcome {
     begun: Accepted,
@@ -54,7 +54,7 @@ struct Outcome {
     journal: Journal,
 }
 
-/// Makes one write.
+/// Writes the operations once.
 fn write(store: &Store, pass: &mut Pass, ops: &[Op]) -> Result<Accepted, Refusal>
     requires pass { IsPassOf store.now pass.old }
     requires count { (1 ≤ length ops.now) × (length ops.now ≤ 64) }
@@ -67,7 +67,7 @@ fn write(store: &Store, pass: &mut Pass, ops: &[Op]) -> Result<Accepted, Refusal
     Ok(Accepted { number, outcomes })
 }
 
-/// Runs a query at a pin.
+/// Pins, runs a query, and unpins.
 fn ask(alloc: Global, store: &Store, pass: &mut Pass, query: &Query) -> Result<Found, Refusal>
     requires pass { IsPassOf store.now pass.old }
     requires unpinned { pinned_number pass.old.knows.phase ≡ None }
@@ -82,7 +82,7 @@ fn ask(alloc: Global, store: &Store, pass: &mut Pass, query: &Query) -> Result<F
     Ok(Found { pin, nodes })
 }
 
-/// Writes, and then runs a query. It returns the pass.
+/// Writes, and then runs a query. Returns the pass.
 fn write_then_ask(
     alloc: Global,
     store: &Store,
@@ -118,7 +118,7 @@ fn both_of(mut passes: Vec<Pass>) -> Result<(Pass, Pass), Refusal>
     }
 }
 
-/// Opens a store of two passes.
+/// Opens a store with two passes.
 fn open_two(alloc: Global) -> Result<(Store, Pass, Pass), Refusal>
     ensures two { IfOk result (λ r. r.0.limits.passes ≡ 2) }
     ensures first { IfOk result (λ r. IsPassOf r.0 r.1 × IsNew r.1.knows 0) }
@@ -134,7 +134,7 @@ fn open_two(alloc: Global) -> Result<(Store, Pass, Pass), Refusal>
     Ok((store, first, second))
 }
 
-/// Closes a store of two passes.
+/// Closes a store with two passes.
 #[tactic(auto, using(crate::proofs::Runs::two_apart))]
 fn close_two(alloc: Global, store: Store, first: Pass, second: Pass) -> Result<Journal, Refusal>
     requires first { IsPassOf store first × (first.knows.number ≡ 0) }
@@ -148,7 +148,7 @@ fn close_two(alloc: Global, store: Store, first: Pass, second: Pass) -> Result<J
     Ok(store.close(passes))
 }
 
-/// Lets two threads each make a write and run the same query.
+/// Runs two threads, each of which makes a write and runs the same query.
 fn sign_at_once<R: Threads + Sync>(
     rt: &R,
     alloc: Global,
@@ -197,11 +197,12 @@ fn sign_at_once<R: Threads + Sync>(
     )
 }
 
-/// Makes a write, and then lets two threads each make a write and run the same query. The journal
-/// is one history of all these calls. It has each write once, at the commit number that the write
-/// returned. Each query found what the volume has after the prefix that its pin names. So the later
-/// of the two found what the volume has in the end. If a call is refused, the store isn't closed,
-/// and nothing is said about what the other calls returned.
+/// Makes a write, and then runs two threads, each of which makes a write and runs the same query.
+/// The journal is one history of all these calls. It contains each write once, at the commit number
+/// that the write returned. Each query found the nodes that match in the volume after the prefix
+/// that its pin names. So the query after the later write found the nodes that match in the final
+/// volume. If a call is refused, the store isn't closed, and the contract says nothing about the
+/// results of the other calls.
 fn sign_both<R: AllocGlobal + Threads + Sync>(
     rt: &R,
     begin: &[Op],
@@ -238,9 +239,9 @@ fn sign_both<R: AllocGlobal + Threads + Sync>(
     })
 }
 
-/// Makes an index and two letters, and lets Ann and Bob each sign one. The journal then has these
-/// three entries, and the later of the two found what the volume has in the end. If a call is
-/// refused, nothing is said.
+/// Creates an index and two letters, and lets Ann and Bob each sign one. The journal then has these
+/// three entries, and the query after the later write found the nodes that match in the final
+/// volume. If a call is refused, the contract says nothing.
 fn letters<R: AllocGlobal + Threads + Sync>(rt: &R) -> Result<Outcome, Refusal>
     ensures three { IfOk result (λ o. length o.journal.entries ≡ 3) }
     ensures later { IfOk result (λ o. (query : Formula) × FindsAll o.journal.entries query
@@ -265,8 +266,8 @@ fn found_by_later(outcome: &Outcome) -> usize {
 }
 
 /// Prints the number of entries in the journal, and the number of letters that the later writer
-/// found. The contract of `letters` says that the volume has these letters in the end, whatever the
-/// threads do. That there are two of them is tested.
+/// found. The contract of `letters` says that these are the letters that match in the final volume,
+/// whatever the threads do. A test checks that there are two of them.
 fn main(rt: HostRuntime) -> io::Result<ExitCode> {
     match letters(&rt) {
         Ok(outcome) => {

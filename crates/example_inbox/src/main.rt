@@ -1,5 +1,5 @@
-//! An inbox in a store: two threads file letters, while a third runs a live query at the version it
-//! has pinned.
+//! An inbox in a store: two threads file letters while a third runs a live query at the version
+//! that it has pinned.
 #![tactic(auto)]
 
 ghost use Rattle.std.specs.Prelude.{◌≡◌, ℕ, None};
@@ -12,7 +12,7 @@ use std::process::ExitCode;
 use std::thread::Threads;
 use std::{io, thread};
 
-/// The maximum number of tries of a write while another pass is writing.
+/// The maximum number of times that a write is tried while another pass is writing.
 const TRIES: u64 = 10_000_000;
 
 /// Files a letter: a node with the sender's name and the time of arrival, in seconds since 1970.
@@ -29,7 +29,7 @@ fn file(store: &Store, pass: &mut Pass, from: &str, when: i64) -> Result<(), Ref
     Ok(())
 }
 
-/// Files ten letters. The thread returns the pass.
+/// Files ten letters. Returns the pass.
 fn file_ten(store: &Store, mut pass: Pass, from: &str) -> (Pass, Result<(), Refusal>)
     requires { IsPassOf store.now pass }
     ensures { IsPassOf store.now result.0 }
@@ -42,7 +42,7 @@ fn file_ten(store: &Store, mut pass: Pass, from: &str) -> (Pass, Result<(), Refu
     (pass, Ok(()))
 }
 
-/// Files ten letters from Ada and ten from Bob, each on a thread of its own.
+/// Files ten letters from Ada and ten from Bob, with a thread for each sender.
 fn file_both<R: Threads + Sync>(
     rt: &R,
     store: &Store,
@@ -61,8 +61,8 @@ fn file_both<R: Threads + Sync>(
     bob.1
 }
 
-/// The number of letters that have joined the query's answer since it was last run. It returns the
-/// pass, unpinned.
+/// The number of letters that have joined the query's answer since it last ran. Returns the pass,
+/// unpinned.
 fn ask(store: &Store, mut pass: Pass, mut live: Live) -> (Pass, Live, Result<usize, Refusal>)
     requires pass { IsPassOf store.now pass }
     requires pinned { (n : ℕ) × IsPinnedTo pass.knows n }
@@ -102,7 +102,8 @@ fn ask_meanwhile<R: Threads + Sync>(
     )
 }
 
-/// The number of letters from Ada at a pin, and the number that arrived while it was read.
+/// The number of letters from Ada at a pin, and the number of letters from Ada that arrived while
+/// the query ran.
 fn count_letters<R: AllocGlobal + Threads + Sync>(rt: &R) -> Result<(usize, usize), Refusal> {
     let limits = Limits {
         pages: 256,
@@ -131,7 +132,7 @@ fn count_letters<R: AllocGlobal + Threads + Sync>(rt: &R) -> Result<(usize, usiz
     Ok((before?, since?))
 }
 
-/// Prints both numbers of letters, or the store's error on standard error.
+/// Prints both numbers, or prints the store's error to standard error.
 fn main(rt: HostRuntime) -> io::Result<ExitCode> {
     match count_letters(&rt) {
         Ok((before, since)) => {

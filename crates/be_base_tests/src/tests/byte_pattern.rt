@@ -1,5 +1,5 @@
-//! Patterns and texts, matched by bytes and by characters. The expected results follow from the
-//! rules in `docs/QUERIES.md`.
+//! Patterns matched against strings by bytes and by characters. The expected results follow from
+//! the rules in `docs/QUERIES.md`.
 use super::lines::{replies, yes_or_no};
 use be_byte_pattern::BytePattern;
 use be_pattern::Pattern;
@@ -8,7 +8,7 @@ use be_value::Refusal;
 use std::alloc::Global;
 use std::test::Fail;
 
-/// Whether a pattern matches the text after it, by its bytes and by its characters.
+/// Whether a pattern matches the text after it, by bytes and by characters.
 pub(crate) fn matches_both_ways(alloc: Global, request: &str) -> Result<String, Refusal> {
     let (words, text) = request.split_once(" ").unwrap_or((request, ""));
     let pattern = Pattern::parse(alloc, words)?;
@@ -19,7 +19,7 @@ pub(crate) fn matches_both_ways(alloc: Global, request: &str) -> Result<String, 
     yes_or_no(alloc, by_bytes)
 }
 
-/// Literal characters and `*`, with characters of one byte.
+/// Literal characters and `*`; every character is one byte long.
 #[test]
 fn matches_as_written(rt: HostRuntime) -> Result<(), Fail> {
     let lines = "bytes   => yes
@@ -51,7 +51,7 @@ bytes *photo*77*.pdf my-photo-7.pdf => no";
     replies(rt.alloc(), lines)
 }
 
-/// Characters of two, three and four bytes. Some share their first byte, others their last.
+/// Characters of two, three and four bytes. Some share their first byte, others share their last.
 #[test]
 fn matches_longer_characters(rt: HostRuntime) -> Result<(), Fail> {
     let lines = "bytes *é* café au lait => yes
@@ -65,7 +65,7 @@ bytes *😀* 😁 => no";
     replies(rt.alloc(), lines)
 }
 
-/// Characters with a backslash, then `?` and sets.
+/// Characters with a backslash, and patterns with `?` and sets.
 #[test]
 fn matches_marked_characters(rt: HostRuntime) -> Result<(), Fail> {
     let lines = "bytes \\** *a => yes
@@ -87,7 +87,7 @@ fn matches_bytes(alloc: Global, words: &str, bytes: &[u8]) -> Result<bool, Refus
     Ok(BytePattern::new(alloc, &pattern)?.matches(bytes))
 }
 
-/// Bytes that aren't valid UTF-8 get an answer too.
+/// Bytes that aren't valid UTF-8 can be matched too.
 #[test]
 fn takes_any_bytes(rt: HostRuntime) -> Result<(), Fail> {
     assert!(rt; again!(matches_bytes(rt.alloc(), "*b", b"\xffb"))?);

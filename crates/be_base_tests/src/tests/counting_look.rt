@@ -1,5 +1,5 @@
-//! Lookups and walks work with any page reader: here with one that owns a room and counts the words
-//! it reads.
+//! Lookups and walks work with any page reader. Here the reader owns a room and counts the words
+//! that it reads.
 ghost use Rattle.std.specs.Prelude.{◌≡◌, ℕ, IfOk, IsTrue, OnOk};
 ghost use Rattle.be_pages.specs.declared.room.PageState.TheVariants.{Free};
 ghost use Rattle.be_pages.specs.Pages.{IsUnchanged};
@@ -12,7 +12,7 @@ use be_value::Refusal;
 use std::alloc::Global;
 use std::test::Fail;
 
-/// A page writer in memory. If memory runs out at the first call, it calls again.
+/// A page writer in memory. If the first call runs out of memory, it is repeated.
 pub(crate) fn room_of(alloc: Global, pages: u64) -> Result<VecRoom, Refusal>
     ensures { IfOk result (λ r. (q : ℕ) → ⟦<VecRoom as Look>⟧.page_state r q ≡ Free) }
 {
@@ -35,7 +35,7 @@ fn filled<R: Room>(room: &mut R, count: u64) -> Result<u64, Refusal>
     Ok(root)
 }
 
-/// Whether each number below `count` is found with its payload, and the next one isn't.
+/// Whether each number below `count` is found with its payload, and `count` itself isn't found.
 pub(crate) fn finds<L: Look>(look: &mut L, root: u64, count: u64) -> bool
     requires { IsTree (L.page_state look.old) (L.words look.old) root }
     ensures { IsUnchanged L.kept L.page_state L.words look.old look.new }
@@ -52,7 +52,7 @@ pub(crate) fn finds<L: Look>(look: &mut L, root: u64, count: u64) -> bool
     !has_key(look, root, &count.to_be_bytes())
 }
 
-/// Whether `range` meets the numbers below `count` one after another, and nothing else.
+/// Whether `range` returns the numbers below `count` in order, and nothing else.
 pub(crate) fn ranges<L: Look>(look: &mut L, root: u64, count: u64) -> bool
     requires { IsTree (L.page_state look.old) (L.words look.old) root }
     ensures { IsUnchanged L.kept L.page_state L.words look.old look.new }
@@ -70,7 +70,7 @@ pub(crate) fn ranges<L: Look>(look: &mut L, root: u64, count: u64) -> bool
     range(look, root, &from, after).is_none()
 }
 
-/// Whether a cursor meets the numbers below `count` one after another, and nothing else.
+/// Whether a cursor returns the numbers below `count` in order, and nothing else.
 fn steps<L: Look>(look: &mut L, root: u64, count: u64) -> bool
     requires { IsTree (L.page_state look.old) (L.words look.old) root }
     ensures { IsUnchanged L.kept L.page_state L.words look.old look.new }
@@ -86,8 +86,8 @@ fn steps<L: Look>(look: &mut L, root: u64, count: u64) -> bool
     cursor.next_key(look).is_none()
 }
 
-/// A hundred pairs need two levels. A lookup reads about forty words; a step reads one word and the
-/// pair's own.
+/// A hundred pairs need two levels. A lookup reads about forty words; a step reads one word plus
+/// those of the pair.
 #[test]
 fn counting_look(rt: HostRuntime) -> Result<(), Fail> {
     let mut room = room_of(rt.alloc(), 64)?;

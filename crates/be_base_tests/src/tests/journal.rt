@@ -1,10 +1,11 @@
 //! Worked examples of journals.
 //!
-//! A request has a journal's limit and then its entries, with ` | ` between them. An entry is
-//! `OPERATIONS -> OUTCOMES`, in the words of scripts, with `;` between several.
+//! A request has a journal's limit, followed by its entries, separated by ` | `. An entry is
+//! `OPERATIONS -> OUTCOMES`, in the words of scripts, with `;` between operations and between
+//! outcomes.
 //!
-//! The reply has the journal's text, whether it is legal, and whether it has room. Then come the
-//! next node of its volume, and the attributes of node 1 there.
+//! The reply gives the journal's text, says whether it is legal and whether it has room, and then
+//! gives the next node of its volume and the attributes of node 1 there.
 
 use super::lines::{first_number, replies};
 use be_journal::{Entry, Items, Journal};
@@ -15,7 +16,7 @@ use be_volume::{Done, Op};
 use std::alloc::{AllocError, Global};
 use std::test::Fail;
 
-/// Pushes an entry by pass 0.
+/// Pushes an entry made by pass 0.
 fn push(journal: &mut Journal, ops: Vec<Op>, dones: Vec<Done>) -> Result<(), Refusal> {
     if ops.is_empty() || ops.len() > 64 || dones.len() != ops.len() {
         return Err(Refusal::BadLimits);
@@ -27,7 +28,7 @@ fn push(journal: &mut Journal, ops: Vec<Op>, dones: Vec<Done>) -> Result<(), Ref
     })
 }
 
-/// Enters a pass's list in room that is reserved for it.
+/// Appends a pass's list to room that was reserved for it.
 fn enter(journal: &mut Journal, pass: u64, ops: &[Op], dones: &[Done]) -> Result<(), Refusal> {
     if ops.is_empty() || ops.len() > 64 || dones.len() != ops.len() {
         return Err(Refusal::BadLimits);
@@ -53,7 +54,7 @@ fn outcomes_of(alloc: Global, texts: &str) -> Result<Vec<Done>, AllocError> {
     Ok(dones)
 }
 
-/// Pushes the entry that a text encodes. A list of several operations is entered in reserved room.
+/// Pushes the entry that a text encodes. A list of several operations goes into reserved room.
 fn push_text(alloc: Global, journal: &mut Journal, text: &str) -> Result<(), Refusal> {
     let (ops, dones) = text.split_once(" -> ").unwrap_or((text, ""));
     let ops = list_of(alloc, ops)?;
@@ -64,7 +65,7 @@ fn push_text(alloc: Global, journal: &mut Journal, text: &str) -> Result<(), Ref
     push(journal, ops, dones)
 }
 
-/// A journal of at most `limit` entries.
+/// A journal that holds at most `limit` entries.
 fn journal_within(alloc: Global, limit: u64) -> Result<Journal, Refusal> {
     if limit > 2_000 {
         return Err(Refusal::BadLimits);
@@ -84,13 +85,13 @@ fn journal_of(alloc: Global, request: &str) -> Result<Journal, Refusal> {
     Ok(journal)
 }
 
-/// Pushes an entry that makes a node.
+/// Pushes an entry that creates a node.
 fn push_node(alloc: Global, journal: &mut Journal, node: u64) -> Result<(), Refusal> {
     let text = format!(in alloc; "new -> node {node}")?;
     push_text(alloc, journal, text.as_str())
 }
 
-/// A journal that makes 1,100 nodes.
+/// A journal that creates 1,100 nodes.
 fn nodes(alloc: Global) -> Result<Journal, Refusal> {
     let mut journal = journal_within(alloc, 1_100)?;
     for node in 1..=1_100 {
@@ -99,7 +100,7 @@ fn nodes(alloc: Global) -> Result<Journal, Refusal> {
     Ok(journal)
 }
 
-/// A list of 64 texts of 255 bytes.
+/// A list of 64 operations, each with a string of 255 bytes.
 fn long_list(alloc: Global) -> Result<Vec<Op>, Refusal> {
     let text = "x".repeat(alloc, 255)?;
     let set = format!(in alloc; "set 0 a CSTR {text}")?;
@@ -107,8 +108,8 @@ fn long_list(alloc: Global) -> Result<Vec<Op>, Refusal> {
     list_of(alloc, format!(in alloc; "{set}{sets}")?.as_str())
 }
 
-/// A journal of `count` long lists, each by the pass with its number. A block of the journal has
-/// room for 15 of them.
+/// A journal of `count` long lists. Each list was written by the pass with the list's number. A
+/// block of the journal has room for 15 of them.
 fn long_lists(alloc: Global, count: u64) -> Result<Journal, Refusal> {
     let ops = long_list(alloc)?;
     let dones = vec![in alloc; Done::Unit; 64]?;
@@ -119,7 +120,8 @@ fn long_lists(alloc: Global, count: u64) -> Result<Journal, Refusal> {
     Ok(journal)
 }
 
-/// How many entries have 64 operations and are by the pass with their number.
+/// The number of entries that have 64 operations and were written by the pass with the entry's
+/// number.
 fn found_lists(journal: &Journal) -> u64 {
     let mut found: u64 = 0;
     for i in 0..journal.len() {
@@ -164,8 +166,8 @@ fn takes_entry(alloc: Global, journal: &mut Journal) -> Result<bool, Refusal> {
     }
 }
 
-/// Whether there is room for 64 operations, and an entry can be pushed. At the limit, neither is
-/// the case.
+/// Whether there is room for 64 operations, and whether an entry can be pushed. At the limit,
+/// neither is the case.
 fn room(alloc: Global, journal: &mut Journal) -> Result<&'static str, Refusal> {
     match (has_room(journal)?, takes_entry(alloc, journal)?) {
         (true, true) => Ok("room"),
@@ -192,7 +194,7 @@ pub(crate) fn report_of(alloc: Global, request: &str) -> Result<String, Refusal>
     report(alloc, journal_of(alloc, request)?)
 }
 
-/// The report on 1,100 nodes, from the text after the 1,099th entry on.
+/// The report on a journal of 1,100 nodes, from the text after the 1,099th entry onward.
 pub(crate) fn report_end(alloc: Global) -> Result<String, Refusal> {
     let text = report(alloc, nodes(alloc)?)?;
     let front = "\n1099 by 0 new -> node 1099\n";
@@ -200,7 +202,7 @@ pub(crate) fn report_end(alloc: Global) -> Result<String, Refusal> {
     Ok(String::from_str(alloc, end)?)
 }
 
-/// How many of the long lists are found in their journal.
+/// The number of long lists that are found in their journal.
 pub(crate) fn report_lists(alloc: Global, text: &str) -> Result<String, Refusal> {
     let (count, _) = first_number(text);
     let journal = long_lists(alloc, count)?;
@@ -208,10 +210,10 @@ pub(crate) fn report_lists(alloc: Global, text: &str) -> Result<String, Refusal>
     Ok(format!(in alloc; "{found} found")?)
 }
 
-/// Reports entries as text, whether they are legal, and what their volume has. A journal without
-/// entries has room for 64 operations. An outcome that the volume doesn't give is wrong, and so is
-/// an entry that the volume refuses. The last line is the example `batches`: a list is entered in
-/// the room that was reserved for it.
+/// Reports the text of entries, whether they are legal, and what their volume contains. A journal
+/// without entries has room for 64 operations. An outcome that the volume doesn't give is wrong,
+/// and so is an entry that the volume refuses. The last line is the example `batches`: a list is
+/// appended to room that was reserved for it.
 #[test]
 fn journals_are_reported(rt: HostRuntime) -> Result<(), Fail> {
     let lines =
@@ -228,8 +230,8 @@ journal 2 mkindex k LONG -> ok | new;set 1 k LONG 5 -> node 1;ok => 1 by 0 mkind
     replies(rt.alloc(), lines)
 }
 
-/// Each operation and each value has its text. There is no node 1, so none of these entries is
-/// accepted.
+/// The text of each operation and each kind of value. Node 1 doesn't exist, so none of these
+/// entries is accepted.
 #[test]
 fn operations_have_a_text(rt: HostRuntime) -> Result<(), Fail> {
     let lines =
@@ -245,15 +247,15 @@ journal 3 unset 7 m -> ok | rmindex k -> ok | drop 7 -> ok => 1 by 0 unset 7 \"m
     replies(rt.alloc(), lines)
 }
 
-/// A journal of 1,100 entries is reported, checked and replayed whole.
+/// A journal of 1,100 entries is completely reported, checked and replayed.
 #[test]
 fn long_journal(rt: HostRuntime) -> Result<(), Fail> {
     let lines = "nodes => 1100 by 0 new -> node 1100 / legal, spent, next 1101 / attrs 0";
     replies(rt.alloc(), lines)
 }
 
-/// Entries are found in a journal's first block when it is exactly full, and in the blocks after
-/// it.
+/// Entries are found in a journal's first block when it is exactly full, and in the following
+/// blocks.
 #[test]
 fn journal_of_blocks(rt: HostRuntime) -> Result<(), Fail> {
     let lines = "lists 15 => 15 found\nlists 16 => 16 found\nlists 46 => 46 found";

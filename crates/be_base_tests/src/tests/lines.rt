@@ -1,5 +1,5 @@
-//! Requests and replies of tests as text: lines `COMMAND TEXT => REPLY`. The reply to a refused
-//! request is the error as it is printed.
+//! Requests and replies of tests as text, in lines `COMMAND TEXT => REPLY`. The reply to a refused
+//! request is the printed error.
 
 use super::{byte_pattern, journal, machine, pattern, query, stored_words, tree, value};
 use be_test_tools::{Answers, check_lines};
@@ -67,7 +67,7 @@ fn answer_long(alloc: Global, command: &str, text: &str) -> Result<String, Refus
     }
 }
 
-/// The first of these words as a number, or 0 if it is none, and the other words.
+/// The number that the first of these words encodes, or 0 if it encodes none, and the other words.
 pub(crate) fn first_number(words: &str) -> (u64, &str) {
     let (word, others) = words.split_once(" ").unwrap_or((words, ""));
     (word_of(word.as_bytes()).unwrap_or(0), others)
@@ -93,7 +93,7 @@ pub(crate) fn yes_or_no(alloc: Global, holds: bool) -> Result<String, Refusal> {
     Ok(String::from_str(alloc, word)?)
 }
 
-/// What the crates answer to commands.
+/// The answers of the crates to commands.
 #[derive(Drop)]
 struct Crates;
 
@@ -108,7 +108,7 @@ impl Answers for Crates {
     }
 }
 
-/// Fails unless each request has its reply.
+/// Fails unless each request gets the expected reply.
 pub(crate) fn replies(alloc: Global, lines: &str) -> Result<(), Fail> {
     check_lines(alloc, &mut Crates, lines)
 }

@@ -1,7 +1,7 @@
-//! The worked example of the machine, and its limits.
+//! The worked example of the machine, and the machine's limits.
 //!
-//! Every call is made once more after `OutOfMemory`, and then has to give the example's answer. So
-//! the tests also pass if any one request for memory is refused (`rt try --test --fail-alloc N`).
+//! Every call is repeated after `OutOfMemory`, and must then give the example's answer. So the
+//! tests also pass if any single request for memory is refused (`rt try --test --fail-alloc N`).
 ghost use Rattle.std.specs.Prelude.{◌≡◌, IfOk};
 ghost use Rattle.be_core.specs.Shown.{page_count};
 
@@ -11,7 +11,7 @@ use be_value::Refusal;
 use std::alloc::Global;
 use std::test::Fail;
 
-/// A new machine. If memory runs out at the first call, it calls again.
+/// A new machine. If the first call runs out of memory, it is repeated.
 fn machine(alloc: Global, pages: u64, passes: u64, commits: u64) -> Result<State, Refusal>
     ensures { IfOk result (λ s. page_count s ≡ pages) }
 {
@@ -21,7 +21,7 @@ fn machine(alloc: Global, pages: u64, passes: u64, commits: u64) -> Result<State
     }
 }
 
-/// The answer to the event. If memory runs out at the first call, it calls again.
+/// The answer to the event. If the first call runs out of memory, it is repeated.
 fn answer(state: &mut State, event: &Event) -> Result<bool, Refusal>
     ensures { page_count state.new ≡ page_count state.old }
 {
@@ -31,8 +31,8 @@ fn answer(state: &mut State, event: &Event) -> Result<bool, Refusal>
     }
 }
 
-/// The event that a word and its numbers name. `publish` gives up the page that its last number
-/// names.
+/// The event that a word and its numbers name. `publish` gives up the page given by its last
+/// number.
 fn event_of(alloc: Global, word: &str, numbers: [u64; 4]) -> Result<Event, Refusal> {
     let [pass, second, third, fourth] = numbers;
     match word {
@@ -59,7 +59,7 @@ fn event_in(alloc: Global, line: &str) -> Result<Event, Refusal> {
     event_of(alloc, word, [first, second, third, fourth])
 }
 
-/// Whether the events, one on each line, are allowed one after another. Those after a `not` must be
+/// Whether the events, one per line, are allowed in this order. An event after a `not` must be
 /// refused.
 fn gives(alloc: Global, state: &mut State, lines: &str) -> Result<bool, Refusal>
     ensures { page_count state.new ≡ page_count state.old }
@@ -80,7 +80,7 @@ fn gives(alloc: Global, state: &mut State, lines: &str) -> Result<bool, Refusal>
     Ok(true)
 }
 
-/// A run of a writer and a reader. A page that the reader has pinned isn't filled again before it
+/// A run with a writer and a reader. A page that the reader has pinned isn't filled again until it
 /// is unpinned.
 #[test]
 fn machine_run(rt: HostRuntime) -> Result<(), Fail> {
@@ -118,7 +118,7 @@ fill 0 0 0 5";
     Ok(())
 }
 
-/// Whether a machine with these numbers of pages, passes and commits can be made.
+/// Whether a machine with these numbers of pages, passes and commits can be created.
 pub(crate) fn is_opened(alloc: Global, line: &str) -> Result<String, Refusal> {
     let (pages, numbers) = first_number(line);
     let (passes, numbers) = first_number(numbers);

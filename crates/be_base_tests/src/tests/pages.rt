@@ -1,6 +1,6 @@
 //! Counts the pages of a room.
 //!
-//! The room is made once more after `OutOfMemory`. So the tests also pass if any one request for
+//! After `OutOfMemory`, the room is created again. So the tests also pass if any single request for
 //! memory is refused (`rt try --test --fail-alloc N`).
 
 use super::counting_look::room_of;
@@ -9,8 +9,9 @@ use be_value::Refusal;
 use std::alloc::Global;
 use std::test::Fail;
 
-/// How many pages are free after one was taken and filled, and the word in it. Then how many are
-/// free after that write was kept and nothing undone, and after the next write was undone.
+/// The number of free pages after a page was taken and filled, and the word in that page. Then the
+/// number of free pages after that write was kept and an empty write was undone, and after another
+/// write was undone.
 fn free_when_kept(alloc: Global) -> Result<[u64; 4], Refusal> {
     let mut room = room_of(alloc, 8)?;
     let page = room.take()?;
@@ -32,8 +33,8 @@ fn keeps_and_undoes(rt: HostRuntime) -> Result<(), Fail> {
     Ok(())
 }
 
-/// Takes each page once, and then one more. It returns how many were free before each call, as
-/// digits.
+/// Takes each page once, and then tries to take one more. Returns the number of free pages before
+/// each call, as digits.
 fn take_all(alloc: Global) -> Result<(u64, Refusal), Refusal> {
     let mut room = room_of(alloc, 8)?;
     let mut digits: u64 = 0;
@@ -48,14 +49,14 @@ fn take_all(alloc: Global) -> Result<(u64, Refusal), Refusal> {
     }
 }
 
-/// Each page is taken once; then the room is full.
+/// Each page can be taken once; then the room is full.
 #[test]
 fn full_room(rt: HostRuntime) -> Result<(), Fail> {
     assert!(rt; matches!(take_all(rt.alloc())?, (87654321, Refusal::Full(0))));
     Ok(())
 }
 
-/// How many pages are free after a taken page is given up, and whether that page is taken next.
+/// The number of free pages after a taken page is given up, and whether that page is taken next.
 fn take_again(alloc: Global) -> Result<(u64, bool), Refusal> {
     let mut room = room_of(alloc, 8)?;
     let page = room.take()?;
@@ -64,14 +65,14 @@ fn take_again(alloc: Global) -> Result<(u64, bool), Refusal> {
     Ok((free, room.take()? == page))
 }
 
-/// A page that was taken and given up in one write is free at once, and is taken next.
+/// A page that was taken and given up in the same write is free immediately, and is taken next.
 #[test]
 fn page_given_up(rt: HostRuntime) -> Result<(), Fail> {
     assert!(rt; matches!(take_again(rt.alloc())?, (8, true)));
     Ok(())
 }
 
-/// Numbers of pages in a room: around each power of two, up to the most that a store has.
+/// Numbers of pages in a room: around each power of two, up to the maximum for a store.
 const SIZES: [u64; 32] = [
     8, 9, 15, 16, 17, 31, 32, 33, 63, 64, 65, 127, 128, 129, 255, 256, 257, 511, 512, 513, 1023,
     1024, 1025, 2047, 2048, 2049, 4095, 4096, 8191, 8192, 16383, 16384,

@@ -29,7 +29,8 @@ pub(crate) fn is_decided_by_prefix(alloc: Global, text: &str) -> Result<String, 
     yes_or_no(alloc, Pattern::parse(alloc, text)?.is_prefix())
 }
 
-/// The canonical text of a literal text, with a `*` on each side that has a `.` in the request.
+/// The canonical text of a pattern that matches this text literally, with a `*` on each side that
+/// has a `.` in the request.
 pub(crate) fn around(alloc: Global, text: &str) -> Result<String, Refusal> {
     let (before, text) = match text.strip_prefix(".") {
         Some(text) => (true, text),
@@ -42,8 +43,8 @@ pub(crate) fn around(alloc: Global, text: &str) -> Result<String, Refusal> {
     Pattern::around(alloc, before, text, beyond)?.canonical(alloc)
 }
 
-/// The example `patterns`, and the ways to read sets. Neither an empty pattern nor an empty text
-/// has a letter here.
+/// The example `patterns`, and the ways to read sets. In these lines, an empty pattern or text is
+/// written as nothing.
 #[test]
 fn patterns(rt: HostRuntime) -> Result<(), Fail> {
     let lines = "matches *[ch] x.c => yes
@@ -105,7 +106,8 @@ pattern [a-] => [a\\-]";
     replies(rt.alloc(), lines)
 }
 
-/// Prefixes, patterns that their prefix decides, and literal texts with `*` around them.
+/// Prefixes, patterns that are determined by their prefix, and literal strings with `*` before or
+/// after them.
 #[test]
 fn prefixes(rt: HostRuntime) -> Result<(), Fail> {
     let lines = "prefix \\*éx*y => \"*éx\"

@@ -1,5 +1,5 @@
-//! A pool's pages, some of which are spared for the copy of another page. The pool is made once
-//! more after a refused request for memory.
+//! A pool's pages, some of which are spared for the copy of another page. After a refused request
+//! for memory, the pool is created again.
 ghost use Rattle.std.specs.Prelude.{◌≤◌};
 
 use be_pages::{PagePool, Place};
@@ -27,7 +27,7 @@ fn take_like(pool: &mut PagePool, page: u64) -> u64 {
     pool.take_like(page).unwrap_or(NONE)
 }
 
-/// Gives a page up if it is in the current version.
+/// Gives up a page if it is in the current version.
 fn let_go(pool: &mut PagePool, page: u64) {
     if page >= pool.len() as u64 {
         return;
@@ -38,7 +38,7 @@ fn let_go(pool: &mut PagePool, page: u64) {
     }
 }
 
-/// A write copies two pages, gives the originals up, and is kept. It returns the copies.
+/// Makes a write that copies two pages, gives up the originals, and is kept. Returns the copies.
 fn copy_both(pool: &mut PagePool, first: u64, second: u64) -> (u64, u64) {
     let copies = (take_like(pool, first), take_like(pool, second));
     let_go(pool, first);
@@ -47,7 +47,7 @@ fn copy_both(pool: &mut PagePool, first: u64, second: u64) -> (u64, u64) {
     copies
 }
 
-/// Each page is copied to the page that it was copied from, in whatever order.
+/// Each page is copied back to the page that it was copied from, in whatever order.
 fn return_to_earlier(alloc: Global) -> Result<bool, AllocError> {
     let mut pool = pool_of(alloc, 6, 2)?;
     Ok(
@@ -64,8 +64,8 @@ fn copies_return(rt: HostRuntime) -> Result<(), Fail> {
     Ok(())
 }
 
-/// Makes one page spared, and takes all pages for something else. It returns how many were free,
-/// and which pages were taken.
+/// Makes one page spared, and takes all pages for other purposes. Returns the number of free pages
+/// before that, and the pages that were taken.
 fn take_others(alloc: Global) -> Result<(usize, [u64; 4]), AllocError> {
     let mut pool = pool_of(alloc, 4, 1)?;
     take_like(&mut pool, 0);
@@ -81,15 +81,15 @@ fn take_others(alloc: Global) -> Result<(usize, [u64; 4]), AllocError> {
     Ok((free, taken))
 }
 
-/// A spared page is taken for something else only if no other page is free.
+/// A spared page is taken for another purpose only if no other page is free.
 #[test]
 fn spared_page_is_last(rt: HostRuntime) -> Result<(), Fail> {
     assert!(rt; matches!(take_others(rt.alloc())?, (3, [2, 3, 0, NONE])));
     Ok(())
 }
 
-/// Which page a copy takes before its write is undone, which page is then taken for something else,
-/// and which page the copy takes again.
+/// The page that a copy takes before its write is undone, the page that is then taken for another
+/// purpose, and the page that the copy takes the second time.
 fn take_again(alloc: Global) -> Result<[u64; 3], AllocError> {
     let mut pool = pool_of(alloc, 4, 1)?;
     take_like(&mut pool, 0);
@@ -107,12 +107,12 @@ fn spared_after_undo(rt: HostRuntime) -> Result<(), Fail> {
     Ok(())
 }
 
-/// Numbers of pages in a pool, at bounds.
+/// Numbers of pages in a pool, at and next to limits.
 const SIZES: [usize; 9] = [1, 2, 3, 8, 63, 64, 65, 16383, 16384];
 
 /// The pages that copies take from a pool with one free page. The first is a copy of a page outside
-/// the pool. After that write is undone, the second is a copy of the pool's last page. The third is
-/// a copy of the greatest page number, when no page is free any more.
+/// the pool. That write is undone, and then the second is a copy of the pool's last page. The third
+/// is a copy of the greatest page number, when no page is free.
 fn take_last(alloc: Global, pages: usize) -> Result<[u64; 3], AllocError>
     requires { 1 ≤ pages }
 {

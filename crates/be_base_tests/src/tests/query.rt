@@ -11,7 +11,8 @@ pub(crate) fn printed(alloc: Global, text: &str) -> Result<String, Refusal> {
     print(alloc, &parse(alloc, text)?)
 }
 
-/// The canonical text of the query that a text encodes, if it is its own canonical text.
+/// The canonical text of the query that a text encodes. Returns `NotCovered` if that text's own
+/// canonical text differs from it.
 pub(crate) fn printed_twice(alloc: Global, text: &str) -> Result<String, Refusal> {
     let once = printed(alloc, text)?;
     let twice = printed(alloc, once.as_str())?;
@@ -57,7 +58,7 @@ pub(crate) fn leaf_matches(alloc: Global, request: &str) -> Result<String, Refus
     }
 }
 
-/// Does what `printed_twice` does, for a text in which a `|` stands for each line feed.
+/// Like `printed_twice`, for a text in which `|` stands for a line feed.
 pub(crate) fn printed_with_feeds(alloc: Global, text: &str) -> Result<String, Refusal> {
     printed_twice(alloc, text.replace(alloc, "|", "\n")?.as_str())
 }
@@ -68,7 +69,7 @@ pub(crate) fn is_read(alloc: Global, text: &str) -> Result<String, Refusal> {
     yes_or_no(alloc, true)
 }
 
-/// The example `faults`, and each way to read a text with an error.
+/// The example `faults`, and each way in which reading a text can fail.
 #[test]
 fn faults(rt: HostRuntime) -> Result<(), Fail> {
     let lines = "query name==\"[a\" => refused 13 BadPattern 7
@@ -115,8 +116,8 @@ read 65 !;a==1 => refused 15 TooDeep";
     replies(rt.alloc(), lines)
 }
 
-/// The example `query_limits`, and one step before each limit. A `!` is open until its operand
-/// ends.
+/// The example `query_limits`, and the last value within each limit. A `!` is open until its
+/// operand ends.
 #[test]
 fn query_limits(rt: HostRuntime) -> Result<(), Fail> {
     let lines = "read 4097 x => refused 14 TooLong
@@ -139,8 +140,8 @@ read 70 !(a==1)&&;a==1 => yes";
     replies(rt.alloc(), lines)
 }
 
-/// An error drops what was built: a tree that leans to the left, levels that wait, and a tree that
-/// leans to the right.
+/// After an error, everything that was built is dropped: a tree that leans to the left, levels that
+/// are waiting, and a tree that leans to the right.
 #[test]
 fn trees_given_up(rt: HostRuntime) -> Result<(), Fail> {
     let lines = "read 255 a==1||;a==1;; b => refused 12 Syntax 1535
@@ -174,13 +175,13 @@ right a==\"*\" && b==y => y";
     replies(rt.alloc(), lines)
 }
 
-/// A line feed separates tokens too.
+/// A line feed separates tokens as well.
 #[test]
 fn line_feeds(rt: HostRuntime) -> Result<(), Fail> {
     replies(rt.alloc(), "feeds \ta|!=\r\"\"  => \"a\"!=\"\"")
 }
 
-/// The part of the example `patterns` that compares with patterns.
+/// The part of the example `patterns` that matches values against patterns.
 #[test]
 fn patterns(rt: HostRuntime) -> Result<(), Fail> {
     let lines = "leaf name=\"*[ch]\" x.c => yes
@@ -195,7 +196,8 @@ leaf name==\"x.\\*\" x.c => no";
     replies(rt.alloc(), lines)
 }
 
-/// The item that a word names: a text after a `'`, a number, an operator, or otherwise a name.
+/// The item that a word stands for: a string after a `'`, a number, an operator, or otherwise a
+/// name.
 fn item_of(alloc: Global, word: &str) -> Result<Item, Refusal> {
     if let Some(text) = word.strip_prefix("'") {
         return Ok(Item::Text(String::from_str(alloc, text)?));
@@ -219,7 +221,7 @@ fn numbered(number: i128) -> Item {
     }
 }
 
-/// The operator item that a word names, if it names one.
+/// The operator item that a word stands for, if it is an operator.
 fn operator_of(word: &str) -> Option<Item> {
     match word {
         "==" => Some(Item::Eq),
@@ -276,14 +278,14 @@ pub(crate) fn is_built(alloc: Global, line: &str) -> Result<String, Refusal> {
     yes_or_no(alloc, true)
 }
 
-/// The canonical text of what the items of a line build, read back.
+/// The canonical text of the query that the items of a line build, read back.
 pub(crate) fn reread(alloc: Global, line: &str) -> Result<String, Refusal> {
     printed(alloc, printed_items(alloc, line)?.as_str())
 }
 
 /// The examples `predicates` and `unsigned_keys`, and each way to read a predicate that can be
-/// built. A query's only comparison has the query's text. An order operator takes its text as it
-/// is, and a pattern operator takes it as a pattern.
+/// built. If a query has only one comparison, that comparison's text is the query's text. An order
+/// operator takes its string literally, and a pattern operator takes it as a pattern.
 #[test]
 fn predicates(rt: HostRuntime) -> Result<(), Fail> {
     let lines = "items size 5 < ! => \"size\">=\"5\"
@@ -303,7 +305,7 @@ literal name 'a* begins => a\\**";
     replies(rt.alloc(), lines)
 }
 
-/// The example `predicates`, and the order of a predicate's errors.
+/// The example `predicates`, and the precedence of a predicate's errors.
 #[test]
 fn refused_predicates(rt: HostRuntime) -> Result<(), Fail> {
     let lines = "items a => refused 22 BadRpn 1
@@ -316,8 +318,8 @@ items a 1 == b 1 == => refused 22 BadRpn 6";
     replies(rt.alloc(), lines)
 }
 
-/// The stack may have at most 64 things, and a predicate at most 256 comparisons. Items may build a
-/// tree whose canonical text has more parentheses than `parse` allows.
+/// The stack may hold at most 64 items, and a predicate at most 256 comparisons. The items may
+/// build a tree whose canonical text has more parentheses than `parse` allows.
 #[test]
 fn predicate_limits(rt: HostRuntime) -> Result<(), Fail> {
     let lines = "build 63 ;a; a => refused 22 BadRpn 64

@@ -1,4 +1,4 @@
-//! How many words a write stores, counted by its page writer.
+//! The number of words that a write stores, as counted by its page writer.
 ghost use Rattle.std.specs.Prelude.{◌≡◌, ℕ, ◌<◌, IfOk, IsTrue, OnOk};
 ghost use Rattle.be_pages.specs.declared.room.PageState.TheVariants.{Free};
 ghost use Rattle.be_tree_reading.specs.Tree.{IsTree};
@@ -13,11 +13,11 @@ use be_value::Refusal;
 use std::alloc::Global;
 use std::test::Fail;
 
-/// How many keys the tree has. Each is 1,000 above the previous one.
+/// The number of keys in the tree. Each key is 1,000 above the previous one.
 const KEYS: u64 = 600;
 
-/// Inserts the keys in an order that is far from ascending, each in a write that is kept, and
-/// returns the root.
+/// Inserts the keys in an order that is far from ascending, each in a write that is kept. Returns
+/// the root.
 fn put_keys(room: &mut VecRoom) -> Result<u64, Refusal>
     requires { (q : ℕ) → ⟦<VecRoom as Look>⟧.page_state room.old q ≡ Free }
     ensures { IfOk result (λ root. IsTree (⟦<VecRoom as Look>⟧.page_state room.new)
@@ -30,7 +30,7 @@ fn put_keys(room: &mut VecRoom) -> Result<u64, Refusal>
     Ok(root)
 }
 
-/// The numbers of a write: `count` numbers from `first` on, in steps of `step`.
+/// The numbers of a write: `count` numbers that begin with `first`, in steps of `step`.
 #[derive(Clone, Copy)]
 struct Numbers {
     first: u64,
@@ -39,7 +39,7 @@ struct Numbers {
 }
 
 impl Numbers {
-    /// The key of the number at a place.
+    /// The key of the number at this position.
     fn key(self, i: u64) -> [u8; 8] {
         self.first
             .saturating_add(self.step.saturating_mul(i))
@@ -102,7 +102,7 @@ fn change<R: Room>(
     }
 }
 
-/// How many words a write stores, in a tree whose keys were inserted before it.
+/// The number of words that a write stores in a tree that already has its keys.
 pub(crate) fn stored_by(alloc: Global, line: &str) -> Result<String, Refusal> {
     let (kind, numbers) = line.split_once(" ").unwrap_or((line, ""));
     let (count, steps) = first_number(numbers);
@@ -115,9 +115,10 @@ pub(crate) fn stored_by(alloc: Global, line: &str) -> Result<String, Refusal> {
     Ok(format!(in alloc; "{stores}")?)
 }
 
-/// A page that a write has taken is edited in place. If a list changes the same leaves again and
-/// again, most words are there already. The lines insert one key, and remove one and insert another
-/// beside it. Then they insert or remove 64 keys, next to each other or far apart.
+/// A page that a write has taken is edited in place. If a list of operations changes the same
+/// leaves repeatedly, most of the words are already there. The first line inserts one key; the
+/// second removes one key and inserts another next to it. The others insert or remove 64 keys,
+/// either adjacent or far apart.
 #[test]
 fn stored_words(rt: HostRuntime) -> Result<(), Fail> {
     let lines = "stored put 1 1 => 65

@@ -1,5 +1,5 @@
-//! Trees in a room of few pages: how many pages they take, and what is left when a room is full.
-//! Also equal values in one index.
+//! Trees in a room of few pages: the number of pages that they take, and what is left when a room
+//! is full. There is also a test of equal values in one index.
 ghost use Rattle.std.specs.Prelude.{◌≡◌, ◌<◌, ◌≤◌, IfOk, OnErr};
 ghost use Rattle.be_pages.specs.declared.room.PageState.TheVariants.{Free};
 ghost use Rattle.be_pages.specs.Pages.{IsUnchanged};
@@ -14,7 +14,7 @@ use be_value::Refusal;
 use std::alloc::Global;
 use std::test::Fail;
 
-/// Inserts a number's key and keeps the write, or undoes it if it is refused.
+/// Inserts a number's key. Keeps the write, or undoes it if the key is refused.
 pub(crate) fn put_number(room: &mut VecRoom, root: u64, i: u64) -> Result<u64, Refusal>
     requires tree { IsTree (⟦<VecRoom as Look>⟧.page_state room.old)
         (⟦<VecRoom as Look>⟧.words room.old) root }
@@ -37,8 +37,8 @@ pub(crate) fn put_number(room: &mut VecRoom, root: u64, i: u64) -> Result<u64, R
     }
 }
 
-/// Inserts the numbers below `to` in order, each in a write that is kept. It returns the root, and
-/// the first number that was refused, or `to`.
+/// Inserts the numbers below `to` in order, each in a write that is kept. Returns the root, and the
+/// first number that was refused, or `to` if none was.
 fn put_numbers(room: &mut VecRoom, root: u64, to: u64) -> (u64, u64)
     requires tree { IsTree (⟦<VecRoom as Look>⟧.page_state room.old)
         (⟦<VecRoom as Look>⟧.words room.old) root }
@@ -72,8 +72,8 @@ fn take_numbers(room: &mut VecRoom, root: u64, to: u64) -> Result<u64, Refusal>
     Ok(root)
 }
 
-/// How many pages are free after the numbers below a count were inserted. It is an error if a walk
-/// doesn't meet them in order.
+/// The number of free pages after the numbers below a count were inserted. Returns an error if a
+/// walk doesn't return them in order.
 pub(crate) fn free_with(alloc: Global, line: &str) -> Result<String, Refusal> {
     let (pages, numbers) = first_number(line);
     let (count, _) = first_number(numbers);
@@ -86,8 +86,8 @@ pub(crate) fn free_with(alloc: Global, line: &str) -> Result<String, Refusal> {
     Ok(format!(in alloc; "{free}")?)
 }
 
-/// The root, and how many pages are free, after the numbers below a count were inserted and removed
-/// again.
+/// The root, and the number of free pages, after the numbers below a count were inserted and
+/// removed again.
 pub(crate) fn free_without(alloc: Global, line: &str) -> Result<String, Refusal> {
     let (pages, numbers) = first_number(line);
     let (count, _) = first_number(numbers);
@@ -98,8 +98,9 @@ pub(crate) fn free_without(alloc: Global, line: &str) -> Result<String, Refusal>
     Ok(format!(in alloc; "{accepted} taken, root {root}, {free} free")?)
 }
 
-/// Twelve pairs fit into one page. The thirteenth makes two leaves and an inner page. Ascending
-/// keys fill their pages: 600 pairs take 50 leaves of 12, five pages above them, and the root.
+/// Twelve pairs fit into one page. Adding the thirteenth splits it into two leaves below an inner
+/// page. Ascending keys fill their pages: 600 pairs take 50 leaves with 12 pairs each, five pages
+/// above them, and the root.
 #[test]
 fn tree_pages(rt: HostRuntime) -> Result<(), Fail> {
     let lines = "free 16 1 => 15
@@ -120,8 +121,8 @@ free 16384 0 => 16384";
     replies(rt.alloc(), lines)
 }
 
-/// A room of eight pages takes at least 20 and at most 60 ascending keys. The next key is refused,
-/// and its write is undone: the earlier pairs stay.
+/// A room of eight pages accepts at least 20 and at most 60 ascending keys. The next key is
+/// refused, and its write is undone, so the earlier pairs are still there.
 #[test]
 fn full_tree(rt: HostRuntime) -> Result<(), Fail> {
     let mut room = room_of(rt.alloc(), 8)?;
@@ -136,7 +137,7 @@ fn full_tree(rt: HostRuntime) -> Result<(), Fail> {
     Ok(())
 }
 
-/// The key of the text `x` at a node, in an index.
+/// The key of the string `x` and a node, in an index.
 fn value_key(node: u8) -> [u8; 10] {
     let mut key = *b"x\0\0\0\0\0\0\0\0\0";
     key[9] = node;
@@ -155,7 +156,7 @@ fn put_nodes(room: &mut VecRoom, nodes: &[u8]) -> Result<u64, Refusal>
     Ok(root)
 }
 
-/// Whether the tree has exactly the keys of these nodes from the text `x` on, in this order.
+/// Whether the tree has exactly the keys of these nodes, in this order, from the string `x` onward.
 fn has_nodes<L: Look>(look: &mut L, root: u64, nodes: &[u8]) -> bool
     requires { IsTree (L.page_state look.old) (L.words look.old) root }
     ensures { IsUnchanged L.kept L.page_state L.words look.old look.new }
@@ -171,7 +172,7 @@ fn has_nodes<L: Look>(look: &mut L, root: u64, nodes: &[u8]) -> bool
     cursor.next_key(look).is_none()
 }
 
-/// One value at three nodes is three keys. One of them is removed.
+/// One value at three nodes has three keys. One of them is removed.
 #[test]
 fn equal_values(rt: HostRuntime) -> Result<(), Fail> {
     let mut room = room_of(rt.alloc(), 8)?;

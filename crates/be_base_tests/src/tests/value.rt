@@ -1,4 +1,5 @@
-//! Examples from outside: keys as bytes, numbers as texts, and the limits of names and values.
+//! Examples that use public calls: keys as bytes, numbers as text, and the limits of names and
+//! values.
 
 use super::lines::{replies, yes_or_no};
 use arrayvec::ArrayVec;
@@ -30,7 +31,7 @@ fn ends_with(bytes: &[u8], node: u64) -> bool {
     bytes.len() >= 8 && node_of(bytes) == node
 }
 
-/// The bytes of a pair's key, printed as a raw value, if they are read back.
+/// The bytes of a pair's key, printed as a raw value, if reading them gives the pair back.
 fn key_text(alloc: Global, value: &Value, node: u64) -> Result<String, Refusal> {
     let key = key_bytes(value, node);
     let bytes = key.as_slice();
@@ -40,7 +41,7 @@ fn key_text(alloc: Global, value: &Value, node: u64) -> Result<String, Refusal> 
     Ok(reply_lines(alloc, &Reply::Value(Some(Value::raw(bytes)?)))?)
 }
 
-/// The same for the value and the node that a line sets.
+/// The key, as in `key_text`, of the value and node that a line sets.
 pub(crate) fn key_of_pair(alloc: Global, line: &str) -> Result<String, Refusal> {
     let ops = list_of(alloc, line)?;
     match ops.first() {
@@ -49,7 +50,7 @@ pub(crate) fn key_of_pair(alloc: Global, line: &str) -> Result<String, Refusal> 
     }
 }
 
-/// Numbers of 32 and of 64 bits, including the lowest, and a text.
+/// Numbers of 32 and 64 bits, including the lowest, and a string.
 #[test]
 fn keys_are_these_bytes(rt: HostRuntime) -> Result<(), Fail> {
     let lines = "pair set 1 k LONG 5 => RAWT \"800000050000000000000001\"
@@ -63,7 +64,7 @@ pair set 1 k ULLG 5 => RAWT \"00000000000000050000000000000001\"";
     replies(rt.alloc(), lines)
 }
 
-/// How many bytes the key of a long text has.
+/// The number of bytes in the key of a long string.
 pub(crate) fn key_length(alloc: Global, text: &str) -> Result<String, Refusal> {
     let length = key_bytes(&Value::text(text)?, 1).len();
     Ok(format!(in alloc; "{length}")?)
@@ -85,8 +86,8 @@ pub(crate) fn encoded_number(alloc: Global, text: &str) -> Result<String, Refusa
     }
 }
 
-/// Texts that encode a number, up to the limits of 64 bits and of 20 digits, and texts that encode
-/// none.
+/// Strings that encode a number, up to the limits of 64 bits and of 20 digits, and strings that
+/// encode no number.
 #[test]
 fn texts_encode_numbers(rt: HostRuntime) -> Result<(), Fail> {
     let lines = "number 0 => 0
@@ -105,12 +106,12 @@ number abc => no";
     replies(rt.alloc(), lines)
 }
 
-/// Whether a text makes a name that is this text.
+/// Whether a text is accepted as a name and read back unchanged.
 pub(crate) fn is_name(alloc: Global, text: &str) -> Result<String, Refusal> {
     yes_or_no(alloc, Name::new(text)?.as_str() == text)
 }
 
-/// Whether a text makes a value that is this text.
+/// Whether a text is accepted as a string value and read back unchanged.
 pub(crate) fn is_text(alloc: Global, text: &str) -> Result<String, Refusal> {
     match Value::text(text)? {
         Value::Cstr(made) => yes_or_no(alloc, made.as_str() == text),
@@ -122,12 +123,12 @@ pub(crate) fn is_mime(alloc: Global, text: &str) -> Result<String, Refusal> {
     yes_or_no(alloc, Value::mime(text)?.kind() == Kind::Mims)
 }
 
-/// Whether a text's bytes make a raw value.
+/// Whether a text's bytes are accepted as a raw value.
 pub(crate) fn is_raw(alloc: Global, text: &str) -> Result<String, Refusal> {
     yes_or_no(alloc, Value::raw(text.as_bytes())?.kind() == Kind::Rawt)
 }
 
-/// The kind with a number: its letters, and whether an index may have it.
+/// The kind with this number: its letters, and whether it can be the kind of an index.
 pub(crate) fn kind_numbered(alloc: Global, text: &str) -> Result<String, Refusal> {
     let Ok(number) = u8::try_from(number_of(text).unwrap_or(0)) else {
         return yes_or_no(alloc, false);
@@ -147,7 +148,7 @@ pub(crate) fn kind_numbered(alloc: Global, text: &str) -> Result<String, Refusal
     Ok(report)
 }
 
-/// Limits of names and values, and the kinds from the Be Book.
+/// Limits of names and values, and the kinds in the Be Book.
 #[test]
 fn names_and_values_have_limits(rt: HostRuntime) -> Result<(), Fail> {
     let lines = "name 63 x => yes

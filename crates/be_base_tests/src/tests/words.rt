@@ -1,4 +1,4 @@
-//! The words of a page, in an example from outside.
+//! The words of a page, in an example that uses public calls.
 ghost use Rattle.be_tree_reading.specs.Tree.{IsTree};
 
 use super::counting_look::room_of;
@@ -24,8 +24,8 @@ fn first_words<L: Look>(look: &mut L, root: u64) -> [u64; 6]
     ]
 }
 
-/// A leaf with the attribute `size` of node 1, the LONG 5: its level, its count, and the item's
-/// four words. Zeros follow the payload in the last word.
+/// A leaf that holds the attribute `size` of node 1, the LONG 5: its level, its count, and the
+/// item's four words. The last word is padded with zeros after the payload.
 #[test]
 fn words_of_an_attribute(rt: HostRuntime) -> Result<(), Fail> {
     let mut room = room_of(rt.alloc(), 8)?;

@@ -1,4 +1,4 @@
--- The version that a write leaves, composed of the changes to its trees and its new page.
+-- The version that a write leaves, made up of the changes to its trees and its new page.
 use Rattle.std.proofs.Common.{◌≡◌, ℕ, zero, suc, ◌<◌, ◌≤◌, List, [], ◌∷◌, All, IsTrue, Ok, ap, sym, subst, ◌∙◌, refl, inl, inr, arith}
 use mathlib.Core.Bool.{false≢true}
 use Rattle.std.proofs.lemmas.Bool.{cases_eq}
@@ -21,7 +21,7 @@ use Rattle.be_paged.proofs.Applying.Hand.{entries_same}
 free_unused : (s : PageState) → s ≡ Free → IsTrue (is_kept s) → ⊥
 free_unused s e h = false≢true (sym (ap is_kept e) ∙ h)
 
--- contents in hand stay while other pages change
+-- contents in hand are preserved while other pages change
 in_hand_beside : (s t : ℕ → PageState) (v w : ℕ → ℕ → ℕ) (c : Contents) → IsInHand s v c → AreBeside s t v w (roots c) → IsInHand t w c
 in_hand_beside s t v w c h beside = record {
   fits = h.fits;
@@ -38,7 +38,7 @@ encodes_beside s t v w c volume h beside = record {
 }
 
 module _ {S K : Type 0} (kept_of : S → K) (page_state_of : S → ℕ → PageState) (words_of : S → ℕ → ℕ → ℕ) where
-  -- the version page is replaced, and the trees stay
+  -- the version page is replaced, and the trees are unchanged
   module _ (page new_page : ℕ) (c : Contents) (old new : S) (h : IsInHand (page_state_of old) (words_of old) c) (used : IsTrue (is_kept (page_state_of old page)))
       (apart : times page (pages_of (words_of old) (roots c)) ≡ 0) (swaps : Swaps kept_of page_state_of words_of (page ∷ []) (new_page ∷ []) old new)
       (written : contents_of (words_of new new_page) ≡ c) (is_page : IsVersionPage (words_of new new_page)) (filled : page_state_of new new_page ≡ Filled) where

@@ -1,4 +1,4 @@
--- Changes of contents in hand, one after another.
+-- Changes to contents in hand, one after another.
 use Rattle.std.proofs.Common.{◌≡◌, ℕ, zero, suc, ◌<◌, List, IsTrue, true, false, ap, sym, subst, refl, arith}
 use Rattle.be_pages.specs.declared.room.PageState.{PageState}
 use Rattle.be_pages.specs.declared.room.PageState.TheVariants.{Free, Old, GivenUp, Taken, Filled}
@@ -48,7 +48,7 @@ module _ {S K : Type 0} (kept_of : S → K) (page_state_of : S → ℕ → PageS
         (swaps_since kept_of page_state_of words_of (pages_of (words_of read) (roots a)) (pages_of (words_of new) (roots b)) old read new same change.swaps);
   }
 
-  -- what was there when the write began stays, if reads come first
+  -- what was there when the write began is preserved if reads come first
   pub start_since : (old read new : S) → IsUnchanged kept_of page_state_of words_of old read → KeepsStart kept_of page_state_of words_of read new → KeepsStart kept_of page_state_of words_of old new
   start_since old read new same keeps = start_trans kept_of page_state_of words_of old read new (unchanged_start kept_of page_state_of words_of old read same) keeps
 

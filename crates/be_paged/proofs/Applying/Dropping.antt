@@ -102,7 +102,7 @@ module _ (volume left : State) (node : ℕ) (h : Leaves volume left node) where
       | inr ne ↦ gone_other nat_cmp_total nat_cmp-IsAntisymmetric index.pairs node q ne
     ]))
 
-    -- no index has a pair of the node any longer
+    -- no index has a pair of the node any more
     pub indices_bare : left.indices ≡ without_node volume.indices node
     indices_bare = same_map names_total exact_names _ _ (λ q. sym (get_left left.indices node q ∙ by q (fin.get left.indices q) refl)) ∙ h.indices
       where

@@ -27,7 +27,7 @@ use Rattle.be_paged.specs.Changes.{Changes}
 abbrev root_of : Entry → ℕ
 root_of e = e.root
 
--- entries describe the same indices while the pairs of their trees stay
+-- entries describe the same indices while the pairs of their trees are unchanged
 pub entries_same : (v w : ℕ → ℕ → ℕ) (es : List Entry) (is : List (List ℕ × Index)) → AreEntriesOf v es is → All (λ r. pairs w r ≡ pairs v r) (map (λ e. e.root) es) → AreEntriesOf w es is
 entries_same v w [] [] h same = tt
 entries_same v w [] (i ∷ is) h same = h
@@ -37,7 +37,7 @@ entries_same v w (e ∷ es) (i ∷ is) h same = (
   entries_same v w es is h.1 (λ j d lt. same (suc j) d (omega (arith, lt))),
 )
 
--- the entries, with the one at a place replaced
+-- the entries, with the one at index i replaced
 abbrev pub replaced : List Entry → ℕ → Entry → List Entry
 replaced es i e = take i es ++ e ∷ drop (suc i) es
 
@@ -60,7 +60,7 @@ roots_replaced es i e = map-append root_of (take i es) (e ∷ drop (suc i) es)
 flip : (a b : List ℕ) (r : Ordering) → name_cmp a b ≡ r → name_cmp b a ≡ ordering_reverse r
 flip a b r e = names_total.antisymm b a ∙ ap ordering_reverse e
 
--- the index of a name gets other pairs
+-- the index with this name gets other pairs
 pub named_put : (v w : ℕ → ℕ → ℕ) (es : List Entry) (is : List (List ℕ × Index)) (name : List ℕ) (index : Index) (new : Entry) (i : ℕ) → AreEntriesOf v es is → IsNamedAt es name i
     → All (λ r. pairs w r ≡ pairs v r) (map (λ e. e.root) (take i es)) → All (λ r. pairs w r ≡ pairs v r) (map (λ e. e.root) (drop (suc i) es)) → IsEntryOf w new name index
     → AreEntriesOf w (take i es ++ new ∷ drop (suc i) es) (put name_cmp name index is)
@@ -94,7 +94,7 @@ module _ {S K : Type 0} (kept_of : S → K) (page_state_of : S → ℕ → PageS
       indices = entries_same (words_of old) (words_of new) c.entries _ encodes.indices catalog_replaces.back_pairs;
     }
 
-  -- the tree of an index is replaced
+  -- an index's tree is replaced
   module _ (i : ℕ) (e d : Entry) (lt : i < length c.entries) (tree : IsTree (page_state_of new) (words_of new) e.root)
       (swaps : Swaps kept_of page_state_of words_of (pages (words_of old) (get_or c.entries i d).root) (pages (words_of new) e.root) old new) where
     front : List ℕ

@@ -1,4 +1,4 @@
--- What contents encode after a node's pair in the index of a name has changed.
+-- What contents encode after a node's pair in the index with a given name has changed.
 use Rattle.std.proofs.Common.{◌≡◌, ℕ, Bool, true, false, cond, List, get_or, Some, None, ap, sym, subst, ◌∙◌, refl}
 use Rattle.std.specs.declared.option.Option.{Option}
 use Rattle.std.specs.FinMap as fin

@@ -1,4 +1,4 @@
--- Making and removing an index, in the entries of a version.
+-- Creating and removing an index in the entries of a version.
 use Rattle.std.proofs.Common.{◌≡◌, ℕ, zero, suc, ◌+◌, ◌<◌, ◌≤◌, Bool, true, false, cond, not, List, [], ◌∷◌, ◌++◌, length, map, take, drop, All, Some, None, ap, sym, subst, ◌∙◌, refl, arith, is_some, nat_le, T, ◌&&◌, IsOk}
 use Rattle.std.proofs.lemmas.Bool.Decides.{nat_tests}
 use Rattle.std.specs.List.{filter}
@@ -130,7 +130,7 @@ left_changes kept_of page_state_of words_of old new c next catalog fs gs e r cha
       swaps = subst (λ ps. Swaps kept_of page_state_of words_of (pages_of (words_of old) (roots c)) ps old new) same change.swaps;
     }
 
--- the entries of a map without one name
+-- the entries of a map without one of its names
 turned : {A : Type 0} (b : Bool) (x y : A) → cond (not b) x y ≡ cond b y x
 turned true x y = refl
 turned false x y = refl
@@ -196,7 +196,7 @@ named_gone w (e ∷ es) (x ∷ is) name (suc i) h sorted at =
 pub gone_entries : (w : ℕ → ℕ → ℕ) (es : List Entry) (m : Indices) (name : List ℕ) (i : ℕ) → AreEntriesOf w es (fin.entries m) → IsNamedAt es name i → AreEntriesOf w (take i es ++ drop (suc i) es) (fin.entries (fin.remove m name))
 gone_entries w es m name i h at = subst (AreEntriesOf w (take i es ++ drop (suc i) es)) (sym (entries_without m name)) (named_gone w es (fin.entries m) name i h (fin.entries_sorted m) at)
 
--- what a volume accepted, for an operation on an index
+-- what a volume accepted for an operation on an index
 pub made_steps : (w : ℕ → ℕ → ℕ) (c : Contents) (volume : State) (name : List ℕ) (kind : Kind) (i : ℕ) (entry : Entry) → Encodes w c volume → IsOk (step volume (MkIndex name kind)) → IsGapAt c.entries name i
     → entry.name ≡ name → entry.kind ≡ kind → entry.root ≡ 0 → Steps w (with_entry c i entry) volume (MkIndex name kind) Nothing
 made_steps w c volume name kind i entry encodes ok at n k r = record {

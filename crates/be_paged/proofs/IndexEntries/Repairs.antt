@@ -1,4 +1,4 @@
--- A node's pair in an index: the old value's is removed, and the new value's inserted.
+-- A node's pair in an index: the old value's pair is removed, and the new value's is inserted.
 use Rattle.std.proofs.Common.{◌≡◌, ℕ, ◌<◌, ◌^◌, Bool, true, false, cond, List, [], IsTrue, Some, None, ap, sym, subst, ◌∙◌, refl, is_some}
 use Rattle.std.specs.Option.{IfSome, IfNone, option_map}
 use Rattle.std.specs.declared.option.Option.{Option}
@@ -46,7 +46,7 @@ kinds_same a b h = cc
 pub same_value : (a b : Value) → Some a ≡ Some b → a ≡ b
 same_value a b e = cc
 
--- there is a value, it is of the kind, and this is its key
+-- there is a value, it is of this kind, and this is its key
 abbrev pub Leaves : Kind → ℕ → Option Value → List ℕ → Type 0
 Leaves kind node value k = (v : Value) × (value ≡ Some v) × (kind_of v ≡ kind) × IsValue v × (k ≡ key v node)
 

@@ -1,4 +1,4 @@
--- A Set of what is already set: its index already has the pair, so the entry stays as it is.
+-- A Set of what is already set: its index already has the pair, so the entry is unchanged.
 use Rattle.std.proofs.Common.{◌≡◌, ℕ, suc, ◌<◌, Bool, true, false, cond, List, ◌∷◌, ◌++◌, take, drop, length, get_or, IsTrue, IsOk, Some, None, Ok, ap, sym, subst, ◌∙◌, refl, is_ok, is_some}
 use Rattle.std.specs.Option.{IfSome, option_map, option_and_then}
 use Rattle.std.specs.Result.{IfOk}
@@ -61,7 +61,7 @@ sets_ok s op h = ap is_ok (sets_step s op h)
 pub sets_same : (s reached : State) (op : Op) (done : Done) → SetsSameValue s op → step s op ≡ Ok (reached, done) → reached ≡ s
 sets_same s reached op done h is = same_made reached s done Nothing (sym is ∙ sets_step s op h)
 
--- the volume's contents, if a Set leaves it as it is
+-- the volume's contents if a Set leaves it unchanged
 pub record Settled (s : State) (node : ℕ) (name : List ℕ) (value : Value) : Type 0 where
   pub has : attribute s node name ≡ Some value
   pub indices : with_pair s.indices name node value ≡ s.indices
@@ -81,7 +81,7 @@ settled s node name value h =
         ap (option_and_then (λ (a : Attributes). fin.get a name)) (get_here nat_cmp_total nat_cmp-IsAntisymmetric s.nodes node attributes)
         ∙ get_here names_total exact_names (attributes_of s.nodes node) name value
 
--- the index of the name stays as it is
+-- the index with this name is unchanged
 pub paired_same : (indices : Indices) (name : List ℕ) (index : Index) (node : ℕ) (value : Value) → fin.get indices name ≡ Some index → with_pair indices name node value ≡ indices → paired index node value ≡ index
 paired_same indices name index node value there same =
     same_index (paired index node value) index
@@ -95,7 +95,7 @@ has_pair index node value of_kind same =
     let pairs : fin.insert index.pairs node value ≡ index.pairs = ap (λ (i : Index). i.pairs) (ap chosen (sym (kinds_agree index.kind (kind_of value) of_kind)) ∙ same) in
     sym (ap (λ (m : FinMap nat_cmp Value). fin.get m node) pairs) ∙ get_here nat_cmp_total nat_cmp-IsAntisymmetric index.pairs node value
 
--- what holds if the index has the value's key, and if the value is of another kind, holds
+-- what holds both if the index has the value's key and if the value is of another kind always holds
 pub by_kinds : (items : List Pair) (index : Index) (kind : Kind) (node : ℕ) (v : Value) (old new : Option Value) (P Q : Type 0) → IsIndexOf items index → index.kind ≡ kind → IsTrue (is_indexable kind)
     → paired index node v ≡ index → old ≡ Some v → new ≡ Some v
     → ((u : Value) → kind_of u ≡ kind → IsTrue (is_indexable kind) → old ≡ Some u → new ≡ Some u → is_some (payload_at items (key u node)) ≡ true → P × Q)

@@ -1,4 +1,4 @@
--- Ascending pairs are no more than the keys that contain theirs.
+-- Ascending pairs are no more numerous than a list of keys that includes theirs.
 use Rattle.std.proofs.Common.{◌≡◌, ℕ, ◌≤◌, Bool, true, false, cond, ◌||◌, List, [], ◌∷◌, map, length, Some, None, is_some, unwrap_or, ap, sym, subst, ◌∙◌, refl}
 use Rattle.std.specs.FinMap.{IsAntisymmetric}
 use Rattle.std.specs.FinMap.Entries.{find}
@@ -43,7 +43,7 @@ pub few_pairs : (xs : List Pair) (ys : List (List ℕ)) → IsRising xs → ((q 
 few_pairs xs ys rising among =
     subst (λ n. n ≤ length ys) (length-map xs (λ x. x.key)) (length-le_from_is_member same_key (map (λ x. x.key) xs) ys (distinct xs rising) (λ q e. among q (found xs q e)))
 
--- if a test passes for the second of two, it passes for one of them
+-- if the second of two tests passes, one of them passes
 pub or_right : (a b : Bool) → b ≡ true → (a || b) ≡ true
 or_right true b e = refl
 or_right false b e = e

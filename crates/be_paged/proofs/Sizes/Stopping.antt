@@ -1,4 +1,4 @@
--- What a write has in hand when it stops because no page is free.
+-- What a write holds when it stops because no page is free.
 use Rattle.std.proofs.Common.{◌≡◌, ◌⊎◌, ℕ, zero, suc, ◌+◌, ◌*◌, ◌<◌, ◌≤◌, ◌^◌, Bool, true, false, cond, List, [], ◌∷◌, ◌++◌, map, take, drop, get_or, length, All, Some, None, is_some, Ok, Err, OnErr, Result, ap, ◌∙◌, refl, inl, inr, arith}
 use Rattle.std.proofs.Math.Nat.{pow-le-pow_right}
 use Rattle.std.proofs.lemmas.List.{length-append, length-map}
@@ -70,7 +70,7 @@ put_pairs pair xs ys e = omega (arith, put_size pair xs, ap length e)
 pub without_pairs : (k : List ℕ) (xs ys : List Pair) → ys ≡ without k xs → length ys ≤ length xs + 0
 without_pairs k xs ys e = omega (arith, without_size k xs, ap length e)
 
--- the number of pairs of several trees
+-- the number of pairs in several trees
 three_size : (w : ℕ → ℕ → ℕ) (front back : List ℕ) (r : ℕ) → length (pairs_of_all w (front ++ r ∷ back)) ≡ length (pairs_of_all w front) + (length (pairs w r) + length (pairs_of_all w back))
 three_size w front back r =
     omega (
@@ -91,7 +91,7 @@ same_size v w (r ∷ rs) same =
       length-append (pairs v r) (pairs_of_all v rs),
     )
 
--- one of the trees has no more pairs than all
+-- one of the trees has no more pairs than all of them together
 part_size : (w : ℕ → ℕ → ℕ) (front back : List ℕ) (r : ℕ) → length (pairs w r) ≤ length (pairs_of_all w (front ++ r ∷ back))
 part_size w front back r = omega (arith, three_size w front back r)
 
@@ -130,7 +130,7 @@ module _ {S K : Type 0} (kept_of : S → K) (page_state_of : S → ℕ → PageS
         same_size (words_of old) (words_of new) back r.back_pairs,
       )
 
-  -- a refused change finds the tree as it was
+  -- a refused change finds the tree unchanged
   pub tree_stops : (root : ℕ) (old new : S) → IsTree (page_state_of old) (words_of old) root → TakesFewer (most_taken (level_of_root (words_of old) root)) (page_state_of old) (page_state_of new)
       → StopsTree kept_of page_state_of words_of root old new
   tree_stops root old new tree takes = record {
@@ -244,7 +244,7 @@ module _ {S K : Type 0} (kept_of : S → K) (page_state_of : S → ℕ → PageS
           takes = s.takes;
         }
 
-  -- the number of pages in hand when a write stops
+  -- the number of pages held when a write stops
   pub few_at_stop : (most indices high : ℕ) (before : Contents) (old new : S) → Stops kept_of page_state_of words_of (most + 1) indices before old new → most + 1 < 2 * 6 ^ suc high → HasInHand (page_state_of old) []
       → (n : ℕ) → 5 * in_hand n (page_state_of new) ≤ most + 4 * indices + 10 * high + 15
   few_at_stop most indices high before old new s lt none n =
@@ -261,7 +261,7 @@ module _ {S K : Type 0} (kept_of : S → K) (page_state_of : S → ℕ → PageS
         not_higher s.level high (most + 1) s.can_be_high lt,
       )
 
--- contents in hand have no more pairs than the volume has items, and as many indices
+-- contents in hand have no more pairs than the volume has items, and the same number of indices
 pub record AreAll (words : ℕ → ℕ → ℕ) (c : Contents) (volume : State) : Type 0 where
   pub pairs_few : pair_count words c ≤ items volume
   pub indices_are : length c.entries ≡ fin.len volume.indices
@@ -282,7 +282,7 @@ gains_trans first last more u v w a b c g h le = (omega (arith, g.0, h.0, le), h
 pub gains_none : (words : ℕ → ℕ → ℕ) (more : ℕ) (c : Contents) → Gains more words words c c
 gains_none words more c = (omega arith, refl)
 
--- the volume that a list of operations reaches stays within the bounds
+-- the volume that a list of operations reaches is within the bounds
 reached_within : (volume made : State) (ops : List Op) (i most indices : ℕ) (dones : List Done) → steps volume (take i ops) ≡ Ok (made, dones) → i ≤ length ops → StaysWithin most indices volume ops
     → (items made ≤ most) × (fin.len made.indices ≤ indices)
 reached_within volume made ops i most indices dones stepped le stays =

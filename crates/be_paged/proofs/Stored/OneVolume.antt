@@ -1,4 +1,5 @@
--- A page encodes only one volume: its pairs determine the nodes, the attributes and the indices, which are all of a volume.
+-- A page encodes only one volume: its pairs determine the nodes, the attributes and the indices,
+-- which make up the whole volume.
 use Rattle.std.proofs.Common.{◌≡◌, ℕ, ◌<◌, ◌≤◌, ◌^◌, List, [], ◌∷◌, drop, cond, true, false, Some, None, unwrap_or, is_some, refl, sym, ap, subst, ◌∙◌, inl, inr, arith, IsTrue}
 use Rattle.std.proofs.lemmas.Bool.{cases_lt}
 use Rattle.std.proofs.lemmas.Nat.{from_be_bytes-to_be_bytes_4, from_be_bytes-to_be_bytes_8}
@@ -37,7 +38,7 @@ use Rattle.be_paged_reading.proofs.IndexEntries.Indexing.{names_exact, names_tot
 use Rattle.be_paged_reading.proofs.CatalogPairs.Segments.{no_nameless}
 use Rattle.be_paged_reading.proofs.CatalogPairs.Validity.{values_valid}
 
--- bytes determine their number
+-- bytes determine the number that they encode
 word32 : (a b : ℕ) → a < 2 ^ 32 → b < 2 ^ 32 → to_be_bytes w32 a ≡ to_be_bytes w32 b → a ≡ b
 word32 a b p q e = sym (from_be_bytes-to_be_bytes_4 a p) ∙ ap (from_be_bytes w32) e ∙ from_be_bytes-to_be_bytes_4 b q
 

@@ -1,4 +1,4 @@
--- Whether a node exists, and how many attributes it has, by a walk from its mark.
+-- Whether a node exists and how many attributes it has, determined by a walk from its mark.
 use Rattle.std.proofs.Common.{◌≡◌, ℕ, zero, ◌<◌, ◌≤◌, ◌^◌, Bool, true, false, cond, List, [], ◌∷◌, length, drop, All, Some, None, ap, sym, subst, ◌∙◌, refl, arith, is_some, unwrap_or}
 use Rattle.std.specs.Int.{to_be_bytes, w64}
 use Rattle.std.specs.List.{slice_get}
@@ -57,7 +57,7 @@ present nodes node count = by (fin.get nodes node)
     by None h e = never h
     by (Some a) h e = ap Some e
 
--- a node's count says whether the node exists, and how many attributes it has
+-- The count for a node says whether the node exists, and how many attributes it has.
 pub count_there : (nodes : Nodes) (node : ℕ) → is_some (count_of nodes node) ≡ fin.contains_key nodes node
 count_there nodes node = by (fin.get nodes node)
   where
@@ -72,7 +72,7 @@ count_all nodes node = by (fin.get nodes node)
     by None = sym (fin.len-empty name_cmp Value)
     by (Some a) = refl
 
--- a number that no node has had yet is no node's
+-- A number that hasn't been assigned yet belongs to no node.
 pub uncounted : (s : State) (node next : ℕ) → IsSound s → next ≡ s.next → next ≤ node → None ≡ count_of s.nodes node
 uncounted s node next sound same past = absent s.nodes node (by (fin.contains_key s.nodes node) refl)
   where
@@ -80,7 +80,7 @@ uncounted s node next sound same past = absent s.nodes node (by (fin.contains_ke
     by true e = absurd (omega (arith, sound.nodes node e, same, past))
     by false e = refl
 
--- a node that was counted as having no attribute has none
+-- If a node was counted as having no attributes, it has none.
 pub bare_counted : (s : State) (node : ℕ) (count : Option ℕ) → count ≡ count_of s.nodes node → unwrap_or count 0 ≡ 0 → fin.len (attributes_of s.nodes node) ≡ 0
 bare_counted s node count is none = sym (count_all s.nodes node) ∙ ap (λ (n : Option ℕ). unwrap_or n 0) (sym is) ∙ none
 
@@ -90,11 +90,11 @@ module _ (ps : List Pair) (nodes : Nodes) (node : ℕ) (mark : List ℕ) (fits :
       ∙ ap is_some (payload_from mark mark false ps ∙ ap (λ b. cond b (payload_at ps mark) None) (from_equal mark false mark (tied_itself key_total mark)))
       ∙ node_there ps nodes node mark catalog fits is_mark
 
-  -- no pair is at the mark or after it
+  -- There is no pair at or after the mark.
   pub none_at_end : (now : List Pair) → now ≡ pairs_from ps mark false → now ≡ [] → None ≡ count_of nodes node
   none_at_end now lies empty = absent nodes node (sym (marked now lies) ∙ ap (λ (xs : List Pair). is_some (payload_at xs mark)) empty)
 
-  -- the first pair at the mark or after it has another key
+  -- The first pair at or after the mark has another key.
   pub none_elsewhere : (now : List Pair) (x : Pair) (same : Bool) → now ≡ pairs_from ps mark false → slice_get now 0 ≡ Some x → same ≡ is_eq (key_cmp x.key mark) → same ≡ false → None ≡ count_of nodes node
   none_elsewhere [] x same lies first is other = none_some x first
   none_elsewhere (y ∷ ys) x same lies first is other =
@@ -117,7 +117,7 @@ module _ (ps : List Pair) (nodes : Nodes) (node : ℕ) (mark : List ℕ) (fits :
           by Equal t = never (sym untied ∙ ap is_eq t)
           by Greater t = refl
 
-  -- the node's attributes follow its mark
+  -- The node's attributes follow its mark.
   pub counted_after : AreValid nodes → (now rest : List Pair) (x : Pair) (same : Bool) (count : ℕ) → now ≡ pairs_from ps mark false → slice_get now 0 ≡ Some x → rest ≡ drop 1 now
       → same ≡ is_eq (key_cmp x.key mark) → same ≡ true → fin.len (attributes_of nodes node) ≤ 64 → (length (front_of_node node rest) ≤ 64 → count ≡ length (front_of_node node rest)) → Some count ≡ count_of nodes node
   counted_after valid now rest x same count lies first left is here few counts =

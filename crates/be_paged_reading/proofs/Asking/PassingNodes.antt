@@ -1,4 +1,5 @@
--- The nodes of the keys whose texts pass a comparison: how far a walk has come, and how a query sees them.
+-- The nodes of the keys whose strings satisfy a comparison: how far a walk has progressed, and how
+-- a query sees these nodes.
 use Rattle.std.proofs.Common.{◌≡◌, ◌⊎◌, ℕ, suc, ◌+◌, ◌-◌, ◌<◌, ◌≤◌, ◌||◌, Bool, true, false, cond, not, IsUtf8, List, [], ◌∷◌, ◌++◌, length, drop, get_or, Some, None, inl, inr, ap, sym, subst, ◌∙◌, refl, arith, is_some, append_assoc, if◌then◌else◌}
 use Rattle.std.specs.Int.{to_be_bytes, w64}
 use Rattle.std.specs.List.{Contains, flat_map}
@@ -42,18 +43,18 @@ use Rattle.be_paged_reading.proofs.CatalogPairs.Segments.{all_from, payload_from
 use Rattle.be_paged_reading.proofs.Asking.RangeNodes.{below_past, node_of_key, not_true, past_above}
 use Rattle.be_paged_reading.proofs.Asking.SourceKeys.{key_finds, same_from}
 
--- what each pair up to the bound gives
+-- What each pair up to the bound contributes.
 abbrev pub taken : (Pair → List ℕ) → List Pair → Option (List ℕ) → List ℕ
 taken t xs high = flat_map t (pairs_to xs high)
 
--- for a pair within the bound, and for one above it
+-- The contribution of a pair within the bound, and that of a pair above it.
 pub opened : (t : Pair → List ℕ) (x : Pair) (xs : List Pair) (high : Option (List ℕ)) → is_past high x.key ≡ false → taken t (x ∷ xs) high ≡ t x ++ taken t xs high
 opened t x xs high h = ap (λ b. flat_map t (if b then [] else x ∷ pairs_to xs high)) h
 
 pub closed : (t : Pair → List ℕ) (x : Pair) (xs : List Pair) (high : Option (List ℕ)) → is_past high x.key ≡ true → taken t (x ∷ xs) high ≡ []
 closed t x xs high h = ap (λ b. flat_map t (if b then [] else x ∷ pairs_to xs high)) h
 
--- for two parts
+-- The contributions of two parts.
 to_append : (t : Pair → List ℕ) (xs ys : List Pair) (high : Option (List ℕ)) → taken t (xs ++ ys) high ≡ taken t xs high ++ (if any_past high xs then [] else taken t ys high)
 to_append t [] ys high = refl
 to_append t (x ∷ xs) ys high = by (is_past high x.key) (to_append t xs ys high)
@@ -64,7 +65,7 @@ to_append t (x ∷ xs) ys high = by (is_past high x.key) (to_append t xs ys high
     by true rest = refl
     by false rest = ap (λ ns. t x ++ ns) rest ∙ sym (append_assoc (t x) (taken t xs high) (if any_past high xs then [] else taken t ys high))
 
--- the first nodes of one part are the first nodes of both
+-- The first nodes of one part are the first nodes of both.
 pub first_of_two : (t : Pair → List ℕ) (mid now : List ℕ) (xs ys : List Pair) (high : Option (List ℕ)) → HasFirst mid (taken t xs high) now → HasFirst mid (taken t (xs ++ ys) high) now
 first_of_two t mid now xs ys high first =
     let more = if any_past high xs then [] else taken t ys high in
@@ -77,7 +78,7 @@ first_of_two t mid now xs ys high first =
       };
     }
 
--- what the list has gained after one more push
+-- What has been added to the list after one more push.
 pub got_more : (before all left piece rest mid now : List ℕ) → HasGot before all left mid → left ≡ piece ++ rest → now ≡ mid ++ piece → HasGot before all rest now
 got_more before all left piece rest mid now has parts push = record {
   got = has.got ++ piece;
@@ -89,19 +90,19 @@ pub got_whole : (before all left now : List ℕ) → HasGot before all left now 
 got_whole before all left now has none = has.is ∙ ap (λ ns. before ++ ns) (sym (append-nil has.got) ∙ ap (λ ns. has.got ++ ns) (sym none) ∙ sym has.parts)
 
 module _ (t : Pair → List ℕ) (before all mid now : List ℕ) (xs ys : List Pair) (high : Option (List ℕ)) (has : HasGot before all (taken t (xs ++ ys) high) mid) where
-  -- the bound is after this leaf
+  -- The bound is after this leaf.
   pub whole_leaf : false ≡ any_past high xs → now ≡ mid ++ taken t xs high → HasGot before all (taken t ys high) now
   whole_leaf e push =
       got_more before all (taken t (xs ++ ys) high) (taken t xs high) (taken t ys high) mid now has
       (to_append t xs ys high ∙ ap (λ b. taken t xs high ++ (if b then [] else taken t ys high)) (sym e)) push
 
-  -- the bound is in this leaf
+  -- The bound is in this leaf.
   pub last_leaf : true ≡ any_past high xs → now ≡ mid ++ taken t xs high → now ≡ before ++ all
   last_leaf e push =
       got_rest before all (taken t (xs ++ ys) high) mid now has
       (push ∙ sym (ap (λ ns. mid ++ ns) (to_append t xs ys high ∙ ap (λ b. taken t xs high ++ (if b then [] else taken t ys high)) (sym e) ∙ append-nil (taken t xs high))))
 
--- a leaf's item has a text
+-- An item of a leaf contains a string.
 pub text_at : (words : ℕ → ℕ) (from at : ℕ) → from ≤ at → at < words 1 → AreTexts (drop from (items_of words)) → IsTextKey (item_at words (item_place at)).key
 text_at words from at le lt texts =
     let d = item_at words (item_place at) in
@@ -109,7 +110,7 @@ text_at words from at le lt texts =
     subst (λ (x : Pair). IsTextKey x.key) (get_or-drop from (items_of words) (at - from) d ∙ ap (λ i. get_or (items_of words) i d) e ∙ item_get words at d lt)
     (texts (at - from) d (omega (arith, le, lt, length-drop from (items_of words), items_count words)))
 
--- what holds for the node of each pair that passes holds for all the nodes
+-- What holds for the node of each pair that passes holds for all the nodes.
 each_node : (Q : ℕ → Type 0) (op : Cmp) (literal : Literal) (xs : List Pair) (high : Option (List ℕ))
     → ((i : ℕ) (d : Pair) → i < length xs → is_past high (get_or xs i d).key ≡ false → passes op literal (get_or xs i d).key ≡ true → Q (number_of (get_or xs i d).key))
     → (n : ℕ) → Contains (nodes_passing_to op literal xs high) n → Q n
@@ -135,7 +136,7 @@ each_node Q op literal (x ∷ xs) high all n has = by (is_past high x.key) refl 
     by true e rest has = absurd (omega (arith, has.1))
     by false e rest has = either e rest (Contains-append_cases (node_if_passing op literal x) (nodes_passing_to op literal xs high) n has)
 
--- the node of a key that passes is among the nodes
+-- The node of a key that passes is among the nodes.
 has_node : (op : Cmp) (literal : Literal) (xs : List Pair) (high : Option (List ℕ)) (k : List ℕ) → IsRising xs → is_some (payload_at xs k) ≡ true → is_past high k ≡ false → passes op literal k ≡ true
     → Contains (nodes_passing_to op literal xs high) (number_of k)
 has_node op literal [] high k rising some h holds = absurd (never some)
@@ -160,7 +161,7 @@ has_node op literal (x ∷ xs) high k rising some h holds = by (key_cmp x.key k)
 
 module _ (w : ℕ → ℕ → ℕ) (c : Contents) (volume : State) (name : List ℕ) (i : ℕ) (d : Entry) (encodes : Encodes w c volume) (at : IsNamedAt c.entries name i) (sound : IsSound volume)
     (kind : (get_or c.entries i d).kind ≡ kinds.Cstr) where
-  -- the keys of an index of texts have texts
+  -- The keys of an index of strings contain strings.
   pub keys_texts : AreTexts (pairs w (get_or c.entries i d).root)
   keys_texts j e lt =
       let found = named_found w c.entries (fin.entries volume.indices) name i encodes.indices at in
@@ -177,7 +178,7 @@ module _ (w : ℕ → ℕ → ℕ) (c : Contents) (volume : State) (name : List 
       ap (λ o. option_map (λ (x : Index). x.kind) o) (fin.get-entries volume.indices name ∙ found.found) ∙ ap (λ k. Some k) (sym (found.entry d).kind_is ∙ kind)
 
   module _ (op : Cmp) (literal : Literal) (low : List ℕ) (high : Option (List ℕ)) where
-    -- a key's text passes if the comparison is true of the key's node
+    -- The string in a key passes if and only if the comparison is true of the key's node.
     pub passes_if : (k : List ℕ) (h : IsKey volume name k) → passes op literal k ≡ sat volume (Leaf name op literal) h.node
     passes_if k h = passed volume sound name k h is_of_texts op literal (text_in k) (passes op literal k) refl (λ _. refl)
 
@@ -215,7 +216,7 @@ module _ (w : ℕ → ℕ → ℕ) (c : Contents) (volume : State) (name : List 
         ))
         n has
 
-    -- a list that has gained the first of the nodes has gained nothing else
+    -- A list to which the first of the nodes were added has gained nothing else.
     pub passing_first : (before after : List ℕ) → HasFirst before (nodes_passing_to op literal (pairs_from (pairs w (get_or c.entries i d).root) low false) high) after
         → HasOnlyTrue volume (Leaf name op literal) name low high before after
     passing_first before after first n h =

@@ -1,4 +1,4 @@
--- The nodes of the keys that pass a test: how far a walk in order has come.
+-- The nodes of the keys that pass a test: how far an ordered walk has progressed.
 use Rattle.std.proofs.Common.{◌≡◌, ℕ, zero, suc, ◌+◌, ◌-◌, ◌<◌, ◌≤◌, Bool, true, false, cond, List, [], ◌∷◌, ◌++◌, length, drop, get_or, take, reverse, ap, sym, subst, ◌∙◌, refl, arith, append_assoc, if◌then◌else◌}
 use Rattle.std.specs.List.{flat_map}
 use Rattle.std.specs.declared.option.Option.{Option}
@@ -26,7 +26,7 @@ use Rattle.be_paged_reading.proofs.Asking.PassingNodes.{keys_texts, passes_if}
 use Rattle.be_paged_reading.proofs.Asking.RangeNodes.{keys_long}
 use Rattle.be_paged_reading.specs.KeyTests.{AreTestable, IsTestable, node_if, nodes_passing, passing_on}
 
--- from where a way begins, a tree's pairs have what the test reads
+-- From the start of a way on, the pairs of a tree contain what the test reads.
 pub begun_testable : (test : KeyTest) (back strict : Bool) (low : List ℕ) (high : Option (List ℕ)) (xs : List Pair) → AreTestable test xs → AreTestable test (from_start back strict low high xs)
 begun_testable test false strict low high xs texts = All-filter (λ (x : Pair). is_from low strict x.key) (λ (x : Pair). IsTestable test x.key) xs texts
 begun_testable test true strict low high xs texts = λ i d lt.
@@ -35,13 +35,13 @@ begun_testable test true strict low high xs texts = λ i d lt.
     subst (λ (x : Pair). IsTestable test x.key) (sym (get_or-reverse ys i d below))
     (All-filter (λ (x : Pair). is_until high strict x.key) (λ (x : Pair). IsTestable test x.key) xs texts (length ys - 1 - i) d (omega (arith, below)))
 
--- an index's keys have what a test for its kind reads
+-- The keys of an index contain what a test for its kind reads.
 module _ (w : ℕ → ℕ → ℕ) (c : Contents) (volume : State) (name : List ℕ) (i : ℕ) (d : Entry) (encodes : Encodes w c volume) (at : IsNamedAt c.entries name i) (sound : IsSound volume) where
   pub keys_testable : (test : KeyTest) → (reads_texts test ≡ true → (get_or c.entries i d).kind ≡ kinds.Cstr) → AreTestable test (pairs w (get_or c.entries i d).root)
   keys_testable (Text test) of_texts = keys_texts w c volume name i d encodes at sound (of_texts refl)
   keys_testable (Marked marks) of_texts = keys_long w c volume name i d encodes at
 
-  -- a test says about a key what it says about the key's node
+  -- A test has the same result for a key as for the key's node.
   pub passes_as_node : (test : KeyTest) → (reads_texts test ≡ true → (get_or c.entries i d).kind ≡ kinds.Cstr) → (low : List ℕ) (high : Option (List ℕ)) (k : List ℕ) (n : ℕ) (h : IsKey volume name k) → h.node ≡ n →
       passes_key test k n ≡ passes_node volume name test n
   passes_as_node (Text test) of_texts low high k n h node =
@@ -55,7 +55,7 @@ module _ (test : KeyTest) (way : Way) where
   abbrev nodes : List Pair → List ℕ
   nodes xs = passing_on test way xs
 
-  -- for two parts
+  -- The nodes of two parts.
   pub two_parts : (xs ys : List Pair) → nodes (xs ++ ys) ≡ nodes xs ++ nodes ys
   two_parts [] ys = refl
   two_parts (x ∷ xs) ys = by (is_on_way way x.key) (two_parts xs ys)
@@ -65,7 +65,7 @@ module _ (test : KeyTest) (way : Way) where
       by true rest = ap (λ ns. node x ++ ns) rest ∙ sym (append_assoc (node x) (nodes xs) (nodes ys))
       by false rest = rest
 
-  -- for a pair on the way; and from a pair past its end on
+  -- The nodes of a pair on the way, and of the pairs from one past its end on.
   on_more : (x : Pair) (xs : List Pair) → is_on_way way x.key ≡ true → nodes (x ∷ xs) ≡ node x ++ nodes xs
   on_more x xs on = ap (λ b. flat_map node (cond b (x ∷ on_way way xs) (on_way way xs))) on
 
@@ -74,7 +74,7 @@ module _ (test : KeyTest) (way : Way) where
   none_on (x ∷ xs) ys zero d lt off stays = ap (λ b. flat_map node (cond b (x ∷ on_way way (xs ++ ys)) (on_way way (xs ++ ys)))) off ∙ ap (flat_map node) (stays.0 off)
   none_on (x ∷ xs) ys (suc i) d lt off stays = none_on xs ys i d (omega (arith, lt)) off stays.1
 
-  -- a pair gives at most one node
+  -- A pair contributes at most one node.
   pub one_at_most : (x : Pair) → length (node x) ≤ 1
   one_at_most x = by (passes_key test x.key (number_of x.key))
     where
@@ -82,7 +82,7 @@ module _ (test : KeyTest) (way : Way) where
       by true = omega arith
       by false = omega arith
 
-  -- a list that has gained the nodes of a leaf's first pairs
+  -- A list to which the nodes of a leaf's first pairs were added.
   module _ (before found : List ℕ) (zs : List Pair) (i : ℕ) (parts : before ++ nodes zs ≡ found ++ nodes (drop i zs)) where
     with_rest : (rest : List Pair) → before ++ nodes (zs ++ rest) ≡ found ++ nodes (drop i zs ++ rest)
     with_rest rest =
@@ -106,10 +106,10 @@ module _ (test : KeyTest) (way : Way) where
     all_tested le = sym (parts ∙ ap (λ xs. found ++ nodes xs) (drop_all i zs le) ∙ append-nil found)
 
     module _ (most : ℕ) (few : length found ≤ most) (rest : List Pair) where
-      -- the list is full
+      -- The list is full.
       pub is_full : most ≤ length found → found ≡ take most (before ++ nodes (zs ++ rest))
       is_full enough = sym (ap (take most) (with_rest rest) ∙ take-append-le most found (nodes (drop i zs ++ rest)) enough ∙ take_all most found few)
 
-      -- no later pair is on the way
+      -- No later pair is on the way.
       pub is_past : (d : Pair) → i < length zs → is_on_way way (get_or zs i d).key ≡ false → StaysFalse (is_on_way way) (zs ++ rest) → found ≡ take most (before ++ nodes (zs ++ rest))
       is_past d lt off stays = sym (ap (take most) (with_rest rest ∙ ap (λ ns. found ++ ns) (none_on zs rest i d lt off stays) ∙ append-nil found) ∙ take_all most found few)

@@ -31,7 +31,7 @@ use Rattle.be_paged_reading.proofs.IndexEntries.Indexing.{named_found}
 use Rattle.be_paged_reading.proofs.CatalogPairs.Segments.{all_from, payload_from, rising_from}
 use Rattle.be_paged_reading.proofs.Asking.SourceKeys.{key_finds, same_from}
 
--- the number at the end of a key is its node
+-- The number at the end of a key is its node.
 pub node_of_key : (v : Value) (n : ℕ) → n < 2 ^ 64 → number_of (key v n) ≡ n
 unfolding number_of
 node_of_key v n fits =
@@ -40,13 +40,13 @@ node_of_key v n fits =
     ∙ ap (from_be_bytes w64) (drop-append_seam (value_key v) (to_be_bytes w64 n))
     ∙ from_be_bytes-to_be_bytes_8 n fits
 
--- both crates define the same bound
+-- Both crates define the same bound.
 pub past_above : (high : Option (List ℕ)) (k : List ℕ) → is_past high k ≡ is_above high k
 unfolding key_cmp
 past_above None k = refl
 past_above (Some h) k = refl
 
--- a key below one that is within the bound is within it too
+-- A key below one that is within the bound is itself within the bound.
 pub below_past : (high : Option (List ℕ)) (a k : List ℕ) → key_cmp a k ≡ Less → is_past high k ≡ false → is_past high a ≡ false
 below_past None a k t h = refl
 below_past (Some b) a k t h = by (key_cmp a b) refl
@@ -59,7 +59,7 @@ below_past (Some b) a k t h = by (key_cmp a b) refl
 opened : (x : Pair) (xs : List Pair) (high : Option (List ℕ)) → is_past high x.key ≡ false → numbers_to (x ∷ xs) high ≡ number_of x.key ∷ numbers_to xs high
 opened x xs high h = ap (λ b. map (λ (y : Pair). number_of y.key) (if b then [] else x ∷ pairs_to xs high)) h
 
--- what holds for the number of each pair within the bound holds for all the numbers
+-- What holds for the number of each pair within the bound holds for all the numbers.
 each_number : (Q : ℕ → Type 0) (xs : List Pair) (high : Option (List ℕ)) → ((i : ℕ) (d : Pair) → i < length xs → is_past high (get_or xs i d).key ≡ false → Q (number_of (get_or xs i d).key))
     → (n : ℕ) → Contains (numbers_to xs high) n → Q n
 each_number Q [] high all n has = absurd (omega (arith, has.1))
@@ -80,7 +80,7 @@ each_number Q (x ∷ xs) high all n has = by (is_past high x.key) refl (each_num
     by true e rest has = absurd (omega (arith, has.1))
     by false e rest has = either e rest (Contains-append_cases (number_of x.key ∷ []) (numbers_to xs high) n has)
 
--- the number of a key within the bound is among the numbers
+-- The number of a key within the bound is among the numbers.
 has_number : (xs : List Pair) (high : Option (List ℕ)) (k : List ℕ) → IsRising xs → is_some (payload_at xs k) ≡ true → is_past high k ≡ false → Contains (numbers_to xs high) (number_of k)
 has_number [] high k rising some h = absurd (never some)
   where
@@ -104,7 +104,7 @@ not_true true h = cc
 not_true false h = refl
 
 module _ (w : ℕ → ℕ → ℕ) (c : Contents) (volume : State) (name : List ℕ) (i : ℕ) (d : Entry) (encodes : Encodes w c volume) (at : IsNamedAt c.entries name i) where
-  -- an index's keys are long enough
+  -- The keys of an index are long enough.
   pub keys_long : AreLong (pairs w (get_or c.entries i d).root)
   keys_long j e lt =
       let p = ((named_found w c.entries (fin.entries volume.indices) name i encodes.indices at).entry d).keys.only j e lt in
@@ -140,7 +140,7 @@ module _ (w : ℕ → ℕ → ℕ) (c : Contents) (volume : State) (name : List 
         })
         n has
 
-    -- a list that has gained the first of the numbers has gained nothing else
+    -- A list to which the first of the numbers were added has gained nothing else.
     pub first_only : (before after : List ℕ) → HasFirst before (numbers_to (pairs_from (pairs w (get_or c.entries i d).root) low false) high) after → HasOnly volume name low high before after
     first_only before after first n h =
         by (Contains-append_cases before first.has.got n (subst (λ (l : List ℕ). Contains l n) first.has.is h))
@@ -149,6 +149,6 @@ module _ (w : ℕ → ℕ → ℕ) (c : Contents) (volume : State) (name : List 
         by (inl there) = inl there
         by (inr new) = inr (range_only n (subst (λ (l : List ℕ). Contains l n) (sym first.has.parts) (Contains-append_left first.has.got first.left n new)))
 
--- and it keeps what it had
+-- A list to which the first of the numbers were added keeps what it had.
 pub first_keeps : (before numbers after : List ℕ) → HasFirst before numbers after → Keeps before after
 first_keeps before numbers after first = λ n h. subst (λ (l : List ℕ). Contains l n) (sym first.has.is) (Contains-append_left before first.has.got n h)

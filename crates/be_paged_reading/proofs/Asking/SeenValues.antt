@@ -1,4 +1,4 @@
--- What a comparison sees of a node: its attribute, if the index has the attribute's key.
+-- What a comparison sees of a node: its attribute, if the index contains the key of that attribute.
 use Rattle.std.proofs.Common.{◌≡◌, ℕ, ◌<◌, ◌^◌, Bool, true, false, ◌&&◌, IsTrue, List, Some, None, ap, sym, subst, ◌∙◌, refl, is_some}
 use Rattle.std.specs.Option.{option_map_or}
 use Rattle.std.specs.declared.option.Option.{Option}
@@ -38,11 +38,11 @@ module _ (s : State) (sound : IsSound s) (name : List ℕ) (node : ℕ) (reporte
   false_in None there h = sym h
   false_in (Some index) there h = pair_false index there h (fin.get index.pairs node) refl
 
-  -- what is false of the node's attribute is false of what the comparison sees
+  -- What is false of the node's attribute is false of what the comparison sees.
   pub seen_false : option_map_or reported (attribute s node name) false ≡ false → false ≡ option_map_or reported (sees s node name) false
   seen_false h = false_in (fin.get s.indices name) refl h
 
-  -- without an index the comparison sees the attribute
+  -- Without an index, the comparison sees the attribute.
   pub seen_plain : fin.get s.indices name ≡ None → option_map_or reported (attribute s node name) false ≡ true → true ≡ option_map_or reported (sees s node name) false
   seen_plain none h = sym (ap (λ i. option_map_or reported (seen_in i (attribute s node name) node) false) none ∙ h)
 
@@ -57,7 +57,7 @@ module _ (s : State) (sound : IsSound s) (name : List ℕ) (node : ℕ) (reporte
         let Q : Kind → Type 0 = λ x. IsTrue (is_indexable x) in
         not_both (is_indexable (kind_of v)) (is_some (payload_at items (key v node))) (subst Q (sym same) (kind_indexable s sound name kind is)) (finds (key v node) k) t))
 
-    -- with an index it sees the attribute if the index has its key
+    -- With an index, the comparison sees the attribute if the index contains its key.
     pub seen_indexed : (a : Option Value) → attribute s node name ≡ a → option_map_or reported a false ≡ true → option_map_or (has_pair items node) a false ≡ option_map_or reported (sees s node name) false
     seen_indexed None e h = cc
     seen_indexed (Some v) e h = by_pair v e h (has_pair items node v) refl

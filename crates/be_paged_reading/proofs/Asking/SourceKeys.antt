@@ -1,4 +1,4 @@
--- An index's keys as an index reader sees them.
+-- The keys of an index as an index reader sees them.
 use Rattle.std.proofs.Common.{◌≡◌, ℕ, zero, suc, ◌<◌, Bool, true, false, cond, not, List, [], ◌∷◌, length, map, drop, get_or, Some, None, ap, sym, subst, ◌∙◌, refl, arith, is_some}
 use Rattle.std.specs.List.{slice_get}
 use Rattle.std.specs.Option.{option_map}
@@ -37,7 +37,7 @@ mapped_len : (es : List Entry) → length (map (λ (e : Entry). e.root) es) ≡ 
 mapped_len [] = refl
 mapped_len (e ∷ es) = ap suc (mapped_len es)
 
--- an index's tree
+-- The tree of an index.
 pub entry_tree : (s : ℕ → PageState) (w : ℕ → ℕ → ℕ) (c : Contents) (i : ℕ) (d : Entry) → IsInHand s w c → i < length c.entries → IsTree s w (get_or c.entries i d).root
 entry_tree s w c i d h lt = subst (IsTree s w) (mapped_or c.entries i d lt) (h.trees.each (suc i) d.root (omega (arith, lt, mapped_len c.entries)))
 
@@ -73,7 +73,7 @@ module _ (w : ℕ → ℕ → ℕ) (c : Contents) (volume : State) (name : List 
         ap (λ q. is_some (payload_at (pairs w (get_or c.entries i d).root) q)) is.is
         ∙ ap is_some ((found.entry d).keys.each is.node is.value (ap (λ (x : Index). fin.get x.pairs is.node) (sym same) ∙ is.paired))
 
--- both crates define the same keys
+-- Both crates define the same keys.
 pub same_from : (from : List ℕ) (after : Bool) (k : List ℕ) → pair_keys.is_at_or_after from after k ≡ is_from from after k
 unfolding key_cmp
 same_from from true k = refl
@@ -86,7 +86,7 @@ same_from from false k = by (key_cmp k from)
 
 module _ (Is : List ℕ → Type 0) (all : List Pair) (rising : IsRising all) (found : (k : List ℕ) → is_some (payload_at all k) ≡ true → Is k) (finds : (k : List ℕ) → Is k → is_some (payload_at all k) ≡ true)
     (from : List ℕ) (after : Bool) where
-  -- what the pairs from there on have
+  -- The keys of the pairs from there on.
   has : (k : List ℕ) → Is k → is_from from after k ≡ true → is_some (payload_at (pairs_from all from after) k) ≡ true
   has k is e = ap is_some (payload_from from k after all) ∙ ap (λ b. is_some (cond b (payload_at all k) None)) e ∙ finds k is
 
@@ -129,14 +129,14 @@ module _ (Is : List ℕ → Type 0) (all : List Pair) (rising : IsRising all) (f
           by Equal t = refl
           by Greater t = refl
 
--- the lowest key from there on, as a walk reads it
+-- The lowest key from there on, as a walk reads it.
 pub is_next_key : (w : ℕ → ℕ → ℕ) (c : Contents) (volume : State) (name : List ℕ) (i : ℕ) (d : Entry) → Encodes w c volume → IsNamedAt c.entries name i → IsRising (pairs w (get_or c.entries i d).root)
     → (from : List ℕ) (after : Bool) (now : List Pair) (r : Option (List ℕ)) → now ≡ pairs_from (pairs w (get_or c.entries i d).root) from after → r ≡ option_map (λ (x : Pair). x.key) (slice_get now 0) → IsNextKey volume name from after r
 is_next_key w c volume name i d encodes at rising from after now r lies read =
     subst (IsNextKey volume name from after) (sym read)
     (next_is_first (IsKey volume name) (pairs w (get_or c.entries i d).root) rising (key_found w c volume name i encodes d at) (key_finds w c volume name i encodes d at) from after now (sym lies))
 
--- the pairs after the key that was read follow it
+-- The pairs after the key that was read follow it.
 pub beyond_next : (all : List Pair) → IsRising all → (from : List ℕ) (after : Bool) (now : List Pair) (k : List ℕ) → now ≡ pairs_from all from after → Some k ≡ option_map (λ (x : Pair). x.key) (slice_get now 0) → drop 1 now ≡ pairs_from all k true
 beyond_next all rising from after [] k lies read = absurd (clash read)
   where

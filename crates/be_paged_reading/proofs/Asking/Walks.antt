@@ -1,4 +1,4 @@
--- How far a walk over a node's attributes has come.
+-- How far a walk over the attributes of a node has progressed.
 use Rattle.std.proofs.Common.{◌≡◌, ℕ, zero, suc, ◌+◌, ◌<◌, ◌≤◌, ◌^◌, Bool, true, false, cond, List, [], ◌∷◌, ◌++◌, length, map, take, drop, get_or, Some, None, inl, inr, ap, sym, subst, ◌∙◌, refl, arith, T, ◌&&◌, is_some}
 use Rattle.std.specs.Int.{to_be_bytes, w64}
 use Rattle.std.specs.List.{slice_get}
@@ -29,7 +29,7 @@ use Rattle.be_paged_reading.specs.Catalog.{IsCatalog}
 use Rattle.be_paged_reading.specs.Reading.{AreValid, front_of_node, attribute_pair, attribute_pairs}
 use Rattle.be_paged_reading.proofs.CatalogPairs.Segments.{segment, value_there}
 
--- nothing is left, or something is
+-- Either nothing is left, or something is.
 pub at_end : {A : Type 0} (xs : List A) (i : ℕ) → i ≤ length xs → slice_get (drop i xs) 0 ≡ None → i ≡ length xs
 at_end [] zero le none = refl
 at_end [] (suc i) le none = absurd (omega (arith, le))
@@ -51,7 +51,7 @@ not_end [] (suc i) x some = absurd (clash some)
 not_end (y ∷ xs) zero x some = omega arith
 not_end (y ∷ xs) (suc i) x some = omega (arith, not_end xs i x some)
 
--- the same for a test
+-- If the test for the next item is false, nothing is left.
 pub none_left : {A : Type 0} (xs : List A) (i : ℕ) → i ≤ length xs → is_some (slice_get (drop i xs) 0) ≡ false → i ≡ length xs
 none_left [] zero le none = refl
 none_left [] (suc i) le none = absurd (omega (arith, le))
@@ -141,7 +141,7 @@ below name [] i d h lt = absurd (omega (arith, lt))
 below name (e ∷ es) zero d h lt = less _ (first _ _ h)
 below name (e ∷ es) (suc i) d h lt = below name es i d (second _ _ h) (omega (arith, lt))
 
--- each entry is found by its name
+-- Every entry is found by its name.
 found_at : (es : Entries) (i : ℕ) (d : List ℕ × Value) → T (is_sorted name_cmp es) → i < length es → find name_cmp (get_or es i d).0 es ≡ Some (get_or es i d).1
 found_at [] i d h lt = absurd (omega (arith, lt))
 found_at (e ∷ es) zero d h lt = ap (λ o. cond (is_eq o) (Some e.1) (find name_cmp e.0 es)) (tied_itself names_total e.0)
@@ -163,7 +163,7 @@ module _ (xs : List Pair) (nodes : Nodes) (node : ℕ) (fits : node < 2 ^ 64) (r
   entry_valid i d lt =
       valid node _ _ (sym (value_there nodes node (get_or (fin.entries (attributes_of nodes node)) i d).0) ∙ fin.get-entries (attributes_of nodes node) _ ∙ found_at (fin.entries (attributes_of nodes node)) i d (fin.entries_sorted (attributes_of nodes node)) lt)
 
-  -- after i entries a walk reads entry i
+  -- After i entries, a walk reads entry i.
   pub next_is : (i : ℕ) (r : Option (List ℕ × Value)) (now : List Pair) → now ≡ drop i (front_of_node node (pairs_from xs (to_be_bytes w64 node) true))
       → ((name : List ℕ) (value : Value) → IsName name → IsValue value → slice_get now 0 ≡ Some (attribute_pair node (name, value)) → r ≡ Some (name, value)) → (slice_get now 0 ≡ None → r ≡ None)
       → r ≡ slice_get (drop i (fin.entries (attributes_of nodes node))) 0
@@ -181,7 +181,7 @@ module _ (xs : List Pair) (nodes : Nodes) (node : ℕ) (fits : node < 2 ^ 64) (r
       at : slice_get now 0 ≡ slice_get (drop i (map (attribute_pair node) (fin.entries (attributes_of nodes node)))) 0
       at = ap (λ ys. slice_get ys 0) lies ∙ ap (λ ys. slice_get (drop i ys) 0) walked
 
-  -- the first name that a walk reads is the first name
+  -- The first name that a walk reads is the first of all names.
   pub first_name : (r : Option (List ℕ)) (now : List Pair) → now ≡ front_of_node node (pairs_from xs (to_be_bytes w64 node) true)
       → ((name : List ℕ) (value : Value) → IsName name → slice_get now 0 ≡ Some (attribute_pair node (name, value)) → r ≡ Some name) → (slice_get now 0 ≡ None → r ≡ None)
       → r ≡ option_map (λ (e : List ℕ × Value). e.0) (slice_get (fin.entries (attributes_of nodes node)) 0)
@@ -201,14 +201,14 @@ module _ (xs : List Pair) (nodes : Nodes) (node : ℕ) (fits : node < 2 ^ 64) (r
       at : slice_get now 0 ≡ slice_get (drop 0 (map (attribute_pair node) (fin.entries (attributes_of nodes node)))) 0
       at = ap (λ ys. slice_get ys 0) lies ∙ ap (λ ys. slice_get ys 0) walked
 
--- a walk that has ended has listed everything
+-- A walk that has ended has listed everything.
 pub all_listed : {A : Type 0} (es list : List A) (i : ℕ) → list ≡ take i es → i ≤ length es → None ≡ slice_get (drop i es) 0 → list ≡ es
 all_listed es list i listed le none = listed ∙ ap (λ (n : ℕ). take n es) (at_end es i le (sym none)) ∙ take_all es
 
 pub all_passed : {A : Type 0} (es list : List A) (i : ℕ) → list ≡ take i es → i ≡ length es → list ≡ es
 all_passed es list i listed e = listed ∙ ap (λ (n : ℕ). take n es) e ∙ take_all es
 
--- the list has one more item
+-- The list has one more item.
 pub one_listed : {A : Type 0} (es list : List A) (i : ℕ) (x : A) → list ≡ take i es → Some x ≡ slice_get (drop i es) 0 → list ++ x ∷ [] ≡ take (i + 1) es
 one_listed {A} es list i x listed some =
     let lt = not_end es i x (sym some) in
@@ -217,12 +217,12 @@ one_listed {A} es list i x listed some =
     same : (a b : A) → Some a ≡ Some b → a ≡ b
     same a b e = cc
 
--- a cursor after pages were only read
+-- The cursor is still valid after pages were only read.
 pub cursor_since : (s t : ℕ → PageState) (v w : ℕ → ℕ → ℕ) (cursor : Cursor) → t ≡ s → w ≡ v → IsCursor s v cursor → IsCursor t w cursor
 cursor_since s t v w cursor page_state words h =
     subst (λ (u : ℕ → PageState). IsCursor u w cursor) (sym page_state) (subst (λ (x : ℕ → ℕ → ℕ). IsCursor s x cursor) (sym words) h)
 
--- what always holds, holds for an answer
+-- What always holds also holds for a result.
 pub always : {A P : Type 0} (r : Option A) → P → IfSome r (λ _. P)
 always None p = tt
 always (Some x) p = p

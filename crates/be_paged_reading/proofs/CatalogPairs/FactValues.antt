@@ -1,4 +1,4 @@
--- What a loaded version's trees say about its volume.
+-- What the trees of a loaded version say about its volume.
 use Rattle.std.proofs.Common.{◌≡◌, ℕ, ◌<◌, ◌^◌, Bool, true, false, unwrap_or, List, [], ◌∷◌, length, Some, None, Ok, Err, ap, sym, subst, ◌∙◌, refl, is_some}
 use Rattle.std.specs.Int.{to_be_bytes, w64}
 use Rattle.std.specs.Option.{option_map, option_map_or, option_or}
@@ -43,12 +43,12 @@ pub stored_there : (nodes : Nodes) (node : ℕ) (name : List ℕ) → name_from 
 stored_there nodes node [] ok = absurd (named [] ok refl)
 stored_there nodes node (c ∷ name) ok = refl
 
--- the payload at the key of a node's name
+-- The payload at the key for a node and a name.
 stored_at : (items : List Pair) (nodes : Nodes) (node : ℕ) (name k : List ℕ) → IsCatalog items nodes → node < 2 ^ 64 → name_from name ≡ Ok name → k ≡ catalog_key node name
     → payload_at items k ≡ option_map payload_of (value_at nodes node name)
 stored_at items nodes node name k catalog fits ok e = ap (payload_at items) e ∙ catalog.each node name fits ∙ stored_there nodes node name ok
 
--- if there is no payload, the node has no value
+-- If there is no payload, the node has no value.
 pub value_absent : (items : List Pair) (nodes : Nodes) (node : ℕ) (name k : List ℕ) → IsCatalog items nodes → node < 2 ^ 64 → name_from name ≡ Ok name → k ≡ catalog_key node name
     → payload_at items k ≡ None → None ≡ value_at nodes node name
 value_absent items nodes node name k catalog fits ok e none = by (value_at nodes node name) (sym none ∙ stored_at items nodes node name k catalog fits ok e)
@@ -57,7 +57,8 @@ value_absent items nodes node name k catalog fits ok e none = by (value_at nodes
     by None h = refl
     by (Some v) h = cc
 
--- if `read` decodes each value's payload, it decodes the payload found there to the node's value
+-- If `read` decodes the payload of every value, it decodes the payload found there to the node's
+-- value.
 pub value_read : (items : List Pair) (nodes : Nodes) (node : ℕ) (name k payload : List ℕ) (read : Option Value) → IsCatalog items nodes → AreValid nodes → node < 2 ^ 64 → name_from name ≡ Ok name
     → k ≡ catalog_key node name → payload_at items k ≡ Some payload → ((v : Value) → IsValue v → payload ≡ payload_of v → read ≡ Some v) → read ≡ value_at nodes node name
 value_read items nodes node name k payload read catalog valid fits ok e there reads =
@@ -81,7 +82,7 @@ index_there w es m name (Err i) h found absent = sym (ap is_some (fin.get-entrie
 pub index_count : (w : ℕ → ℕ → ℕ) (es : List Entry) (m : Indices) → AreEntriesOf w es (fin.entries m) → length es ≡ fin.len m
 index_count w es m h = entries_len w es (fin.entries m) h ∙ sym (fin.len-entries m)
 
--- the attributes of a node that doesn't exist, and of one that does
+-- The attributes of a node that doesn't exist, and of one that does.
 pub attributes_none : (s : State) (node : ℕ) → fin.contains_key s.nodes node ≡ false → attributes_at s node ≡ Err NoNode
 attributes_none s node = by (fin.get s.nodes node)
   where
@@ -96,11 +97,11 @@ attributes_some s node = by (fin.get s.nodes node)
     by None h = cc
     by (Some a) h = refl
 
--- a node without attributes has none with this name
+-- A node without attributes has none with this name.
 pub no_attribute : (nodes : Nodes) (node : ℕ) (name : List ℕ) → fin.len (attributes_of nodes node) ≡ 0 → fin.contains_key (attributes_of nodes node) name ≡ false
 no_attribute nodes node name bare = ap (λ (a : Attributes). is_some (fin.get a name)) (fin.empty_of_len (attributes_of nodes node) bare) ∙ ap is_some (fin.get-empty name_cmp name)
 
--- the facts after pages were only read, with what is now remembered about a node
+-- The facts after pages were only read, with what is now remembered about a node.
 pub facts_since : (s t : ℕ → PageState) (v w : ℕ → ℕ → ℕ) (c : Contents) (counted now : Option (ℕ × Option ℕ)) (asked : Option Asked) (volume : State) → t ≡ s → w ≡ v → FactsOf s v c counted asked volume
     → IsCounted now volume → FactsOf t w c now asked volume
 facts_since s t v w c counted now asked volume page_state words of reported =
@@ -108,14 +109,15 @@ facts_since s t v w c counted now asked volume page_state words of reported =
     subst (λ (u : ℕ → PageState). FactsOf u w c counted asked volume) (sym page_state) (subst (λ (x : ℕ → ℕ → ℕ). FactsOf s x c counted asked volume) (sym words) of) in
     record { reported = read.reported; counted_is = reported; asked_is = read.asked_is }
 
--- and with what is now remembered about an attribute
+-- The facts after pages were only read, with what is now remembered about an attribute.
 pub facts_asked : (s t : ℕ → PageState) (v w : ℕ → ℕ → ℕ) (c : Contents) (counted : Option (ℕ × Option ℕ)) (asked : Option Asked) (last : Asked) (volume : State) → t ≡ s → w ≡ v → FactsOf s v c counted asked volume
     → IsFoundAt t w c.catalog (catalog_key last.node last.name) last.place → FactsOf t w c counted (option_or asked (Some last)) volume
 facts_asked s t v w c counted asked last volume page_state words of found =
     let read = facts_since s t v w c counted counted asked volume page_state words of of.counted_is in
     record { reported = read.reported; counted_is = read.counted_is; asked_is = asked_or t w c.catalog asked last read.asked_is found }
 
--- what holds for each value with the payload found there holds for the node's value; without a value it is false
+-- What holds for every value with the payload found there holds for the node's value. Without a
+-- value, it is false.
 pub holds_read : (items : List Pair) (nodes : Nodes) (node : ℕ) (name k payload : List ℕ) (reported : Bool) (holds : Value → Bool) → IsCatalog items nodes → AreValid nodes → node < 2 ^ 64 → name_from name ≡ Ok name
     → k ≡ catalog_key node name → payload_at items k ≡ Some payload → ((v : Value) → IsValue v → payload ≡ payload_of v → reported ≡ holds v) → reported ≡ option_map_or holds (value_at nodes node name) false
 holds_read items nodes node name k payload reported holds catalog valid fits ok e there reports =

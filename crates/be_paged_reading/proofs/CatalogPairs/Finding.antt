@@ -1,4 +1,4 @@
--- A key that a look-up finds in a list of pairs.
+-- A key that a lookup finds in a list of pairs.
 use Rattle.std.proofs.Common.{◌≡◌, ℕ, suc, zero, true, false, cond, List, [], ◌∷◌, All, Some, refl, arith, is_some}
 use Rattle.std.specs.Ordering.{is_eq}
 use Rattle.std.specs.declared.cmp.Ordering.{Ordering}
@@ -7,7 +7,7 @@ use Rattle.be_tree_reading.specs.Pair.{Pair}
 use Rattle.be_tree_reading.specs.Key.{key_cmp, payload_at}
 use Rattle.be_tree_reading.proofs.Order.{key_exact}
 
--- it is a pair's key
+-- A key that is found is the key of a pair.
 pub found_pair : (P : Pair → Type 0) (k : List ℕ) (xs : List Pair) → All P xs → is_some (payload_at xs k) ≡ true → (x : Pair) × P x × (x.key ≡ k)
 found_pair P k [] all h = absurd (never h)
   where

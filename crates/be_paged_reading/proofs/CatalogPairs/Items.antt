@@ -1,4 +1,4 @@
--- Look-ups in a list of pairs after a put or a removal, and the catalog after one.
+-- Lookups in a list of pairs after an insertion or a removal, and what either does to the catalog.
 use Rattle.std.proofs.Common.{◌≡◌, ℕ, zero, suc, ◌<◌, ◌^◌, true, cond, List, [], ◌∷◌, take, drop, All, Some, None, Ok, ap, sym, subst, ◌∙◌, refl, inl, inr, arith, ◌⊎◌, is_some}
 use Rattle.std.specs.Int.{from_be_bytes, w64}
 use Rattle.std.specs.Option.{option_map, option_and_then}
@@ -92,7 +92,7 @@ all_without P Q k (x ∷ xs) f all =
     apart : (r : Ordering) → key_cmp x.key k ≡ r → x.key ≡ k → (r ≡ Equal → ⊥) → ⊥
     apart r t s no_tie = no_tie (sym t ∙ ap (λ y. key_cmp y k) s ∙ tied_itself key_total k)
 
--- two of the catalog's keys are equal or not
+-- Two keys of the catalog are either equal or different.
 pub keys_decided : (a b : List ℕ) → (a ≡ b) ⊎ (a ≡ b → ⊥)
 keys_decided a b = elim (key_cmp a b) as (λ o. key_cmp a b ≡ o → (a ≡ b) ⊎ (a ≡ b → ⊥)) [
   | Less ↦ λ t. inr (λ e. apart Less t e (λ f. cc))
@@ -109,7 +109,8 @@ key_node a b x y p q e = sym (from_be_bytes-to_be_bytes_8 a p) ∙ ap (λ k. fro
 pub key_name : (a b : ℕ) (x y : List ℕ) → catalog_key a x ≡ catalog_key b y → x ≡ y
 key_name a b x y e = ap (drop 8) e
 
--- The catalog after one pair was put or taken out: what is at its key has changed accordingly, and nothing else has.
+-- The catalog after one pair was inserted or removed: the content at its key has changed
+-- accordingly, and nothing else has.
 module _ (items : List Pair) (nodes new : Nodes) (node : ℕ) (name : List ℕ) (fits : node < 2 ^ 64) (catalog : IsCatalog items nodes)
     (same : (q : ℕ) (m : List ℕ) → (q ≡ node → m ≡ name → ⊥) → stored new q m ≡ stored nodes q m) where
   here : (q : ℕ) (m : List ℕ) → q < 2 ^ 64 → catalog_key q m ≡ catalog_key node name → stored new q m ≡ stored new node name
@@ -136,7 +137,7 @@ module _ (items : List Pair) (nodes new : Nodes) (node : ℕ) (name : List ℕ) 
     only = all_without (λ x. IsCatalogKey x.key) (λ x. IsCatalogKey x.key) k items (λ x ne p. p) catalog.only;
   }
 
--- a look-up after an insertion or a removal
+-- A lookup after an insertion or a removal.
 module _ {K X : Type 0} {R : K → K → Ordering} (o : IsTotalOrder R) (exact : IsAntisymmetric R) (m : FinMap R X) (k : K) where
   pub get_here : (v : X) → fin.get (fin.insert m k v) k ≡ Some v
   get_here v = get-insert o m k v k ∙ ap (λ r. cond (is_eq r) (Some v) (fin.get m k)) (tied_itself o k)
@@ -161,7 +162,7 @@ module _ {K X : Type 0} {R : K → K → Ordering} (o : IsTotalOrder R) (exact :
 abbrev mark : Attributes → List ℕ
 mark a = []
 
--- what is stored depends only on whether the node exists, and on its value
+-- What is stored depends only on whether the node exists, and on its value.
 pub stored_same : (nodes new : Nodes) (q : ℕ) (m : List ℕ) → is_some (fin.get new q) ≡ is_some (fin.get nodes q) → value_at new q m ≡ value_at nodes q m → stored new q m ≡ stored nodes q m
 stored_same nodes new q [] there same = by (fin.get new q) (fin.get nodes q) there
   where
@@ -175,11 +176,11 @@ stored_same nodes new q (c ∷ m) there same = ap (option_map payload_of) same
 abbrev at_name : List ℕ → Option Attributes → Option Value
 at_name name a = option_and_then (λ (attributes : Attributes). fin.get attributes name) a
 
--- another node is as it was
+-- Any other node is unchanged.
 pub stored_apart : (nodes new : Nodes) (q : ℕ) (m : List ℕ) → fin.get new q ≡ fin.get nodes q → stored new q m ≡ stored nodes q m
 stored_apart nodes new q m e = stored_same nodes new q m (ap is_some e) (ap (at_name m) e)
 
--- a node that now has other attributes
+-- A node that now has other attributes.
 module _ (nodes : Nodes) (node : ℕ) (attributes : Attributes) where
   pub value_of : (m : List ℕ) → value_at (fin.insert nodes node attributes) node m ≡ fin.get attributes m
   value_of m = ap (at_name m) (get_here nat_cmp_total nat_cmp-IsAntisymmetric nodes node attributes)
@@ -192,7 +193,7 @@ module _ (nodes : Nodes) (node : ℕ) (attributes : Attributes) where
   pub elsewhere : (q : ℕ) (m : List ℕ) → (q ≡ node → ⊥) → stored (fin.insert nodes node attributes) q m ≡ stored nodes q m
   elsewhere q m ne = stored_apart nodes (fin.insert nodes node attributes) q m (get_other nat_cmp_total nat_cmp-IsAntisymmetric nodes node attributes q ne)
 
--- the catalog with a new node
+-- The catalog with a new node.
 pub catalog_new : (items : List Pair) (nodes : Nodes) (node : ℕ) (pair : Pair) → node < 2 ^ 64 → fin.get nodes node ≡ None → pair.key ≡ catalog_key node [] → pair.payload ≡ []
     → IsCatalog items nodes → IsCatalog (put pair items) (fin.insert nodes node fin.empty)
 catalog_new items nodes node pair fits none key empty catalog =
@@ -209,7 +210,7 @@ catalog_new items nodes node pair fits none key empty catalog =
       | inr ne ↦ elsewhere nodes node fin.empty q m ne
     ]
 
--- the catalog after a node's attribute was set
+-- The catalog after an attribute of a node was set.
 pub catalog_set : (items : List Pair) (nodes : Nodes) (node : ℕ) (name : List ℕ) (v : Value) (pair : Pair) → node < 2 ^ 64 → is_some (fin.get nodes node) ≡ true → name_from name ≡ Ok name
     → pair.key ≡ catalog_key node name → pair.payload ≡ payload_of v → IsCatalog items nodes → IsCatalog (put pair items) (with_attribute nodes node name v)
 catalog_set items nodes node name v pair fits there valid key payload catalog =
@@ -229,7 +230,7 @@ catalog_set items nodes node name v pair fits there valid key payload catalog =
       | inr ne ↦ elsewhere nodes node (fin.insert (attributes_of nodes node) name v) q m ne
     ]
 
--- the catalog after a node's attribute was unset
+-- The catalog after an attribute of a node was unset.
 pub catalog_unset : (items : List Pair) (nodes : Nodes) (node : ℕ) (name k : List ℕ) → node < 2 ^ 64 → is_some (fin.get nodes node) ≡ true → name_from name ≡ Ok name
     → k ≡ catalog_key node name → IsCatalog items nodes → IsCatalog (without k items) (fin.insert nodes node (fin.remove (attributes_of nodes node) name))
 catalog_unset items nodes node name k fits there valid key catalog =
@@ -246,7 +247,7 @@ catalog_unset items nodes node name k fits there valid key catalog =
       | inr ne ↦ elsewhere nodes node (fin.remove (attributes_of nodes node) name) q m ne
     ]
 
--- the catalog after a node without attributes was dropped
+-- The catalog after a node without attributes was dropped.
 pub catalog_dropped : (items : List Pair) (nodes : Nodes) (node : ℕ) (k : List ℕ) → node < 2 ^ 64 → ((m : List ℕ) → value_at nodes node m ≡ None) → k ≡ catalog_key node []
     → IsCatalog items nodes → IsCatalog (without k items) (fin.remove nodes node)
 catalog_dropped items nodes node k fits bare key catalog =

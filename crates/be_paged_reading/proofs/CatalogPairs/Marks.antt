@@ -1,4 +1,4 @@
--- The nodes that a catalog's marks encode are the volume's.
+-- The nodes encoded by the marks of a catalog are those of the volume.
 use Rattle.std.proofs.Common.{◌≡◌, ℕ, zero, suc, ◌+◌, ◌<◌, ◌^◌, Bool, true, false, cond, ◌||◌, List, [], ◌∷◌, length, drop, filter, nat_le, All, Some, None, get_or, ap, sym, subst, ◌∙◌, refl, arith, eq-eqb, is_some}
 use Rattle.std.specs.Prelude.{take}
 use Rattle.std.specs.Int.{from_be_bytes, to_be_bytes, w64}
@@ -36,7 +36,7 @@ use Rattle.be_paged_reading.proofs.CatalogPairs.Segments.{all_from, key_order, p
 never : {A : Type 0} → false ≡ true → A
 never e = cc
 
--- a mark's key
+-- The key of a mark.
 mark_length : (m : ℕ) (name : List ℕ) → length (catalog_key m name) ≡ 8 + length name
 mark_length m name = omega (arith, length-append (to_be_bytes w64 m) name)
 
@@ -50,14 +50,14 @@ nameless m (c ∷ name) h = absurd (omega (arith, exact_unsigned_eq (length (cat
 number_is : (m : ℕ) → m < 2 ^ 64 → from_be_bytes w64 (catalog_key m []) ≡ m
 number_is m fits = from_be_bytes-to_be_bytes_8 m fits
 
--- a mark is the key of the number that it encodes
+-- A mark is the key for the number that it encodes.
 mark_is : (k : List ℕ) → IsCatalogKey k → is_mark k ≡ true → (k ≡ catalog_key (from_be_bytes w64 k) []) × (from_be_bytes w64 k < 2 ^ 64)
 mark_is k is mark =
     let e : k ≡ catalog_key is.node [] = is.is ∙ ap (catalog_key is.node) (nameless is.node is.name (ap is_mark (sym is.is) ∙ mark)) in
     let number : from_be_bytes w64 k ≡ is.node = ap (from_be_bytes w64) e ∙ number_is is.node is.fits in
     (e ∙ ap (λ (n : ℕ). catalog_key n []) (sym number), subst (λ (n : ℕ). n < 2 ^ 64) (sym number) is.fits)
 
--- what holds for each mark's number holds for all marked nodes
+-- What holds for the number of every mark holds for all marked nodes.
 each_marked : (P : ℕ → Type 0) (ys : List Pair) → All (λ y. is_mark y.key ≡ true → P (from_be_bytes w64 y.key)) ys → (n : ℕ) → is_in n (marked ys) ≡ true → P n
 each_marked P [] all n h = never h
 each_marked P (y ∷ ys) all n h = by (is_mark y.key) refl h (each_marked P ys (λ i d lt. all (suc i) d (omega (arith, lt))) n)
@@ -76,7 +76,7 @@ AreKeys ys = All (λ y. IsCatalogKey y.key) ys
 marked_fits : (ys : List Pair) → AreKeys ys → (n : ℕ) → is_in n (marked ys) ≡ true → n < 2 ^ 64
 marked_fits ys keys = each_marked (λ n. n < 2 ^ 64) ys (λ i d lt mark. (mark_is (get_or ys i d).key (keys i d lt) mark).1)
 
--- marks are ordered as their nodes are
+-- Marks are ordered in the same way as their nodes.
 mark_order : (m n : ℕ) → m < 2 ^ 64 → n < 2 ^ 64 → key_cmp (catalog_key m []) (catalog_key n []) ≡ ordering_then (nat_cmp m n) Equal
 mark_order m n p q = key_order m n [] [] p q
 
@@ -100,7 +100,7 @@ marked_above m ys fits above keys =
     mark_above m (from_be_bytes w64 (get_or ys i d).key) fits is.1
     (ap (λ k. key_cmp k (catalog_key m [])) (sym is.0) ∙ at_each (λ x. key_cmp x.key (catalog_key m []) ≡ Greater) ys above i d lt))
 
--- the marks among ascending pairs ascend
+-- The marks among ascending pairs are in ascending order.
 rises_marked : (ys : List Pair) → IsRising ys → AreKeys ys → Rises (marked ys)
 rises_marked [] rising keys = tt
 rises_marked (y ∷ ys) rising keys = by (is_mark y.key) refl (rises_marked ys rising.1 rest)
@@ -114,7 +114,7 @@ rises_marked (y ∷ ys) rising keys = by (is_mark y.key) refl (rises_marked ys r
         (marked_above (from_be_bytes w64 y.key) ys is.1 (subst (λ k. AllAbove k ys) is.0 rising.0) rest, more)
     by false e more = more
 
--- a node is marked exactly if its mark is found
+-- A node is marked if and only if its mark is found.
 found_marked : (n : ℕ) (ys : List Pair) → n < 2 ^ 64 → AreKeys ys → is_in n (marked ys) ≡ is_some (payload_at ys (catalog_key n []))
 found_marked n [] fits keys = refl
 found_marked n (y ∷ ys) fits keys = by (key_cmp y.key (catalog_key n [])) refl (found_marked n ys fits (λ i d lt. keys (suc i) d (omega (arith, lt))))
@@ -147,7 +147,7 @@ found_marked n (y ∷ ys) fits keys = by (key_cmp y.key (catalog_key n [])) refl
     by Equal t rest = here (key_exact y.key (catalog_key n []) t)
     by Greater t rest = other (apart Greater t (λ e. cc)) (is_mark y.key) refl ∙ rest
 
--- a mark is at another one or after it exactly if its node is
+-- A mark is at or after another one if and only if its node is.
 from_node : (low n : ℕ) → low < 2 ^ 64 → n < 2 ^ 64 → is_from (to_be_bytes w64 low) false (catalog_key n []) ≡ nat_le low n
 from_node low n p q = by (nat_cmp n low) refl (mark_order n low q p)
   where
@@ -160,7 +160,7 @@ both : (a b : Bool) → cond a b false ≡ true → (a ≡ true) × (b ≡ true)
 both true b h = (refl, h)
 both false b h = never h
 
--- the marks from a node's key on are the nodes from that node on
+-- The marks from a node's key on are the nodes from that node on.
 module _ (xs : List Pair) (nodes : Nodes) (low : ℕ) (fits : low < 2 ^ 64) (rising : IsRising xs) (catalog : IsCatalog xs nodes) (below : (n : ℕ) → fin.contains_key nodes n ≡ true → n < 2 ^ 64) where
   keys : AreKeys (pairs_from xs (to_be_bytes w64 low) false)
   keys i d lt = (all_from (λ x. IsCatalogKey x.key) (to_be_bytes w64 low) false xs catalog.only i d lt).0
@@ -189,7 +189,7 @@ module _ (xs : List Pair) (nodes : Nodes) (low : ℕ) (fits : low < 2 ^ 64) (ris
       let has : fin.contains_key nodes n ≡ true = fin.contains_key-keys nodes n ∙ is.0 in
       there n (below n has) ∙ ap (λ b. cond b (fin.contains_key nodes n) false) is.1 ∙ has)
 
--- what a version's catalog marks
+-- The nodes that are marked in the catalog of a version.
 pub nodes_marked : (s : ℕ → PageState) (w : ℕ → ℕ → ℕ) (page : ℕ) (volume : State) (low most : ℕ) → IsVersion s w page volume → low < 2 ^ 64
     → take most (marked (pairs_from (pairs w (w page 3)) (to_be_bytes w64 low) false)) ≡ nodes_from volume low most
 nodes_marked s w page volume low most version fits =
@@ -198,7 +198,7 @@ nodes_marked s w page volume low most version fits =
     version.encodes.catalog
     (λ n has. omega (arith, version.sound.nodes n has, version.encodes.next, version.in_hand.fits)))
 
--- a step past a pair
+-- A step past a pair.
 pub fewer : (xs : List Pair) (x : Pair) → slice_get xs 0 ≡ Some x → length (drop 1 xs) < length xs
 fewer [] x e = none_some x e
 fewer (y ∷ xs) x e = omega arith
@@ -215,7 +215,7 @@ met (y ∷ xs) x e mark =
     ap (λ b. cond b (from_be_bytes w64 y.key ∷ marked xs) (marked xs)) (ap (λ (z : Pair). is_mark z.key) same ∙ mark)
     ∙ ap (λ (z : Pair). from_be_bytes w64 z.key ∷ marked xs) same
 
--- whether an item is a mark: its first word decides that, and the second is the node
+-- Whether an item is a mark, which its first word determines. The second word is the node.
 module _ (words : ℕ → ℕ) (at : ℕ) where
   pub long_mark : key_len words at ≡ 8 → is_mark (item_at words at).key ≡ true
   long_mark len = eq-eqb (length (item_at words at).key) 8 (item_key_length words at ∙ len)

@@ -1,4 +1,4 @@
--- Whether a key of the catalog begins with a node: its first word decides.
+-- Whether a key of the catalog begins with a node, which its first word determines.
 use Rattle.std.proofs.Common.{◌≡◌, ℕ, zero, suc, ◌+◌, ◌<◌, ◌≤◌, ◌^◌, Bool, true, false, List, ◌∷◌, ◌++◌, length, map, take, drop, get_or, ap, sym, ◌∙◌, refl, arith, drop-cons, eq-eqb, length-append}
 use Rattle.std.specs.Prelude.{nat_eq}
 use Rattle.std.specs.Int.{from_be_bytes, to_be_bytes, w64}
@@ -27,7 +27,7 @@ module _ (words : ℕ → ℕ) (at node : ℕ) where
   same_number : words (at + 1) < 2 ^ 64 → node < 2 ^ 64 → to_be_bytes w64 (words (at + 1)) ≡ to_be_bytes w64 node → words (at + 1) ≡ node
   same_number lx ln e = sym (from_be_bytes-to_be_bytes_8 (words (at + 1)) lx) ∙ ap (from_be_bytes w64) e ∙ from_be_bytes-to_be_bytes_8 node ln
 
-  -- a short key begins with no node
+  -- A short key begins with no node.
   pub short_key : key_len words at < 8 → false ≡ is_of node (item_at words at).key
   short_key short = by (is_of node (item_at words at).key) refl
     where
@@ -47,7 +47,7 @@ module _ (words : ℕ → ℕ) (at node : ℕ) where
       by true e = absurd (ne (same_number lx ln (ap (take 8) (sym (begins long) ∙ is_node node (item_at words at).key e))))
       by false e = refl
 
-  -- a long key's first word decides
+  -- For a long key, the first word determines it.
   pub word_reports : (x : ℕ) → x ≡ words (at + 1) → x < 2 ^ 64 → node < 2 ^ 64 → 8 ≤ key_len words at → nat_eq x node ≡ is_of node (item_at words at).key
   word_reports x is lx ln long = by (nat_eq x node) refl
     where

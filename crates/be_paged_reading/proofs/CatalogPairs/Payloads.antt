@@ -1,4 +1,4 @@
--- The values that payloads encode: a kind, and the data after its byte.
+-- The values that payloads encode: the byte of a kind, followed by the data.
 use Rattle.std.proofs.Common.{◌≡◌, ℕ, suc, ◌<◌, ◌≤◌, ◌^◌, List, ◌∷◌, length, take, drop, get_or, Some, None, Ok, unwrap_or, ap, sym, ◌∙◌, refl, arith}
 use Rattle.std.specs.Prelude.{IsUtf8}
 use Rattle.std.specs.Int.{cast_signed, cast_unsigned, from_be_bytes, to_be_bytes, w32, w64}
@@ -17,7 +17,7 @@ use Rattle.be_value.specs.declared.values.Value.{Value}
 use Rattle.be_value.specs.declared.values.Value.TheVariants.{Cstr, Long, Llng, Mims, Rawt, Ulng, Ullg}
 use Rattle.be_paged_reading.specs.Catalog.{payload_of}
 
--- numbers read after the first byte
+-- Numbers that are read after the first byte.
 pub number32 : (payload : List ℕ) (k n r : ℕ) → n < 2 ^ 32 → payload ≡ k ∷ to_be_bytes w32 n → r ≡ from_be_bytes w32 (take 4 (drop 1 payload)) → r ≡ n
 number32 payload k n r lt is e = e ∙ ap (λ p. from_be_bytes w32 (take 4 (drop 1 p))) is ∙ from_be_bytes-to_be_bytes_4 n lt
 
@@ -30,11 +30,11 @@ length32 payload k n is = ap length is
 pub length64 : (payload : List ℕ) (k n : ℕ) → payload ≡ k ∷ to_be_bytes w64 n → length payload ≡ 9
 length64 payload k n is = ap length is
 
--- how long a text can be
+-- The maximum length of a string.
 pub text_short : (t : List ℕ) → text_from t ≡ Ok t → length t ≤ 255
 text_short t e = grind (arith, nat_tests)
 
--- a payload's first byte
+-- The first byte of a payload.
 pub first_of : (v : Value) → get_or (payload_of v) 0 0 ≡ kind_number (kind_of v)
 first_of (Cstr t) = refl
 first_of (Long n) = refl
@@ -63,7 +63,7 @@ numbers_differ kinds.Ulng kinds.Ulng e = refl
 numbers_differ kinds.Ullg kinds.Ullg e = refl
 numbers_differ a b e = absurd (omega (arith, e))
 
--- the kind whose number is the first byte is the value's
+-- The kind whose number is the first byte is the kind of the value.
 pub kind_read : (payload : List ℕ) (byte : ℕ) (kind : Kind) (v : Value) → byte ≡ get_or payload 0 0 → kind_number kind ≡ byte → payload ≡ payload_of v → kind ≡ kind_of v
 kind_read payload byte kind v is number e = numbers_differ kind (kind_of v) (number ∙ is ∙ ap (λ p. get_or p 0 0) e ∙ first_of v)
 
@@ -76,7 +76,7 @@ pub some_kind : (a b : Kind) → Some a ≡ Some b → a ≡ b
 some_kind a b e = ap (λ o. unwrap_or o a) e
 
 module _ (payload : List ℕ) where
-  -- `read` is the value with this payload
+  -- `read` is the value with this payload.
   abbrev pub IsRead : Option Value → Type 0
   IsRead read = (v : Value) → IsValue v → payload ≡ payload_of v → read ≡ Some v
 
@@ -123,6 +123,6 @@ module _ (payload : List ℕ) where
   ullg number reported reads (Ullg n) is e = ap (option_map Ullg) (reads 7 n is e)
   ullg number reported reads v is e = let h = reported v e in cc
 
-  -- the same for what is seen of the value
+  -- What is seen of `read` is what is seen of the value with this payload.
   pub seen : {A : Type 0} (f : Value → A) (none : A) (read : Option Value) → IsRead read → (v : Value) → IsValue v → payload ≡ payload_of v → option_map_or f read none ≡ f v
   seen f none read reads v is e = ap (λ r. option_map_or f r none) (reads v is e)

@@ -1,4 +1,4 @@
--- Where attributes are in the catalog's tree, as look-ups and walks find them.
+-- Where attributes are in the catalog tree, as found by lookups and walks.
 use Rattle.std.proofs.Common.{◌≡◌, ℕ, ◌+◌, ◌≤◌, Bool, true, false, cond, List, [], ◌∷◌, drop, IsTrue, Some, None, is_some, ap, sym, subst, ◌∙◌, refl}
 use Rattle.std.specs.List.{slice_get}
 use Rattle.std.specs.Option.{IfSome, IfNone, option_or}
@@ -25,12 +25,12 @@ use Rattle.be_paged_reading.specs.Reading.{is_of, front_of_node}
 use Rattle.be_paged_reading.specs.declared.asked.Asked.{Asked}
 use Rattle.be_paged_reading.proofs.CatalogPairs.Segments.{is_node, payload_from}
 
--- what was found stays true after pages were only read
+-- What was found remains true after pages were only read.
 pub found_since : (s t : ℕ → PageState) (v w : ℕ → ℕ → ℕ) (root : ℕ) (key : List ℕ) (found : Option (ℕ × ℕ)) → t ≡ s → w ≡ v → IsFoundAt s v root key found → IsFoundAt t w root key found
 found_since s t v w root key found page_state words h =
     subst (λ (u : ℕ → PageState). IsFoundAt u w root key found) (sym page_state) (subst (λ (x : ℕ → ℕ → ℕ). IsFoundAt s x root key found) (sym words) h)
 
--- what a descent found
+-- What a descent found.
 pub found_there : (found : Option (ℕ × ℕ)) (payload : ℕ × ℕ → List ℕ) (there : Option (List ℕ)) → IfNone found (there ≡ None) → IfSome found (λ at. there ≡ Some (payload at)) → is_some found ≡ is_some there
 found_there None payload there none some = sym (ap is_some none)
 found_there (Some at) payload there none some = sym (ap is_some some)
@@ -42,12 +42,12 @@ place_found s t v w root key None page_state words none some readable in_page fi
 place_found s t v w root key (Some at) page_state words none some readable in_page fits =
     found_since s t v w root key (Some at) page_state words (record { item = (readable, (in_page, fits)); there = some })
 
--- an attribute is remembered unless there is one already
+-- An attribute is remembered unless another one already is.
 pub asked_or : (s : ℕ → PageState) (w : ℕ → ℕ → ℕ) (root : ℕ) (asked : Option Asked) (last : Asked) → IsAsked s w root asked → IsFoundAt s w root (catalog_key last.node last.name) last.place → IsAsked s w root (option_or asked (Some last))
 asked_or s w root None last first second = second
 asked_or s w root (Some a) last first second = first
 
--- names that are equal byte by byte
+-- Names that are equal byte by byte are equal.
 pub same_name : (a b : List ℕ) → pointwise nat_eq a b ≡ true → a ≡ b
 same_name a b e = exact_bytes a b (tied (name_cmp a b) (sym (texts_ties a b) ∙ e))
   where
@@ -56,7 +56,7 @@ same_name a b e = exact_bytes a b (tied (name_cmp a b) (sym (texts_ties a b) ∙
     tied Equal e = refl
     tied Greater e = cc
 
--- what is remembered about an attribute is known about it
+-- What is remembered about an attribute is known about it.
 pub known_is : (s : ℕ → PageState) (w : ℕ → ℕ → ℕ) (root node : ℕ) (name : List ℕ) (asked : Option Asked) (last : Asked) → asked ≡ Some last → last.node ≡ node → pointwise nat_eq last.name name ≡ true
     → IsAsked s w root asked → IsFoundAt s w root (catalog_key node name) last.place
 known_is s w root node name asked last is of named reported =
@@ -70,7 +70,7 @@ none_some x e = absurd (clash e)
     clash : None ≡ Some x → ⊥
     clash e = cc
 
--- the first pair from a key on is in the list
+-- The first pair from a key on is in the list.
 pub first_lies : (xs : List Pair) (from : List ℕ) (after : Bool) (now : List Pair) (x : Pair) → now ≡ pairs_from xs from after → slice_get now 0 ≡ Some x → payload_at xs x.key ≡ Some x.payload
 first_lies xs from after [] x is e = none_some x e
 first_lies xs from after (y ∷ ys) x is e = subst (λ (z : Pair). payload_at xs z.key ≡ Some z.payload) (same y x e) (chosen (is_from from after y.key) (payload_at xs y.key) (sym (payload_from from y.key after xs) ∙ here))
@@ -88,7 +88,8 @@ first_lies xs from after (y ∷ ys) x is e = subst (λ (z : Pair). payload_at xs
         clash : None ≡ Some y.payload → ⊥
         clash e = cc
 
--- a node's first pair at the beginning of the list is the list's first pair, and its key begins with the node
+-- If the list begins with a pair of the node, that pair is the first of the list, and its key
+-- begins with the node.
 first_front : (node : ℕ) (xs : List Pair) (x : Pair) → slice_get (front_of_node node xs) 0 ≡ Some x → (slice_get xs 0 ≡ Some x) × (is_of node x.key ≡ true)
 first_front node [] x e = none_some x e
 first_front node (y ∷ ys) x e = by (is_of node y.key) refl e
@@ -100,7 +101,7 @@ first_front node (y ∷ ys) x e = by (is_of node y.key) refl e
     by true of e = (e, ap (λ (z : Pair). is_of node z.key) (sym (same y x e)) ∙ of)
     by false of e = none_some x e
 
--- the first thing that a walk over a node's attributes meets is at its name in the tree
+-- The first attribute that a walk over a node's attributes visits is at its name in the tree.
 pub place_walked : (s t : ℕ → PageState) (v w : ℕ → ℕ → ℕ) (root node : ℕ) (from : List ℕ) (after : Bool) (now : List Pair) (found : Option (List ℕ × (ℕ × ℕ))) → t ≡ s → w ≡ v → now ≡ pairs_from (pairs v root) from after
     → IfSome found (λ f. slice_get (front_of_node node now) 0 ≡ Some (item_at (v f.1.0) f.1.1)) → IfSome found (λ f. f.0 ≡ drop 8 (item_at (v f.1.0) f.1.1).key)
     → IfSome found (λ f. IsReadableAt s v f.1.0 f.1.1) → IfSome found (λ f. IsPlaceOf t w root (catalog_key node f.0) f.1.0 f.1.1)

@@ -1,4 +1,4 @@
--- A node's pairs in the catalog are those of its attributes, one after another.
+-- The pairs of a node in the catalog are those of its attributes, one after another.
 use Rattle.std.proofs.Common.{◌≡◌, ℕ, zero, suc, ◌<◌, ◌^◌, ◌%◌, Bool, true, false, cond, List, [], ◌∷◌, map, drop, All, Some, None, Ok, ap, sym, subst, ◌∙◌, refl, arith, unwrap_or, T, ◌&&◌}
 use Rattle.std.specs.Int.{to_be_bytes, w64}
 use Rattle.std.specs.Option.{option_map, option_and_then}
@@ -25,7 +25,7 @@ use Rattle.be_volume.proofs.MapLemmas.{names_total}
 use Rattle.be_paged_reading.specs.Catalog.{catalog_key, payload_of, value_at, stored, IsCatalogKey, IsCatalog}
 use Rattle.be_paged_reading.specs.Reading.{AreValid, is_of, front_of_node, attribute_pair, attribute_pairs}
 
--- the catalog's keys are ordered by the node, and then by the name
+-- The keys of the catalog are ordered by node, and then by name.
 pub key_order : (m n : ℕ) (x y : List ℕ) → m < 2 ^ 64 → n < 2 ^ 64 → key_cmp (catalog_key m x) (catalog_key n y) ≡ ordering_then (nat_cmp m n) (name_cmp x y)
 unfolding key_cmp
 key_order m n x y p q =
@@ -36,7 +36,7 @@ key_order m n x y p q =
 same_node_order : (n : ℕ) (x y : List ℕ) → n < 2 ^ 64 → key_cmp (catalog_key n x) (catalog_key n y) ≡ name_cmp x y
 same_node_order n x y p = key_order n n x y p p ∙ ap (λ o. ordering_then o (name_cmp x y)) (tied_itself nat_cmp_total n)
 
--- a look-up skips a pair with another key
+-- A lookup skips a pair with another key.
 skip : (x : Pair) (k : List ℕ) (xs : List Pair) → (x.key ≡ k → ⊥) → payload_at (x ∷ xs) k ≡ payload_at xs k
 skip x k xs ne = elim (key_cmp x.key k) as (λ o. key_cmp x.key k ≡ o → cond (is_eq o) (Some x.payload) (payload_at xs k) ≡ payload_at xs k) [
   | Less ↦ λ t. refl
@@ -56,7 +56,7 @@ same_some x y e = cc
 same_pair : (x y : Pair) → x.key ≡ y.key → x.payload ≡ y.payload → x ≡ y
 same_pair x y p q = λ i. record { key = p i; payload = q i }
 
--- ascending lists with the same look-ups are equal
+-- Ascending lists with the same lookups are equal.
 module _ (P : List ℕ → Type 0) where
   pub same_pairs : (xs ys : List Pair) → IsRising xs → IsRising ys → All (λ x. P x.key) xs → All (λ y. P y.key) ys → ((k : List ℕ) → P k → payload_at xs k ≡ payload_at ys k) → xs ≡ ys
   same_pairs [] [] r s p q h = refl
@@ -91,7 +91,8 @@ module _ (P : List ℕ → Type 0) where
       equal : x.key ≡ y.key → (((k : List ℕ) → P k → payload_at xs k ≡ payload_at ys k) → xs ≡ ys) → x ∷ xs ≡ y ∷ ys
       equal e tails = join (same_pair x y e (same_some x.payload y.payload (sym (hit x x.key xs refl) ∙ h x.key px ∙ hit y x.key ys (sym e)))) (tails (rest e))
 
--- the pairs from a key on ascend, and a look-up in them finds what it finds in all
+-- The pairs from a key on are in ascending order, and a lookup in them finds what it finds in all
+-- pairs.
 above_from : (q k : List ℕ) (after : Bool) (xs : List Pair) → AllAbove q xs → AllAbove q (pairs_from xs k after)
 above_from q k after [] h = tt
 above_from q k after (x ∷ xs) h = by (is_from k after x.key) (above_from q k after xs h.1)
@@ -146,14 +147,15 @@ payload_from k q after (x ∷ xs) = elim (key_cmp x.key q) as (λ o. key_cmp x.k
         by true f g = ap (λ b. payload_at (cond b (x ∷ pairs_from xs k after) (pairs_from xs k after)) q) (g ∙ f) ∙ hit x q (pairs_from xs k after) e ∙ sym (hit x q xs e)
         by false f g = ap (λ b. payload_at (cond b (x ∷ pairs_from xs k after) (pairs_from xs k after)) q) (g ∙ f) ∙ rest ∙ ap (λ b. cond b (payload_at xs q) None) f
 
--- which keys begin with a node
+-- The keys that begin with a node.
 pub of_node : (node : ℕ) (name : List ℕ) → is_of node (catalog_key node name) ≡ true
 of_node node name = (starts_is Decides-eqb (catalog_key node name) (to_be_bytes w64 node) (is_of node (catalog_key node name)) refl).1 name refl
 
 pub is_node : (node : ℕ) (k : List ℕ) → is_of node k ≡ true → k ≡ catalog_key node (drop 8 k)
 is_node node k e = (starts_is Decides-eqb k (to_be_bytes w64 node) (is_of node k) refl).0 e
 
--- a node's pairs at the beginning of an ascending list ascend, and have the node's look-ups
+-- If an ascending list begins with pairs of a node, these are in ascending order and have the
+-- node's lookups.
 front_above : (node : ℕ) (q : List ℕ) (xs : List Pair) → AllAbove q xs → AllAbove q (front_of_node node xs)
 front_above node q [] h = tt
 front_above node q (x ∷ xs) h = by (is_of node x.key) (front_above node q xs h.1)
@@ -182,7 +184,7 @@ front_all node (x ∷ xs) = by (is_of node x.key) refl (front_all node xs)
     by true e rest (suc i) d lt = rest i d (omega (arith, lt))
     by false e rest i d lt = absurd (omega (arith, lt))
 
--- a key after the node's mark that isn't the node's is after all that are
+-- A key that comes after the node's mark and isn't the node's comes after all keys that are.
 abbrev IsAfter : ℕ → Pair → Type 0
 IsAfter node x = IsCatalogKey x.key × (is_from (to_be_bytes w64 node) true x.key ≡ true)
 
@@ -219,7 +221,7 @@ front_payload node name (x ∷ xs) fits rising all = by (is_of node x.key) refl 
     by true e rest = ap (λ r. cond (is_eq (key_cmp x.key (catalog_key node name))) (Some x.payload) r) rest
     by false e rest = let gt = past node name x fits (all zero x (omega arith)) e in sym (payload_at_above (catalog_key node name) (x ∷ xs) (gt, AllAbove_trans x.key (catalog_key node name) xs gt rising.0))
 
--- the pairs of attributes ascend, and have the attributes' look-ups
+-- The pairs of attributes are in ascending order, and have the lookups of the attributes.
 abbrev Entries : Type 0
 Entries = List (List ℕ × Value)
 
@@ -260,7 +262,7 @@ entries_payload node name (e ∷ es) fits =
     by true = refl
     by false = refl
 
--- a look-up among a node's attributes
+-- A lookup among the attributes of a node.
 pub value_there : (nodes : Nodes) (node : ℕ) (name : List ℕ) → fin.get (attributes_of nodes node) name ≡ value_at nodes node name
 value_there nodes node name = by (fin.get nodes node)
   where
@@ -268,7 +270,7 @@ value_there nodes node name = by (fin.get nodes node)
     by None = get-empty name_cmp name
     by (Some a) = refl
 
--- no attribute has an empty name
+-- No attribute has an empty name.
 pub no_nameless : (nodes : Nodes) (node : ℕ) → AreValid nodes → value_at nodes node [] ≡ None
 no_nameless nodes node valid = by (value_at nodes node []) refl
   where
@@ -279,7 +281,8 @@ no_nameless nodes node valid = by (value_at nodes node []) refl
         never : name_from [] ≡ Ok [] → ⊥
         never e = cc
 
--- a walk from just after a node's mark meets the node's attributes, and nothing else of the node
+-- A walk from just after a node's mark visits the attributes of the node, and nothing else that
+-- belongs to it.
 pub segment : (xs : List Pair) (nodes : Nodes) (node : ℕ) → node < 2 ^ 64 → IsRising xs → IsCatalog xs nodes → AreValid nodes
     → front_of_node node (pairs_from xs (to_be_bytes w64 node) true) ≡ attribute_pairs node (attributes_of nodes node)
 segment xs nodes node fits rising catalog valid =

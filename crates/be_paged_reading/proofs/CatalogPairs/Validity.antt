@@ -11,7 +11,7 @@ use Rattle.be_paged_reading.specs.Reading.{AreValid}
 pub values_valid : (s : State) → IsSound s → AreValid s.nodes
 values_valid s sound node name value e = sound.attributes node name value e
 
--- the next node doesn't exist yet
+-- The next node doesn't exist yet.
 pub none_at_next : (s : State) → IsSound s → fin.get s.nodes s.next ≡ None
 none_at_next s sound = by (fin.get s.nodes s.next) refl
   where
@@ -19,7 +19,7 @@ none_at_next s sound = by (fin.get s.nodes s.next) refl
     by None e = refl
     by (Some a) e = absurd (omega (arith, sound.nodes s.next (ap is_some e)))
 
--- a name isn't empty
+-- A name isn't empty.
 pub named : (name : List ℕ) → name_from name ≡ Ok name → name ≡ [] → ⊥
 named [] valid e = cc
 named (c ∷ name) valid e = cc

@@ -1,4 +1,4 @@
--- An index's keys after a node's pair was removed or added.
+-- The keys of an index after the pair of a node was removed or added.
 use Rattle.std.proofs.Common.{◌≡◌, ℕ, ◌<◌, ◌^◌, List, [], get_or, Some, None, ap, sym, subst, ◌∙◌, inl, inr}
 use Rattle.std.proofs.lemmas.Bool.{cases_eq}
 use Rattle.std.specs.Cmp.{nat_cmp_total}
@@ -15,7 +15,7 @@ use Rattle.be_volume.specs.declared.maps.Index.{Index}
 use Rattle.be_paged_reading.specs.Catalog.{IsPairOf, IsIndexOf}
 use Rattle.be_paged_reading.proofs.CatalogPairs.Items.{put_here, put_other, all_put, without_other, all_without, get_here, get_other, gone_here, gone_other}
 
--- a key determines its node
+-- A key determines its node.
 pub key_last : (v w : Value) (m n : ℕ) → m < 2 ^ 64 → n < 2 ^ 64 → key v m ≡ key w n → m ≡ n
 key_last v w m n p q e = same_node (value_key v) (value_key w) m n p q e
 
@@ -49,7 +49,7 @@ Fits index = (n : ℕ) (value : Value) → fin.get index.pairs n ≡ Some value 
 abbrev with_value : Index → ℕ → Value → Index
 with_value index node value = record { kind = index.kind; pairs = fin.insert index.pairs node value }
 
--- taking out a key, which is the node's if the node has one
+-- Removing a key, which is that of the node if the node has one.
 pub index_without : (items : List Pair) (index : Index) (node : ℕ) (old : Value) (k : List ℕ) → node < 2 ^ 64 → Fits index → ((w : Value) → fin.get index.pairs node ≡ Some w → w ≡ old)
     → k ≡ key old node → IsIndexOf items index → IsIndexOf (without k items) (unpaired index node)
 index_without items index node old k fits small only is h = record {
@@ -68,7 +68,7 @@ index_without items index node old k fits small only is h = record {
   }) h.only;
 }
 
--- nothing changes for a node without a pair
+-- Nothing changes for a node without a pair.
 pub index_bare : (items : List Pair) (index : Index) (node : ℕ) → fin.get index.pairs node ≡ None → IsIndexOf items index → IsIndexOf items (unpaired index node)
 index_bare items index node none h = record {
   each = λ n w e. h.each n w (keeps n ∙ e);
@@ -81,7 +81,7 @@ index_bare items index node none h = record {
       | inr ne ↦ sym (left index.pairs node n ne)
     ]
 
--- putting in a key for a node without a pair
+-- Adding a key for a node without a pair.
 pub index_with : (items : List Pair) (index : Index) (node : ℕ) (v : Value) (pair : Pair) → node < 2 ^ 64 → Fits index → pair.key ≡ key v node → pair.payload ≡ [] → IsIndexOf items (unpaired index node)
     → IsIndexOf (put pair items) (with_value index node v)
 index_with items index node v pair fits small is empty h = record {
@@ -109,7 +109,7 @@ index_with items index node v pair fits small is empty h = record {
           empty = p.empty;
         }
 
--- a pair that is there already needn't be put in
+-- A pair that is already there doesn't have to be added.
 pub index_still : (items : List Pair) (index : Index) (node : ℕ) (v : Value) → fin.get index.pairs node ≡ Some v → IsIndexOf items index → IsIndexOf items (with_value index node v)
 index_still items index node v at h = subst (λ (m : Pairs). IsIndexOf items (record { kind = index.kind; pairs = m })) (same_map nat_cmp_total nat_cmp-IsAntisymmetric index.pairs (fin.insert index.pairs node v) same) h
   where

@@ -1,4 +1,4 @@
--- How a version's entries correspond to its volume's indices.
+-- How the entries of a version correspond to the indices of its volume.
 use Rattle.std.proofs.Common.{◌≡◌, ℕ, zero, suc, ◌+◌, ◌<◌, Bool, true, false, cond, List, [], ◌∷◌, ◌++◌, length, map, take, drop, get_or, All, Some, None, ap, sym, subst, ◌∙◌, refl, arith, T, ◌&&◌}
 use Rattle.std.proofs.Common.{inl, inr}
 use Rattle.std.proofs.lemmas.Bool.{cases_lt}
@@ -144,7 +144,7 @@ kind_found w es m name i d h at =
 pub kind_absent : (w : ℕ → ℕ → ℕ) (es : List Entry) (m : Indices) (name : List ℕ) (i : ℕ) → AreEntriesOf w es (fin.entries m) → IsGapAt es name i → None ≡ option_map (λ (index : Index). index.kind) (fin.get m name)
 kind_absent w es m name i h at = ap (option_map (λ (index : Index). index.kind)) (sym (fin.get-entries m name ∙ gap_none w es (fin.entries m) name i h (fin.entries_sorted m) at))
 
--- the names of the entries ascend
+-- The names of the entries are in ascending order.
 abbrev pub NamesRise : List Entry → Type 0
 NamesRise es = (i j : ℕ) (d : Entry) → i < j → j < length es → name_cmp (get_or es i d).name (get_or es j d).name ≡ Less
 
@@ -162,7 +162,7 @@ names_rise w (e ∷ es) (x ∷ is) h sorted zero (suc j) d lt within =
     ap (λ n. name_cmp n (get_or es j d).name) h.0.name_is ∙ each_above w es is x.0 h.1 (first _ _ sorted) j d (omega (arith, within))
 names_rise w (e ∷ es) (x ∷ is) h sorted (suc i) (suc j) d lt within = names_rise w es is h.1 (second _ _ sorted) i j d (omega (arith, lt)) (omega (arith, within))
 
--- the names and kinds of the entries are those of the indices
+-- The names and kinds of the entries are those of the indices.
 abbrev pub listed_entry : Entry → List ℕ × Kind
 listed_entry e = (e.name, e.kind)
 

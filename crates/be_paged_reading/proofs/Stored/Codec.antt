@@ -31,11 +31,11 @@ name_short name e = grind (arith, nat_tests)
 pub same_contents : {m n a b : ℕ} {xs ys : List Entry} → m ≡ n → a ≡ b → xs ≡ ys → ◌≡◌ {A = Contents} (record { next = m; catalog = a; entries = xs }) (record { next = n; catalog = b; entries = ys })
 same_contents p q r = cc
 
--- a word has a text's eight bytes from a place on
+-- A word contains the eight bytes of the string that begin at a position.
 abbrev HasBytes : List ℕ → ℕ → ℕ → Type 0
 HasBytes text from word = (word < 2 ^ 64) × (to_be_bytes w64 word ≡ map (λ k. slice_index text k) (range_with_len from 8))
 
--- eight words that were made from a text have it
+-- Eight words that were made from a string contain it.
 pub have_text : (text : List ℕ) (a b c d e f g h : ℕ) → HasBytes text 0 a → HasBytes text 8 b → HasBytes text 16 c → HasBytes text 24 d
     → HasBytes text 32 e → HasBytes text 40 f → HasBytes text 48 g → HasBytes text 56 h → HaveText (slice_index (a ∷ b ∷ c ∷ d ∷ e ∷ f ∷ g ∷ h ∷ [])) text
 have_text text a b c d e f g h p0 p1 p2 p3 p4 p5 p6 p7 = record { small = λ j lt. (each j lt).0; bytes = λ j lt. (each j lt).1 }
@@ -51,7 +51,7 @@ have_text text a b c d e f g h p0 p1 p2 p3 p4 p5 p6 p7 = record { small = λ j l
     each (suc (suc (suc (suc (suc (suc (suc zero))))))) lt = p7
     each (suc (suc (suc (suc (suc (suc (suc (suc j)))))))) lt = absurd (omega (arith, lt))
 
--- and they encode it
+-- Eight words that contain a string encode it.
 pub text_reported : (words : ℕ → ℕ) (text : List ℕ) → length text ≤ 63 → HaveText words text → bytes_at words 0 (length text) ≡ text
 text_reported words text short have =
     bytes_at_stored words 0 text at
@@ -61,7 +61,7 @@ text_reported words text short have =
         let e : 0 + j ≡ j = omega arith in
         ap (λ (i : ℕ). to_be_bytes w64 (words i)) e ∙ have.bytes j (omega (arith, lt, short))
 
--- the same words at another place encode the same
+-- The same words at another offset encode the same string.
 pub bytes_moved : (v w : ℕ → ℕ) (a b n : ℕ) → n ≤ 63 → ((j : ℕ) → j < 8 → w (b + j) ≡ v (a + j)) → bytes_at w b n ≡ bytes_at v a n
 bytes_moved v w a b n le same =
     ap (λ ws. take n (flat_map (to_be_bytes w64) ws)) (map_same (λ i. w (b + i)) (λ i. v (a + i)) 0 (words_for n) (λ k ge lt. same k (omega (arith, lt, le))))
@@ -72,7 +72,7 @@ text_moved v w text same have = record {
   bytes = λ j lt. ap (to_be_bytes w64) (same j lt) ∙ have.bytes j lt;
 }
 
--- the words of a loaded index and those of a page encode the same name
+-- The words of a loaded index encode the same name as those of the page.
 pub name_moved : (v ws : ℕ → ℕ) (at len : ℕ) → len ≤ 63 → len ≡ v at → ((j : ℕ) → j < 8 → ws j ≡ v (at + 1 + j)) → bytes_at ws 0 len ≡ (entry_at v at).name
 unfolding entry_at
 name_moved v ws at len short is reported = bytes_moved v ws (at + 1) 0 len short moved ∙ ap (bytes_at v (at + 1)) is

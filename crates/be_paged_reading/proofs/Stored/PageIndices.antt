@@ -16,11 +16,11 @@ use Rattle.be_paged_reading.specs.Source.{IsFound, IsIndexOf, IsKnown, SourceOf}
 use Rattle.be_paged_reading.specs.declared.on_page.FoundIndex.{FoundIndex}
 use Rattle.be_paged_reading.proofs.IndexEntries.Indexing.{NamesRise, flip, names_exact, names_total}
 
--- the names of the indices before this place are lower than this one
+-- The names of the indices before this position are lower than this name.
 abbrev pub AreBelow : (words : ℕ → ℕ) → List ℕ → ℕ → Type 0
 AreBelow words name i = (j : ℕ) (d : Entry) → j < i → name_cmp (get_or (contents_of words).entries j d).name name ≡ Less
 
--- and those from there on are higher
+-- The names of the indices from this position on are higher than this name.
 abbrev pub AreAbove : (words : ℕ → ℕ) → List ℕ → ℕ → Type 0
 AreAbove words name i = (j : ℕ) (d : Entry) → i ≤ j → j < words 1 → name_cmp (get_or (contents_of words).entries j d).name name ≡ Greater
 
@@ -34,7 +34,7 @@ module _ (words : ℕ → ℕ) (name : List ℕ) where
   compared : (i : ℕ) (r : Ordering) → i < words 1 → name_cmp (entry_at words (entry_place i)).name name ≡ r → (d : Entry) → name_cmp (get_or (contents_of words).entries i d).name name ≡ r
   compared i r lt e d = ap (λ (x : Entry). name_cmp x.name name) (at_place i d lt) ∙ e
 
-  -- since the names ascend, one comparison decides about all the indices on that side
+  -- Since the names are in ascending order, one comparison decides about all indices on that side.
   module _ (rise : NamesRise (contents_of words).entries) (i : ℕ) (lt : i < words 1) where
     rises : (j k : ℕ) (d : Entry) → j < k → k < words 1 → name_cmp (get_or (contents_of words).entries j d).name (get_or (contents_of words).entries k d).name ≡ Less
     rises j k d less within = rise j k d less (omega (arith, within, how_many))
@@ -72,18 +72,18 @@ module _ (words : ℕ → ℕ) (name : List ℕ) where
     above = λ d within. above low d past (omega (arith, within, how_many));
   }
 
--- an index reader after pages were only read, with what it now remembers
+-- The state of an index reader after pages were only read, with what it now remembers.
 pub source_since : (s t : ℕ → PageState) (v w : ℕ → ℕ → ℕ) (page : ℕ) (was known : Option FoundIndex) (cursor : Cursor) (place last_page last_at : ℕ) (volume : State) → t ≡ s → w ≡ v →
     IsKnown (contents_of (w page)).entries known → SourceOf s v page was cursor place last_page last_at volume → SourceOf t w page known cursor place last_page last_at volume
 source_since s t v w page was known cursor place last_page last_at volume page_state words is h =
     let now = subst (λ (u : ℕ → PageState). SourceOf u w page was cursor place last_page last_at volume) (sym page_state) (subst (λ (x : ℕ → ℕ → ℕ). SourceOf s x page was cursor place last_page last_at volume) (sym words) h) in
     record { version = now.version; known_is = is; beyond = now.beyond }
 
--- what is remembered about an index
+-- What is remembered about an index.
 pub of_known : (entries : List Entry) (known : Option FoundIndex) (index : FoundIndex) → known ≡ Some index → IsKnown entries known → IsIndexOf entries index
 of_known entries known index is h = subst (IsKnown entries) is h
 
--- an index that was found can be remembered
+-- An index that was found can be remembered.
 pub found_known : (entries : List Entry) (name : List ℕ) (found : Option FoundIndex) → IsFound entries name found → IsKnown entries found
 found_known entries name None h = tt
 found_known entries name (Some index) h = record { in_range = h.named.in_range; kind = h.kind; root = h.root }

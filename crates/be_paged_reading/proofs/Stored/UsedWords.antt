@@ -1,4 +1,4 @@
--- A version page's contents determine the words that it uses.
+-- The contents of a version page determine the words that it uses.
 use Rattle.std.proofs.Common.{◌≡◌, ℕ, zero, suc, ◌+◌, ◌-◌, ◌*◌, ◌/◌, ◌%◌, ◌<◌, ◌≤◌, List, [], length, map, get_or, slice_index, inl, inr, ap, sym, ◌∙◌, refl, arith}
 use Rattle.std.specs.Int.{to_be_bytes, from_be_bytes, w64}
 use Rattle.std.specs.List.{flat_map, range_with_len}
@@ -46,7 +46,7 @@ text_word v w a b j lt same p q =
     ∙ ap (from_be_bytes w64) (p.bytes j lt ∙ ap (λ (text : List ℕ). map (λ k. slice_index text k) (range_with_len (8 * j) 8)) same ∙ sym (q.bytes j lt))
     ∙ from_be_bytes-to_be_bytes_8 (w j) (q.small j lt)
 
--- an index's eleven words
+-- The eleven words of an index.
 entry_words : (v w : ℕ → ℕ) (at : ℕ) → IsEntry v at → IsEntry w at → entry_at v at ≡ entry_at w at → (r : ℕ) → r < 11 → v (at + r) ≡ w (at + r)
 entry_words v w at p q e zero lt =
     let z : at + 0 ≡ at = omega arith in

@@ -1,4 +1,4 @@
-//! A race runs a line after the first call of its gate, and before the second.
+//! A race runs a line after its first call to the gate and before its second.
 use super::races::{expect, raced};
 use be_script_runner::Gate;
 use std::sync::atomic::AtomicU64;
@@ -13,11 +13,11 @@ const HELD_BACK: &str =
     "pass 0\nnode 3\npass 1\nnode 1\nnode 2\njournal 3\n1 by 1 new -> node 1\n2 by 1 new -> node \
      2\n3 by 0 new -> node 3\nreplay ok\n";
 
-/// How far two passes have got that wait for each other.
+/// The progress of two passes that wait for each other.
 #[derive(Drop)]
 struct Stages {
     stage: AtomicU64,
-    /// The number of waits that reached their limit.
+    /// The number of waits that timed out.
     missed: AtomicU64,
 }
 
@@ -33,7 +33,7 @@ impl Stages {
         self.stage.store(stage, SeqCst);
     }
 
-    /// Waits for this stage or a later one, for up to 100,000,000 turns.
+    /// Waits for this stage or a later one, for at most 100,000,000 turns.
     fn wait_for(&self, stage: u64) {
         for _ in 0..100_000_000 {
             if self.stage.load(SeqCst) >= stage {
@@ -55,9 +55,9 @@ impl Stages {
     }
 }
 
-/// Holds pass 0 before its one line and after it, each time until pass 1 has checked the number of
-/// entries. The stages: pass 0 is before its line; pass 1 has checked; pass 0 is after its line;
-/// pass 1 has checked again.
+/// Holds pass 0 before its only line and again after it, each time until pass 1 has checked the
+/// number of entries. The stages are: pass 0 is before its line; pass 1 has checked; pass 0 is
+/// after its line; pass 1 has checked again.
 #[derive(Drop)]
 struct Around {
     stages: Stages,
@@ -81,8 +81,8 @@ impl Gate for Around {
     }
 }
 
-/// Holds pass 0 before its first line until pass 1 has run both its lines. Then it holds pass 1
-/// until pass 0 has run that line. The stages: pass 0 is before its first line; pass 1 has run its
+/// Holds pass 0 before its first line until pass 1 has run both its lines. Then holds pass 1 until
+/// pass 0 has run that line. The stages are: pass 0 is before its first line; pass 1 has run its
 /// lines; pass 0 is before its second line.
 #[derive(Drop)]
 struct HoldsBack {
@@ -106,8 +106,8 @@ impl Gate for HoldsBack {
     }
 }
 
-/// While pass 0 is before its line, pass 1 sees no entry; while it is after the line, pass 1 sees
-/// one.
+/// While pass 0 is before its line, pass 1 sees no entry; while pass 0 is after its line, pass 1
+/// sees one entry.
 #[test]
 fn lines_run_inside(rt: HostRuntime) -> Result<(), Fail> {
     for _ in 0..2 {
@@ -123,7 +123,7 @@ fn lines_run_inside(rt: HostRuntime) -> Result<(), Fail> {
     Err(Fail::new("out of memory"))
 }
 
-/// A line that a gate holds back comes after the whole other script: what is written is always this
+/// A line that a gate holds back comes after the whole other script, so the race always writes this
 /// text.
 #[test]
 fn line_held_back(rt: HostRuntime) -> Result<(), Fail> {

@@ -11,7 +11,7 @@ use std::test::Fail;
 use std::thread::Threads;
 use std::{str, thread};
 
-/// Fails, and shows what was written, unless it is as expected.
+/// Fails, and shows the text that was written, unless it is as expected.
 pub fn expect(is_as_expected: bool, written: &str) -> Result<(), Fail> {
     if is_as_expected {
         return Ok(());
@@ -19,7 +19,7 @@ pub fn expect(is_as_expected: bool, written: &str) -> Result<(), Fail> {
     Err(Fail::new(written))
 }
 
-/// The scripts as a race takes them.
+/// The scripts in the form that a race takes.
 fn scripts_of(alloc: Global, texts: &[&str]) -> Result<Vec<Vec<u8>>, AllocError> {
     let mut scripts = Vec::new(alloc);
     for text in texts {
@@ -57,7 +57,7 @@ fn text_of(written: Vec<u8>) -> Option<String> {
     Some(text)
 }
 
-/// What a race on this many pages writes, or `None` if memory ran out.
+/// The text that a race on this many pages writes, or `None` if memory ran out.
 fn raced_on<R: Threads + Wait, G: Gate + Sync>(
     rt: &R,
     alloc: Global,
@@ -72,13 +72,13 @@ fn raced_on<R: Threads + Wait, G: Gate + Sync>(
     match race_on(rt, scripts, pages, gate, &mut written) {
         Ok(true) => Ok(text_of(written)),
         Ok(false) => Err(RunFault::Limits),
-        // If a vector can't grow, that is a failed write.
+        // A vector that can't grow counts as a failed write.
         Err(RunFault::Memory | RunFault::Write) => Ok(None),
         Err(fault) => Err(fault),
     }
 }
 
-/// The same with 256 pages.
+/// The text that a race on 256 pages writes, or `None` if memory ran out.
 pub fn raced<R: Threads + Wait, G: Gate + Sync>(
     rt: &R,
     alloc: Global,
@@ -88,7 +88,7 @@ pub fn raced<R: Threads + Wait, G: Gate + Sync>(
     raced_on(rt, alloc, texts, 256, gate)
 }
 
-/// What a race writes. If memory ran out, the scripts are raced again.
+/// The text that a race writes. If memory ran out, the race is repeated.
 fn outcome_of<R: Threads + Wait, G: Gate + Sync>(
     rt: &R,
     alloc: Global,
@@ -112,10 +112,10 @@ fn race_of_two(rt: HostRuntime) -> Result<(), Fail> {
     expect(written.as_str() == OF_TWO, written.as_str())
 }
 
-/// The calls of a gate for the lines of one pass.
+/// The calls to a gate for the lines of one pass.
 #[derive(Drop)]
 struct Calls {
-    /// The last line that began, and the last one that ended.
+    /// The last line that began, and the last line that ended.
     begun: AtomicU64,
     ended: AtomicU64,
     /// The number of calls that were out of order.
@@ -131,7 +131,7 @@ impl Calls {
         }
     }
 
-    /// A line begins. It should come right after the end of the line before it.
+    /// A line begins. The line before it must have just ended.
     fn begin(&self, line: u64) {
         let begun = self.begun.swap(line, SeqCst);
         if begun != self.ended.load(SeqCst) || line != begun.wrapping_add(1) {
@@ -139,7 +139,7 @@ impl Calls {
         }
     }
 
-    /// A line ends. It should be the last one that began, and not have ended.
+    /// A line ends. It must be the last line that began, and must not have ended before.
     fn end(&self, line: u64) {
         let ended = self.ended.swap(line, SeqCst);
         if line != self.begun.load(SeqCst) || line != ended.wrapping_add(1) {
@@ -147,8 +147,8 @@ impl Calls {
         }
     }
 
-    /// Whether the calls were exactly these: for each of this many lines, one before it and then
-    /// one after it.
+    /// Whether there was exactly one call before and one call after each of this many lines, in
+    /// order.
     fn are_of(&self, lines: u64) -> bool {
         self.strays.load(SeqCst) == 0
             && self.begun.load(SeqCst) == lines
@@ -156,7 +156,7 @@ impl Calls {
     }
 }
 
-/// The calls of a gate for each of two passes.
+/// The calls to a gate for each of two passes.
 #[derive(Drop)]
 struct Record {
     first: Calls,
@@ -186,12 +186,12 @@ impl Gate for Record {
     }
 }
 
-/// A flag for each of two passes. Before its second line, a pass raises its flag, and waits until
-/// the other's is up.
+/// A flag for each of two passes. Before its second line, each pass raises its flag, and waits
+/// until the other flag is raised.
 #[derive(Drop)]
 struct Meeting {
     flags: [AtomicU64; 2],
-    /// The number of waits that reached their limit.
+    /// The number of waits that timed out.
     missed: AtomicU64,
     record: Record,
 }
@@ -205,7 +205,7 @@ impl Meeting {
         }
     }
 
-    /// Whether the other pass's flag is up within 100,000,000 turns.
+    /// Whether the other pass's flag is raised within 100,000,000 turns.
     fn meets(&self, pass: u64) -> bool {
         let [first, second] = &self.flags;
         let (mine, other) = if pass == 0 {
@@ -244,7 +244,7 @@ fn have_met(gate: &Meeting) -> bool {
 }
 
 /// Two threads are in the middle of their scripts at the same time. A single thread can't pass this
-/// test, whatever order it takes the lines in.
+/// test, whatever order it runs the lines in.
 #[test]
 fn both_threads_run(rt: HostRuntime) -> Result<(), Fail> {
     let gate = Meeting::new();
@@ -257,8 +257,8 @@ fn both_threads_run(rt: HostRuntime) -> Result<(), Fail> {
     )
 }
 
-/// Whether a gate is called for this many lines of a script, and for none of an empty second
-/// script. `None` if memory ran out.
+/// Whether a gate is called for this many lines of a script, and for no line of an empty second
+/// script. Returns `None` if memory ran out.
 fn is_called_for_lines<R: Threads + Wait>(
     rt: &R,
     alloc: Global,
@@ -272,8 +272,8 @@ fn is_called_for_lines<R: Threads + Wait>(
     }
 }
 
-/// Fails unless a gate is called for as many lines of a script as the number before it says. A `|`
-/// in the script stands for an LF.
+/// Fails unless a gate is called for the number of lines given before the script. A `|` in the
+/// script stands for an LF.
 fn check_lines<R: Threads + Wait>(rt: &R, alloc: Global, line: &str) -> Result<(), Fail> {
     let (count, script) = line.split_once(" ").unwrap_or(("0", line));
     let lines = word_of(count.as_bytes()).unwrap_or(0);
@@ -288,7 +288,7 @@ fn check_lines<R: Threads + Wait>(rt: &R, alloc: Global, line: &str) -> Result<(
     expect(called == Some(true), line)
 }
 
-/// Blank lines, comments and bad lines count, and so does what follows the last LF, unless it is
+/// Blank lines, comments and bad lines count, and so does the text after the last LF, unless it is
 /// empty.
 #[test]
 fn lines_at_the_gate(rt: HostRuntime) -> Result<(), Fail> {
@@ -299,14 +299,14 @@ fn lines_at_the_gate(rt: HostRuntime) -> Result<(), Fail> {
     Ok(())
 }
 
-/// Lines that write, read, pin and fail, and a batch.
+/// Lines that write, read, pin and fail, with a batch among them.
 const MIXED: &str =
     "new\nmkindex k LONG\nset 1 k LONG 5\nset 2 k LONG 6\nquery k>4\nbegin\nnew\nset 3 k LONG \
      7\nnew\ncommit\npin\ndrop 1\nquery k>4\n\
     unpin\nset 2 k LONG 8\nlive k==8\nrefresh\nrmindex k\ndrop 99\nset 2 \"\" CSTR x\nsett\n# a \
      comment\nnew\n";
 
-/// Fails unless a race of this many such scripts ends with a right replay.
+/// Fails unless a race of this many such scripts ends with a successful replay.
 fn check_race<R: Threads + Wait>(rt: &R, alloc: Global, count: usize) -> Result<(), Fail> {
     let texts = [MIXED; 4];
     if count > 4 {
@@ -330,7 +330,7 @@ fn races_of_two_to_four(rt: HostRuntime) -> Result<(), Fail> {
     Ok(())
 }
 
-/// A text repeated. If memory runs out, it is made again.
+/// A repeated text. If memory runs out, it is built again.
 fn repeated(alloc: Global, text: &str, count: usize) -> Result<String, AllocError> {
     match text.repeat(alloc, count) {
         Err(_) => text.repeat(alloc, count),
@@ -338,7 +338,7 @@ fn repeated(alloc: Global, text: &str, count: usize) -> Result<String, AllocErro
     }
 }
 
-/// Whether these are 100 entries of two nodes each, and nothing was refused.
+/// Whether the journal has 100 entries with two nodes each, and nothing was refused.
 fn has_batches(written: &str) -> bool {
     !written.contains("refused")
         && written.contains("\njournal 100\n")
@@ -347,7 +347,8 @@ fn has_batches(written: &str) -> bool {
         && written.ends_with("\nreplay ok\n")
 }
 
-/// Batches of two scripts whose commits meet: each is committed whole, as one entry.
+/// Batches of two scripts that commit at the same time: each batch is committed as a whole, as one
+/// entry.
 #[test]
 fn batches_at_once(rt: HostRuntime) -> Result<(), Fail> {
     let script = repeated(rt.alloc(), "begin\nnew\nnew\ncommit\n", 50)?;
@@ -379,14 +380,14 @@ fn words_of(ended: Result<bool, RunFault>, has_written: bool) -> &'static str {
     }
 }
 
-/// How a race of these scripts on this many pages ends.
+/// How a race of these scripts on this many pages ends, in words.
 fn end_of<R: Threads + Wait>(rt: &R, scripts: Vec<Vec<u8>>, pages: u64) -> &'static str {
     let mut written: Vec<u8> = Vec::new(*scripts.allocator());
     let ended = race_on(rt, scripts, pages, &OpenGate, &mut written);
     words_of(ended, !written.is_empty())
 }
 
-/// The same for an empty script and one with this many bytes.
+/// How a race of an empty script and a script with this many bytes ends, in words.
 fn end_of_length<R: Threads + Wait>(rt: &R, alloc: Global, length: usize) -> &'static str {
     let (Ok(mut scripts), Ok(long)) = (scripts_of(alloc, &[""]), vec![in alloc; b'#'; length])
     else {
@@ -398,7 +399,7 @@ fn end_of_length<R: Threads + Wait>(rt: &R, alloc: Global, length: usize) -> &'s
     end_of(rt, scripts, 64)
 }
 
-/// Fails unless it ends like this. If memory ran out, it is raced again.
+/// Fails unless the race ends like this. If memory ran out, the race is repeated.
 fn check_length<R: Threads + Wait>(
     rt: &R,
     alloc: Global,
@@ -412,7 +413,8 @@ fn check_length<R: Threads + Wait>(
     expect(ended == end, ended)
 }
 
-/// After an empty script, one that is too long: nothing is written. With one byte less it is run.
+/// If a script that follows an empty one is too long, nothing is written. With one byte less, it is
+/// run.
 #[test]
 fn longest_scripts(rt: HostRuntime) -> Result<(), Fail> {
     check_length(&rt, rt.alloc(), 1_048_577, "too long")?;
@@ -427,8 +429,8 @@ fn end_on<R: Threads + Wait>(rt: &R, alloc: Global, pages: u64) -> &'static str 
     }
 }
 
-/// Fails unless this number of pages is reported to be out of range. If memory ran out, it is raced
-/// again.
+/// Fails unless this number of pages is reported as out of range. If memory ran out, the race is
+/// repeated.
 fn check_limits<R: Threads + Wait>(rt: &R, alloc: Global, pages: u64) -> Result<(), Fail> {
     let ended = match end_on(rt, alloc, pages) {
         "memory" => end_on(rt, alloc, pages),
@@ -437,15 +439,15 @@ fn check_limits<R: Threads + Wait>(rt: &R, alloc: Global, pages: u64) -> Result<
     expect(ended == "limits", ended)
 }
 
-/// A limit out of range is reported first, and nothing is written.
+/// A limit that is out of range is reported first, and nothing is written.
 #[test]
 fn limits_of_a_race(rt: HostRuntime) -> Result<(), Fail> {
     check_limits(&rt, rt.alloc(), 7)?;
     check_limits(&rt, rt.alloc(), 16385)
 }
 
-/// The number of nodes that the second script of a race made, and the number of lines refused with
-/// Full and this number of entries.
+/// The number of nodes that the second script of a race created, and the number of its lines that
+/// were refused with Full and this number of entries.
 fn count_fulls(alloc: Global, written: &str) -> Result<(usize, usize), AllocError> {
     let entries = written.matches(" by 1 new -> node ").count();
     let full = format!(in alloc; "refused 11 Full {entries}")?;
@@ -454,8 +456,8 @@ fn count_fulls(alloc: Global, written: &str) -> Result<(usize, usize), AllocErro
     Ok((entries, fulls))
 }
 
-/// The same for a race of an empty script and this one, on this many pages. `None` if memory ran
-/// out.
+/// These two numbers for a race of an empty script and this script on this many pages. Returns
+/// `None` if memory ran out.
 fn fulls_on<R: Threads + Wait>(
     rt: &R,
     alloc: Global,
@@ -468,7 +470,8 @@ fn fulls_on<R: Threads + Wait>(
     }
 }
 
-/// Fails unless a store with this many pages makes 60 nodes, or refuses those it can't make.
+/// Fails unless a store with this many pages creates 60 nodes, or refuses the nodes that it can't
+/// create.
 fn check_fulls<R: Threads + Wait>(
     rt: &R,
     alloc: Global,
@@ -487,8 +490,8 @@ fn check_fulls<R: Threads + Wait>(
     Err(Fail::new(pages))
 }
 
-/// A race has as many pages as its limits say. With 8, some of 60 nodes are refused, and the
-/// current version is reported if nothing is pinned. With 64, all are made.
+/// A race has the number of pages given in its limits. With 8 pages, some of 60 nodes are refused,
+/// and the current version is reported because nothing is pinned. With 64 pages, all are created.
 #[test]
 fn pages_of_a_race(rt: HostRuntime) -> Result<(), Fail> {
     let script = repeated(rt.alloc(), "new\n", 60)?;
@@ -496,9 +499,9 @@ fn pages_of_a_race(rt: HostRuntime) -> Result<(), Fail> {
     check_fulls(&rt, rt.alloc(), script.as_str(), 64, false)
 }
 
-/// Whether a race writes as many bytes as the writer takes, and then ends with `Write`, or with
-/// success if the writer takes all. It may return false if memory ran out, which isn't reported as
-/// `Write`.
+/// Whether a race writes all the bytes that the writer accepts, and then ends with `Write`, or with
+/// success if the writer accepts the whole text. It may return false if memory ran out, which isn't
+/// reported as `Write`.
 fn fills<R: Threads + Wait>(rt: &R, alloc: Global, room: usize) -> bool {
     let Ok(scripts) = scripts_of(alloc, &["new\n", ""]) else {
         return false;
@@ -511,7 +514,7 @@ fn fills<R: Threads + Wait>(rt: &R, alloc: Global, room: usize) -> bool {
     )
 }
 
-/// A writer that fails at each place: a prefix is written.
+/// A writer that fails at each position in turn; a prefix is written.
 #[test]
 fn failing_writer_of_a_race(rt: HostRuntime) -> Result<(), Fail> {
     let alloc = rt.alloc();
@@ -524,10 +527,10 @@ fn failing_writer_of_a_race(rt: HostRuntime) -> Result<(), Fail> {
     Ok(())
 }
 
-/// What is written if the only line of a race is refused because memory ran out.
+/// The text that is written if the only line of a race is refused because memory ran out.
 const OF_NONE: &str = "pass 0\nrefused 10 OutOfMemory\npass 1\njournal 0\nreplay ok\n";
 
-/// If memory runs out, the race reports Memory or the line is refused, even with a writer that
+/// If memory runs out, the race returns Memory or the line is refused, even with a writer that
 /// needs no memory.
 #[test]
 fn refused_memory(rt: HostRuntime) -> Result<(), Fail> {

@@ -1,4 +1,4 @@
-//! A live query that one thread refreshes from what changed, while another thread writes.
+//! A live query that one thread refreshes from the changes, while another thread writes.
 ghost use Rattle.be_store.specs.Live.{IsLiveOf};
 ghost use Rattle.be_store.specs.Passes.{IsPassOf};
 
@@ -9,7 +9,8 @@ use std::alloc::{AllocGlobal, Global};
 use std::thread;
 use std::thread::Threads;
 
-/// So many nodes that an answer has more than 96. From then on, a refresh reads only what changed.
+/// Enough nodes for an answer with more than 96 nodes. Above that size, a refresh reads only the
+/// changes.
 const NODES: u32 = 400;
 
 /// Writes random operations.
@@ -20,7 +21,8 @@ fn write_on(store: &Store, mut writer: Pass) -> Result<(), Refusal>
     Ok(())
 }
 
-/// Refreshes at 100 pins. Returns whether the list always equalled what the query found at the pin.
+/// Refreshes at 100 pins. Returns whether the list was always equal to the query's answer at the
+/// pin.
 fn follow_on(
     store: &Store,
     alloc: Global,

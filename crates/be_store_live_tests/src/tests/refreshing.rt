@@ -1,5 +1,5 @@
-//! A live query that is refreshed between random writes, and a list that is updated from what the
-//! refreshes return.
+//! A live query that is refreshed between random writes, and a list that is kept up to date with
+//! the results of the refreshes.
 ghost use Rattle.std.specs.Prelude.{◌≡◌, ◌<◌, ◌≤◌, None, length};
 ghost use Rattle.be_store.specs.Live.{IsLiveOf};
 ghost use Rattle.be_store.specs.Passes.{IsPassOf, IsPinnedTo};
@@ -9,18 +9,18 @@ use be_store::{Kind, Limits, Live, Name, Op, Pass, Query, Refusal, Store, Update
 use be_test_tools::both_of;
 use std::alloc::Global;
 
-/// The maximum number of tries of a write while another pass holds the lock.
+/// The maximum number of times that a write is tried while another pass holds the lock.
 const TRIES: u64 = 10_000_000;
 
-/// A query that about four in ten nodes pass.
+/// A query that about four in ten nodes satisfy.
 pub(crate) const TEXT: &str = "size>30&&size<70||size==5&&other>50";
 
-/// Numbers that look random: each is computed from the one before.
+/// Pseudorandom numbers: each is computed from the previous one.
 fn next_number(number: u32) -> u32 {
     number.wrapping_mul(1_664_525).wrapping_add(1_013_904_223)
 }
 
-/// An operation that a random number determines, on one of these nodes.
+/// An operation on one of these nodes, chosen by a random number.
 fn random_op(nodes: u32, number: u32) -> Result<Op, Refusal>
     requires { 0 < nodes }
 {
@@ -42,8 +42,8 @@ fn random_op(nodes: u32, number: u32) -> Result<Op, Refusal>
     }
 }
 
-/// Writes an operation, which the volume may refuse. It is also refused if no page is free, since
-/// another thread has pinned a version and keeps its pages.
+/// Writes an operation, which the volume may refuse. The store also refuses it if no page is free
+/// because another thread has pinned a version and holds that version's pages.
 fn write_or_not(store: &Store, pass: &mut Pass, op: Op) -> Result<(), Refusal>
     requires { IsPassOf store.now pass.old }
     ensures { IsPassOf store.now pass.new }
@@ -57,7 +57,7 @@ fn write_or_not(store: &Store, pass: &mut Pass, op: Op) -> Result<(), Refusal>
     }
 }
 
-/// Writes this many random operations. Returns the next random number.
+/// Writes this many random operations. Returns the next pseudorandom number.
 pub(crate) fn write_some(
     store: &Store,
     pass: &mut Pass,
@@ -77,8 +77,8 @@ pub(crate) fn write_some(
     Ok(number)
 }
 
-/// Removes from a list the nodes that left the answer, and adds those that joined. Returns false if
-/// a node left that isn't in the list, or joined that is.
+/// Removes from a list the nodes that left the answer, and adds those that joined it. Returns false
+/// if a node that left isn't in the list, or if a node that joined is already in it.
 fn follow(list: &mut Vec<u64>, updates: &Updates) -> Result<bool, Refusal> {
     for node in updates.removed.as_slice() {
         let Some(at) = list.iter().position(|kept| kept == node) else {
@@ -98,7 +98,7 @@ fn follow(list: &mut Vec<u64>, updates: &Updates) -> Result<bool, Refusal> {
     Ok(true)
 }
 
-/// Pins the pass unless it is pinned, and returns the pin's number.
+/// Pins the pass unless it is already pinned, and returns the pin's number.
 fn pin_if_not(store: &Store, pass: &mut Pass) -> u64
     requires pass { IsPassOf store.now pass.old }
     ensures pass { IsPassOf store.now pass.new }
@@ -110,8 +110,8 @@ fn pin_if_not(store: &Store, pass: &mut Pass) -> u64
     }
 }
 
-/// Refreshes at a pin that ends with the read. Returns whether the list then equals what the query
-/// finds there.
+/// Refreshes at a pin that is released after the read. Returns whether the list is then equal to
+/// the query's answer there.
 pub(crate) fn agrees(
     store: &Store,
     alloc: Global,
@@ -133,7 +133,7 @@ pub(crate) fn agrees(
     Ok(kept && list.as_slice() == found.nodes.as_slice())
 }
 
-/// Refreshes with one of two passes.
+/// Refreshes with one of the two passes.
 fn agrees_by(
     store: &Store,
     alloc: Global,
@@ -157,8 +157,8 @@ fn agrees_by(
     agrees(store, alloc, reader, query, live, list)
 }
 
-/// Writes with one pass and refreshes with others, again and again. Returns whether the list always
-/// equalled what the query found.
+/// Repeatedly writes with one pass and refreshes with either. Returns whether the list was always
+/// equal to the query's answer.
 fn agrees_always(
     store: &Store,
     alloc: Global,
@@ -191,7 +191,7 @@ fn agrees_always(
     Ok(true)
 }
 
-/// Makes this many nodes, with sizes from random numbers.
+/// Creates this many nodes, with sizes from pseudorandom numbers.
 pub(crate) fn make_nodes(store: &Store, pass: &mut Pass, nodes: u32) -> Result<(), Refusal>
     requires { IsPassOf store.now pass.old }
     ensures { IsPassOf store.now pass.new }
@@ -206,7 +206,7 @@ pub(crate) fn make_nodes(store: &Store, pass: &mut Pass, nodes: u32) -> Result<(
     Ok(())
 }
 
-/// The same in a new store with this many nodes at the start.
+/// Runs `agrees_always` in a new store with this many nodes.
 fn follows_writes(alloc: Global, nodes: u32) -> Result<bool, Refusal>
     requires { 0 < nodes }
 {
@@ -233,8 +233,8 @@ fn follows_writes(alloc: Global, nodes: u32) -> Result<bool, Refusal>
     )
 }
 
-/// With a small answer, each refresh runs the whole query. With one of about 160 nodes, a refresh
-/// reads only what was written, if that is little.
+/// With a small answer, each refresh runs the whole query. With an answer of about 160 nodes, a
+/// refresh reads only the writes since the last one, if these are few.
 pub(crate) fn follows_random_writes(alloc: Global) -> Result<bool, Refusal> {
     Ok(follows_writes(alloc, 40)? && follows_writes(alloc, 400)?)
 }

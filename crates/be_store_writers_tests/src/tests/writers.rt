@@ -1,4 +1,4 @@
-//! Four threads whose writes depend on what they read.
+//! Four threads whose writes depend on what they have read.
 ghost use Rattle.std.specs.Prelude.{◌≡◌, None};
 ghost use Rattle.be_store.specs.Passes.{IsPassOf};
 ghost use Rattle.be_store.specs.Seats.{pinned_number};
@@ -10,8 +10,8 @@ use std::thread::Threads;
 
 const TRIES: u64 = 10_000_000;
 
-/// What a pass read before its next write: its pin, the next node's number, and the count at node
-/// 1.
+/// What a pass read before its next write: its pin, the next node's number, and the count stored at
+/// node 1.
 #[derive(Clone, Copy)]
 struct Seen {
     number: u64,
@@ -36,8 +36,8 @@ fn look(store: &Store, pass: &mut Pass, count: &Name) -> Seen
     }
 }
 
-/// Makes a node that says which pass made it, and adds one to the count, based on what was read.
-/// Returns whether no other write came first.
+/// Creates a node that records which pass created it, and adds one to the count, both based on what
+/// was read. Returns whether no other write came first.
 fn change(store: &Store, pass: &mut Pass, seen: &Seen) -> Result<bool, Refusal>
     requires { IsPassOf store.now pass.old }
     ensures { IsPassOf store.now pass.new }
@@ -74,7 +74,7 @@ fn change_once(store: &Store, pass: &mut Pass) -> Result<bool, Refusal>
     }
 }
 
-/// Reads and writes, until no other write comes in between.
+/// Reads and writes, and repeats both until no other write comes in between.
 fn change_at_last(store: &Store, pass: &mut Pass) -> Result<(), Refusal>
     requires { IsPassOf store.now pass.old }
     ensures { IsPassOf store.now pass.new }
@@ -114,7 +114,7 @@ fn change_by_two<R: Threads + Sync>(
     other
 }
 
-/// Whether a query finds exactly fifty nodes, at a pin that ends with the read.
+/// Whether a query finds exactly fifty nodes, at a pin that is released after the read.
 fn find_fifty(store: &Store, alloc: Global, pass: &mut Pass, text: &str) -> Result<bool, Refusal>
     requires pass { IsPassOf store.now pass.old }
     requires unpinned { pinned_number pass.old.knows.phase ≡ None }
@@ -146,7 +146,7 @@ fn count_of(store: &Store, pass: &mut Pass) -> Result<i64, Refusal>
     }
 }
 
-/// How many of the four passes have made exactly fifty nodes, and the count.
+/// The number of passes, out of four, that have created exactly fifty nodes, and the count.
 fn totals(store: &Store, alloc: Global, pass: &mut Pass) -> Result<(u64, i64), Refusal>
     requires { IsPassOf store.now pass.old }
 {
@@ -159,8 +159,8 @@ fn totals(store: &Store, alloc: Global, pass: &mut Pass) -> Result<(u64, i64), R
     Ok((made, count_of(store, pass)?))
 }
 
-/// Four threads each make fifty nodes and count them. Returns how many of them have made exactly
-/// fifty, and the count.
+/// Four threads each create fifty nodes and count them. Returns the number of threads that have
+/// created exactly fifty, and the count.
 pub(crate) fn change_by_four<R: AllocGlobal + Threads + Sync>(
     rt: &R,
 ) -> Result<(u64, i64), Refusal> {

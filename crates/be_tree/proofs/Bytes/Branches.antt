@@ -1,5 +1,5 @@
--- A branch that was written: its key's whole words were copied, and the rest of the key and the number are in the words after
--- them.
+-- A written branch: the whole words of its key were copied, and the rest of the key and the number
+-- are in the words after them.
 use Rattle.std.proofs.Common.{◌≡◌, ℕ, ◌+◌, ◌*◌, ◌/◌, ◌%◌, ◌^◌, ◌<◌, ◌≤◌, List, ◌++◌, length, take, ap, sym, subst, ◌∙◌, arith, append_assoc}
 use Rattle.std.specs.Int.{to_be_bytes, w64}
 use Rattle.std.proofs.lemmas.List.{length-append}

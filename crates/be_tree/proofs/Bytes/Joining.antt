@@ -1,4 +1,4 @@
--- A number written into two words, after the first bytes of another word.
+-- A number written into two words after the first bytes of another word.
 use Rattle.std.proofs.Common.{◌≡◌, ℕ, zero, suc, ◌+◌, ◌-◌, ◌*◌, ◌/◌, ◌%◌, ◌^◌, ◌<◌, List, All, [], ◌++◌, length, map, take, drop, ap, sym, subst, ◌∙◌, arith, append_assoc, pow-add}
 use Rattle.std.specs.Int.{byte_at, bytes_high_first, to_be_bytes, w64}
 use Rattle.std.specs.List.{flat_map, range_with_len}
@@ -117,7 +117,7 @@ module _ (x n r : ℕ) (some : 0 < r) (lt : r < 8) (lx : x < 2 ^ 64) (ln : n < 2
         let zs = bytes_high_first (8 - r) 0 in
         subst (λ (us : List ℕ). All (λ byte. byte ≡ 0) us) (sym (ap (drop (r + 8)) read ∙ ap (λ (m : ℕ). drop m (xs ++ zs)) len ∙ drop-append_seam xs zs)) (zeros (8 - r))
 
--- in one word
+-- both in one word
 pub alone_bytes : (w : ℕ → ℕ) (at x r n : ℕ) → r ≡ 0 → w at ≡ n → bytes_at w at (r + 8) ≡ take r (to_be_bytes w64 x) ++ to_be_bytes w64 n
 alone_bytes w at x r n none is =
     ap (λ (m : ℕ). bytes_at w at (m + 8)) none

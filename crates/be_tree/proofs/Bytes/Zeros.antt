@@ -10,7 +10,7 @@ use Rattle.std.proofs.Math.Seq.{drop-append_seam}
 use Rattle.be_tree_reading.specs.Page.{bytes_after, words_for, key_len, payload_len, IsItem, IsPadded}
 use Rattle.be_tree_reading.proofs.Codec.{flat_map_length, flat_map_range_append, flat_map_stored, map_same, maps_along}
 
--- beyond its end a list reads as zeros
+-- past its end, a list reads as zeros
 zeros_past : (bs : List ℕ) (m : ℕ) → All (λ byte. byte ≡ 0) (drop (length bs) (map (λ k. get_or bs k 0) (range_with_len 0 m)))
 zeros_past bs m =
     let b = λ (k : ℕ). get_or bs k 0 in
@@ -20,7 +20,7 @@ zeros_past bs m =
     ∙ get_or-map-range_with_len b 0 m (length bs + i) (length bs + i) 0 (omega (arith, lt, length-drop (length bs) all, length-map-range_with_len b 0 m)) (omega arith)
     ∙ get_or_past bs (length bs + i) 0 (omega arith))
 
--- what was written by words that read beyond the end
+-- what was written by words that read past the end
 pub after_stored : (words : ℕ → ℕ) (at : ℕ) (bs : List ℕ)
     → ((i : ℕ) → i < words_for (length bs) → to_be_bytes w64 (words (at + i)) ≡ map (λ k. get_or bs k 0) (range_with_len (8 * i) 8))
     → IsPadded words at (length bs)

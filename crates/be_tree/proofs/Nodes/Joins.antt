@@ -1,4 +1,5 @@
--- Two neighbours, one of them changed, with the items of both in one unwritten node: what writing it needs, and what it makes.
+-- Two neighbours, one of them changed, with the items of both in one unwritten node: what writing
+-- it requires, and what it produces.
 use Rattle.std.proofs.Common.{◌≡◌, ℕ, suc, ◌+◌, List, ◌∷◌, ◌++◌, length, map, All, IsTrue, ap, sym, subst, ◌∙◌, arith}
 use Rattle.std.specs.List.{range_with_len}
 use Rattle.std.proofs.lemmas.List.{length-append}

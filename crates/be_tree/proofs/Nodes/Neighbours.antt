@@ -69,7 +69,7 @@ module _ {S K : Type 0} (kept_of : S → K) (page_state_of : S → ℕ → PageS
     pub apart : l ≢ r
     apart e = absurd (omega (arith, two.once l, times-cons l l (r ∷ []), same_page l, times-cons l r [], ap (λ p. cond {A = ℕ} (p == l) 1 0) e))
 
-    -- both lists together became others
+    -- both lists together have been replaced
     module _ (all items : List Pair) (mid : S) (joined : Becomes kept_of page_state_of words_of (pages_below level (words_of old) (items_of (words_of old l) ++ items_of (words_of old r))) all level items old mid) where
       pub left_apart : times l (pages_below level (words_of mid) items) ≡ 0
       left_apart = given_up_page kept_of page_state_of words_of (pages_below level (words_of old) (items_of (words_of old l) ++ items_of (words_of old r))) (pages_below level (words_of mid) items) l old mid joined.swaps left_none two.left_tree.page_in_use
@@ -112,7 +112,7 @@ module _ {S K : Type 0} (kept_of : S → K) (page_state_of : S → ℕ → PageS
             packed.swaps;
       }
 
-    -- the first one's items became others
+    -- the first one's items have been replaced
     module _ (all : List Pair) (given : Pair) (sub : List Slot) (mid : S)
         (first : Becomes kept_of page_state_of words_of (pages_below level (words_of old) (items_of (words_of old l))) all level (pairs_of (words_of mid) given sub) old mid) where
       r_none : times r (pages_below level (words_of old) (items_of (words_of old l))) ≡ 0
@@ -155,7 +155,7 @@ module _ {S K : Type 0} (kept_of : S → K) (page_state_of : S → ℕ → PageS
             (subst (λ qs. Becomes kept_of page_state_of words_of (pages_below level (words_of old) (xs ++ ys)) (all ++ qs) level (us ++ ys) old mid) same
             (becomes_append kept_of page_state_of words_of level level xs ys us ys all (pairs_below level (words_of mid) ys) old mid mid both_below first end (subst (λ qs. IsRising (all ++ qs)) (sym same) rising)))
 
-    -- the second one's items became others
+    -- the second one's items have been replaced
     module _ (all : List Pair) (given : Pair) (sub : List Slot) (mid : S)
         (first : Becomes kept_of page_state_of words_of (pages_below level (words_of old) (items_of (words_of old r))) all level (pairs_of (words_of mid) given sub) old mid) where
       l_none : times l (pages_below level (words_of old) (items_of (words_of old r))) ≡ 0
@@ -206,7 +206,7 @@ module _ {S K : Type 0} (kept_of : S → K) (page_state_of : S → ℕ → PageS
   ready_until slots new read same ready =
       subst (λ s. All (IsReady s (words_of read)) slots) (sym same.page_state) (subst (λ w. All (IsReady (page_state_of new) w) slots) (sym same.words) ready)
 
-  -- two branches whose children became others, after pages were only read
+  -- two branches whose children have been replaced, after pages were only read
   pub becomes_children : (level below l r : ℕ) (left right : Pair) (f : List Pair → List Pair → List Pair) (us : List Pair) (old read mid : S) → level ≡ suc below → l ≡ child left → r ≡ child right
       → IsUnchanged kept_of page_state_of words_of old read
       → Becomes kept_of page_state_of words_of (l ∷ r ∷ pages_below below (words_of read) (items_of (words_of read l) ++ items_of (words_of read r))) (f (pairs_at below (words_of read) l) (pairs_at below (words_of read) r)) (suc below) us read mid

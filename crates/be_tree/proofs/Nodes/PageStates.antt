@@ -1,4 +1,4 @@
--- One page has another state, and the others keep theirs.
+-- One page gets another state, and the others keep theirs.
 use Rattle.std.proofs.Common.{◌≡◌, ◌≢◌, ℕ, ◌==◌, if◌then◌else◌, ◌∙◌, arith}
 use Rattle.std.proofs.lemmas.Bool.Decides.{nat_tests}
 use Rattle.be_pages.specs.declared.room.PageState.{PageState}

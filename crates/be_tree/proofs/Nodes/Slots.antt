@@ -18,7 +18,7 @@ use Rattle.be_tree_reading.proofs.Frame.{swaps_stays, swaps_same, readable_kept}
 use Rattle.be_tree_reading.proofs.Shape.Below.{child_page}
 use Rattle.be_tree.specs.Slot.{branch_to, pair_of, pairs_of, IsReady, IsBranchSlot}
 
--- a page's items as a list of slots gives them
+-- a page's items as given by a list of slots
 pub stored_map : (f : Slot → Pair) (g : ℕ → Pair) (slots : List Slot) (n : ℕ) → n ≡ length slots → ((k : ℕ) (d : Slot) → k < n → g k ≡ f (get_or slots k d)) → map g (range_with_len 0 n) ≡ map f slots
 stored_map f g slots n len same = subst (λ m. map g (range_with_len 0 m) ≡ map f slots) (sym len) (from g slots 0 (λ k d lt. ap g (zero-add k) ∙ same k d (omega (arith, len, lt))))
   where
@@ -31,7 +31,7 @@ stored_map f g slots n len same = subst (λ m. map g (range_with_len 0 m) ≡ ma
         ap2 : {A : Type 0} {x y : A} {xs ys : List A} → x ≡ y → xs ≡ ys → x ∷ xs ≡ y ∷ ys
         ap2 p q = cc
 
--- a branch to a page leads there
+-- a branch to a page leads to that page
 pub child_branch : (w : ℕ → ℕ → ℕ) (page : ℕ) → page < 2 ^ 32 → child (branch_to w page) ≡ page
 unfolding child
 child_branch w page small = from_be_bytes-to_be_bytes_8 page (omega (arith, small))

@@ -1,4 +1,4 @@
--- Unwritten nodes that are written, replacing the pages that had their items.
+-- Writing unwritten nodes, which replaces the pages that had their items.
 use Rattle.std.proofs.Common.{◌≡◌, ◌≢◌, ℕ, suc, ◌+◌, ◌<◌, ◌≤◌, ◌^◌, List, [], ◌∷◌, ◌++◌, length, All, IsTrue, ap, sym, subst, ◌∙◌, arith}
 use Rattle.std.proofs.lemmas.List.{length-map, map-append}
 use mathlib.Core.Bool.{false≢true}
@@ -26,7 +26,7 @@ written_same level v w items page small same some written =
     (ap items_of same ∙ subst (λ p. items_of (v p) ≡ items) is written.has_items)
     some
 
--- a page that was free isn't one in use
+-- a page that was free isn't one that is in use
 pub free_other : (s : ℕ → PageState) (free used : ℕ) → s free ≡ Free → IsTrue (is_kept (s used)) → free ≢ used
 free_other s free used is kept e = false≢true (ap is_kept (sym is) ∙ ap (λ q. is_kept (s q)) e ∙ kept)
 
@@ -34,7 +34,7 @@ some_page : (p : ℕ) → 0 < times p (p ∷ [])
 some_page p = omega (arith, times_itself p)
 
 module _ {S K : Type 0} (kept_of : S → K) (page_state_of : S → ℕ → PageState) (words_of : S → ℕ → ℕ → ℕ) (level : ℕ) (given : Pair) where
-  -- written to one page
+  -- writing to one page
   pub one_written : (slots : List Slot) (source : List ℕ) (page : ℕ) (old new : S)
       → IsBelow level (page_state_of old) (words_of old) (pairs_of (words_of old) given slots) → 6 ≤ length slots
       → IsWritten level (words_of new) (pairs_of (words_of old) given slots) (branch_to (words_of new) page) → page < 2 ^ 32
@@ -47,7 +47,7 @@ module _ {S K : Type 0} (kept_of : S → K) (page_state_of : S → ℕ → PageS
       (omega (arith, enough, length-map slots (pair_of (words_of old) given))) written
       (subst (λ p. Swaps kept_of page_state_of words_of source (p ∷ []) old new) (sym (child_branch (words_of new) page small)) swaps) apart
 
-  -- written to two pages
+  -- writing to two pages
   pub two_written : (front back slots : List Slot) (source : List ℕ) (left right : ℕ) (old new : S) → slots ≡ front ++ back
       → IsBelow level (page_state_of old) (words_of old) (pairs_of (words_of old) given slots) → 6 ≤ length front → 6 ≤ length back
       → IsWritten level (words_of new) (pairs_of (words_of old) given front) (branch_to (words_of new) left) → left < 2 ^ 32

@@ -1,4 +1,4 @@
--- Pages that are given up one after another.
+-- Giving up pages one after another.
 use Rattle.std.proofs.Common.{◌≡◌, ℕ, zero, suc, ◌+◌, ◌<◌, ◌≤◌, List, [], ◌∷◌, ◌++◌, length, get_or, take, drop, IsTrue, ap, sym, subst, ◌∙◌, refl, arith}
 use Rattle.std.proofs.lemmas.List.{take-append-drop, append-nil}
 use Rattle.std.proofs.Math.Seq.{take-suc}
@@ -117,7 +117,7 @@ taken_among level words items j q = omega (
 )
 
 module _ {S K : Type 0} (kept_of : S → K) (page_state_of : S → ℕ → PageState) (words_of : S → ℕ → ℕ → ℕ) where
-  -- pages were replaced, and then pages were only read
+  -- pages were replaced, and then others were only read
   pub swaps_until : (before after : List ℕ) (old mid read : S) → Swaps kept_of page_state_of words_of before after old mid → IsUnchanged kept_of page_state_of words_of mid read → Swaps kept_of page_state_of words_of before after old read
   swaps_until before after old mid read swaps same = record {
     kept = same.kept ∙ swaps.kept;
@@ -133,7 +133,7 @@ module _ {S K : Type 0} (kept_of : S → K) (page_state_of : S → ℕ → PageS
       let none : times page (pages_below level (words_of old) (take j (items_of (words_of old page)))) ≡ 0 = omega (arith, taken_among level (words_of old) (items_of (words_of old page)) j page, tree.page_once) in
       subst (λ s. IsTrue (is_readable s)) (sym (swaps_stays kept_of page_state_of words_of (pages_below level (words_of old) (take j (items_of (words_of old page)))) [] old mid swaps page none read)) read
 
-  -- the next branch's child stays well formed while those before it are given up
+  -- the next branch's child remains well formed while those before it are given up
   pub child_still : (level below least page j : ℕ) (old mid : S) → level ≡ suc below → IsTreeAt level least (page_state_of old) (words_of old) page → j < words_of old page 1
       → Swaps kept_of page_state_of words_of (pages_below level (words_of old) (take j (items_of (words_of old page)))) [] old mid → words_of mid ≡ words_of old
       → IsTreeAt below 1 (page_state_of mid) (words_of mid) (child (item_at (words_of old page) (item_place j)))

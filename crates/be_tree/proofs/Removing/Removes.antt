@@ -1,4 +1,4 @@
--- A key taken out below a page: facts that a removal needs.
+-- A key removed below a page: facts that a removal needs.
 use Rattle.std.proofs.Common.{◌≡◌, ℕ, zero, suc, ◌≤◌, List, [], ◌∷◌, ◌++◌, length, get_or, take, drop, All, if◌then◌else◌, ap, ◌∙◌, refl, arith}
 use Rattle.std.specs.List.{flat_map}
 use Rattle.std.specs.Ordering.{is_eq}
@@ -38,7 +38,7 @@ above_without m k (x ∷ xs) h =
       | Greater ↦ (h.0, above_without m k xs h.1)
     ]
 
--- a removal keeps the order
+-- a removal preserves the order
 pub rising_without : (k : List ℕ) (xs : List Pair) → IsRising xs → IsRising (without k xs)
 rising_without k [] rising = tt
 rising_without k (x ∷ xs) rising =
@@ -60,7 +60,7 @@ above_append : (m : List ℕ) (xs ys : List Pair) → AllAbove m xs → AllAbove
 above_append m [] ys h g = g
 above_append m (x ∷ xs) ys h g = (h.0, above_append m xs ys h.1 g)
 
--- a removal from one of two lists keeps the order of both
+-- a removal from one of two lists preserves the order of both
 pub rising_without_left : (k : List ℕ) (xs ys : List Pair) → IsRising (xs ++ ys) → IsRising (without k xs ++ ys)
 rising_without_left k [] ys rising = rising
 rising_without_left k (x ∷ xs) ys rising =

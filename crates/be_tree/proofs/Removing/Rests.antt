@@ -88,7 +88,7 @@ one_mapped f [] d len = absurd (omega (arith, len))
 one_mapped f (y ∷ []) d len = refl
 one_mapped f (y ∷ z ∷ zs) d len = absurd (omega (arith, len))
 
--- the page of the one branch that is left is in use
+-- the page of the only branch left is in use
 pub one_used : (level : ℕ) (page_state : ℕ → PageState) (words : ℕ → ℕ → ℕ) (items : List Pair) (branch : Pair) → 0 < level → items ≡ branch ∷ [] → IsBelow level page_state words items → IsTrue (is_kept (page_state (child branch)))
 one_used level page_state words items branch inner one below =
     let e : level ≡ suc (level - 1) = omega (arith, inner) in

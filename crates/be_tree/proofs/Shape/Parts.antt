@@ -1,4 +1,4 @@
--- How the pages in use become others, part by part.
+-- How the pages in use are replaced part by part.
 use Rattle.std.proofs.Common.{◌≡◌, ℕ, zero, suc, ◌+◌, ◌<◌, ◌≤◌, List, [], ◌∷◌, ◌++◌, length, get_or, All, Result, Ok, Err, OnErr, ap, sym, subst, ◌∙◌, refl, arith}
 use Rattle.std.proofs.lemmas.List.{append-nil}
 use Rattle.std.proofs.lemmas.List.Elements.{All-nil, All-cons}
@@ -22,7 +22,7 @@ starts_first level words [] d shaped some = absurd (omega (arith, some))
 starts_first zero words (x ∷ xs) d shaped some = refl
 starts_first (suc level) words (x ∷ xs) d shaped some = starts_append x.key (pairs_at level words (child x)) (pairs_below (suc level) words xs) (shaped 0 x (omega arith)).1.starts
 
--- the branch to a page that was written with items, by what is below them
+-- the branch to a page that was written with items, given what is below them
 pub branch_above : (level : ℕ) (words : ℕ → ℕ → ℕ) (items : List Pair) (branch : Pair) → IsWritten level words items branch → 6 ≤ length items → AreShaped level words items
     → IsNode level 6 (words (child branch)) × IsBranch branch (pairs_at level words (child branch)) × AreShaped level words (items_of (words (child branch)))
 branch_above level words items branch written enough shaped =
@@ -225,7 +225,7 @@ module _ {S K : Type 0} (kept_of : S → K) (page_state_of : S → ℕ → PageS
       becomes_append level level xs (ys ++ zs) xs (us ++ zs) (pairs_below level (words_of old) xs) (ps ++ pairs_below level (words_of old) zs) old old new below
       (becomes_same level xs old front) back' rising
 
--- a clause about an error that always holds
+-- a clause about an error, if what it says always holds
 pub on_err : {T E P : Type 0} (r : Result T E) → P → OnErr r P
 on_err (Ok x) p = tt
 on_err (Err e) p = p

@@ -1,4 +1,4 @@
--- Counts the pages that a write holds.
+-- Counting the pages that a write holds.
 use Rattle.std.proofs.Common.{◌≡◌, ◌≢◌, ℕ, zero, suc, ◌+◌, ◌<◌, ◌≤◌, ◌==◌, List, [], ◌∷◌, length, IsTrue, true, false, Bool, refl, ap, inl, inr, arith, cond}
 use Rattle.std.proofs.lemmas.Bool.{cases_eq}
 use Rattle.std.proofs.lemmas.Bool.Decides.{nat_tests}
@@ -27,7 +27,7 @@ takes_within a b s t le takes n = omega (arith, le, takes n)
 pub fewer_within : (a b : ℕ) (s t : ℕ → PageState) → a ≤ b → TakesFewer a s t → TakesFewer b s t
 fewer_within a b s t le takes n = omega (arith, le, takes n)
 
--- how often the first n pages are among some pages
+-- how often the first n pages occur among some pages
 all_times : ℕ → List ℕ → ℕ
 all_times zero ps = 0
 all_times (suc n) ps = times n ps + all_times n ps
@@ -72,7 +72,7 @@ all_times_size : (n : ℕ) (ps : List ℕ) → all_times n ps ≤ length ps
 all_times_size n [] = omega (arith, none_of_none n)
 all_times_size n (p ∷ ps) = omega (arith, all_times_cons n p ps, one_hit n p, all_times_size n ps)
 
--- if newly held pages are all among these, there are at most as many of them
+-- if all newly held pages are among these, there are no more of them than of these
 by_pages : (n : ℕ) (old new : ℕ → PageState) (ps : List ℕ) → ((q : ℕ) → one_of (is_taken (new q)) ≤ one_of (is_taken (old q)) + times q ps) → in_hand n new ≤ in_hand n old + all_times n ps
 unfolding all_times
 by_pages zero old new ps each = omega arith
@@ -96,7 +96,7 @@ takes_one s t page same = takes_by s t (page ∷ []) (λ q. elim (cases_eq q pag
     at_most_one true = omega arith
     at_most_one false = omega arith
 
--- a page that was given up isn't held any more
+-- a page that was given up is no longer held
 given_up : (x : PageState) → is_taken (after_give_up x) ≡ false
 given_up Free = refl
 given_up Old = refl
@@ -110,7 +110,7 @@ takes_given_up s t page states = takes_by s t [] (λ q. elim (cases_eq q page) [
   | inr ne ↦ omega (arith, ap (λ x. one_of (is_taken x)) (other_states s t page (after_give_up (s page)) states q ne))
 ])
 
--- there are at most as many held pages as pages that they are among
+-- the held pages are no more than the pages that they are among
 in_bits : (b : Bool) (n : ℕ) → (IsTrue b → 0 < n) → one_of b ≤ n
 in_bits true n h = h refl
 in_bits false n h = omega arith

@@ -1,4 +1,4 @@
--- A path down has a step for each level.
+-- A path from the root to a leaf has a step for each level.
 use Rattle.std.proofs.Common.{◌≡◌, ℕ, zero, suc, ◌+◌, ◌-◌, List, [], ◌∷◌, length, ap, subst, arith}
 use Rattle.be_pages.specs.declared.room.PageState.{PageState}
 use Rattle.be_tree.specs.declared.path.Path.{Path}

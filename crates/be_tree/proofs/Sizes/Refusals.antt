@@ -8,7 +8,7 @@ use Rattle.be_tree.specs.Writing.{Refuses}
 use Rattle.be_tree_reading.proofs.Frame.{start_trans, unchanged_start}
 use Rattle.be_tree.proofs.Sizes.InHand.{fewer_within, takes_fewer_then, takes_same, takes_swaps, takes_then, takes_within}
 
--- a call that has taken fewer pages may return either way
+-- a call that has taken fewer pages may return either result
 pub takes_on : {A : Type 0} (most : ℕ) (r : Result A Refusal) (s t : ℕ → PageState) → TakesFewer most s t → Takes most r s t
 takes_on most (Ok x) s t fewer = (λ n. omega (arith, fewer n), tt)
 takes_on most (Err e) s t fewer = (tt, fewer)

@@ -34,14 +34,14 @@ root_some : (level : ℕ) → 1 ≤ minimum_of_root level
 root_some zero = omega arith
 root_some (suc level) = omega arith
 
--- a tree has at most one page for each five of its pairs, and one for the remaining pairs
+-- a tree has at most one page per five of its pairs, and one for the remainder
 pub tree_size : (page_state : ℕ → PageState) (words : ℕ → ℕ → ℕ) (root : ℕ) → IsTree page_state words root → 5 * length (pages words root) ≤ length (pairs words root) + 4
 tree_size page_state words zero tree = omega arith
 tree_size page_state words (suc page) tree =
     let level = level_of (words page) in
     omega (arith, below_sizes level words (items_of (words page)) tree.below.shaped, tree.node.enough, root_some level)
 
--- several trees, each with remaining pairs
+-- several trees, each with a remainder
 pub forest_size : (page_state : ℕ → PageState) (words : ℕ → ℕ → ℕ) (roots : List ℕ) → All (IsTree page_state words) roots
     → 5 * length (pages_of words roots) ≤ length (pairs_of_all words roots) + 4 * length roots
 forest_size page_state words [] trees = omega arith

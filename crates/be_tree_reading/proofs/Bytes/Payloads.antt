@@ -1,11 +1,11 @@
--- Parts of a payload, read from the word where they begin.
+-- Parts of a payload, read from the words where they begin.
 use Rattle.std.proofs.Common.{◌≡◌, ℕ, ◌+◌, ◌*◌, ◌/◌, ◌%◌, ◌-◌, ◌<◌, ◌≤◌, take, drop, get_or, ap, sym, ◌∙◌, arith}
 use Rattle.std.specs.Int.{to_be_bytes, w64}
 use Rattle.std.proofs.lemmas.List.{drop-drop, drop-take, get_or-drop, get_or-take}
 use Rattle.be_tree_reading.specs.Page.{bytes_at, item_at, key_len, payload_len}
 use Rattle.be_tree_reading.proofs.Codec.{bytes_at_later, bytes_at_prefix, word_bytes}
 
--- the bytes from a place on
+-- the bytes from an index on
 pub payload_rest : (w : ℕ → ℕ) (at from : ℕ) → from ≤ payload_len w at
     → drop from (item_at w at).payload ≡ drop ((key_len w at + from) % 8) (bytes_at w (at + 1 + (key_len w at + from) / 8) ((key_len w at + from) % 8 + (payload_len w at - from)))
 unfolding item_at
@@ -23,7 +23,7 @@ payload_rest w at from le =
     ∙ sym (drop-drop r (8 * i) (bytes_at w (at + 1) (8 * i + (r + (p - from)))))
     ∙ ap (drop r) (bytes_at_later w (at + 1) i (r + (p - from)))
 
--- some bytes from a place on
+-- some bytes from an index on
 pub payload_part : (w : ℕ → ℕ) (at from n : ℕ) → from + n ≤ payload_len w at
     → take n (drop from (item_at w at).payload) ≡ drop ((key_len w at + from) % 8) (bytes_at w (at + 1 + (key_len w at + from) / 8) ((key_len w at + from) % 8 + n))
 payload_part w at from n le =

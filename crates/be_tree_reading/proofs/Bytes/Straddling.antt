@@ -91,7 +91,7 @@ module _ (x y s t : ℕ) (e : s + t ≡ 8) (ly : y < 2 ^ 64) where
       let low : x % 256 ^ t < 256 ^ t = omega (arith, some) in
       subst (λ (n : ℕ). x % 256 ^ t * 256 ^ s + y / 256 ^ t < n) whole (mul-add-lt (x % 256 ^ t) (256 ^ s) (y / 256 ^ t) (256 ^ t) low second_fits)
 
-  -- shifted within a word, the first loses its highest bytes
+  -- when shifted within a word, the first loses its highest bytes
   pub shifted : x * 256 ^ s % 2 ^ 64 ≡ x % 256 ^ t * 256 ^ s
   shifted =
       let p = 256 ^ t in
@@ -138,7 +138,7 @@ module _ (x y r : ℕ) (lt : r < 8) (ly : y < 2 ^ 64) where
   pub straddled_is : take 8 (drop r (to_be_bytes w64 x ++ to_be_bytes w64 y)) ≡ to_be_bytes w64 (x * 2 ^ (8 * r) % 2 ^ 64 + y / 2 ^ (64 - 8 * r))
   straddled_is = two_words x y r (8 - r) in_eight ly ∙ ap (to_be_bytes w64) in_bits
 
--- and as the code reads it
+-- as the code reads it
 pub straddling_bytes : (w : ℕ → ℕ) (from r : ℕ) → 0 < r → r < 8 → w (from + 1) < 2 ^ 64
     → drop r (bytes_at w from (r + 8)) ≡ to_be_bytes w64 (w from * 2 ^ (8 * r) % 2 ^ 64 + w (from + 1) / 2 ^ (64 - 8 * r))
 straddling_bytes w from r some lt small =
@@ -199,7 +199,7 @@ four_of_one w from r le =
     ∙ from_be_bytes-to_be_bytes_4 (y % 2 ^ 32) fits
     ∙ ap (λ (n : ℕ). n % 2 ^ 32) shift
 
--- a range without its first places
+-- a range without its first indices
 drop_map_range : (f : ℕ → ℕ) (a s n : ℕ) → drop s (map f (range_with_len a (s + n))) ≡ map f (range_with_len (a + s) n)
 drop_map_range f a s n =
     let front = map f (range_with_len a s) in

@@ -1,4 +1,4 @@
--- Bytes are ordered as their big-endian words are.
+-- Bytes have the same order as their big-endian words.
 use Rattle.std.proofs.Common.{◌≡◌, ℕ, zero, suc, ◌+◌, ◌-◌, ◌*◌, ◌/◌, ◌%◌, ◌^◌, ◌<◌, ◌≤◌, ◌⊎◌, List, [], ◌∷◌, ◌++◌, length, map, take, drop, get_or, ap, sym, subst, ◌∙◌, refl, inl, inr, arith, zero-add, drop-cons, pow-add}
 use Rattle.std.specs.declared.cmp.Ordering.{Ordering}
 use Rattle.std.specs.declared.cmp.Ordering.TheVariants.{Less, Equal, Greater}
@@ -75,7 +75,7 @@ bytes_cmp i (suc r) (suc k) a b x y e high =
     div_same : (a b : ℕ) → a < 2 ^ 64 → b < 2 ^ 64 → a / 256 ^ 8 ≡ b / 256 ^ 8
     div_same a b la lb = omega (arith, la, lb)
 
--- the first bytes of words, compared by the words without the other bytes
+-- the first bytes of words, compared by comparing the words without the other bytes
 pub part_cmp : (r a b : ℕ) (x y : List ℕ) → r ≤ 8 → a < 2 ^ 64 → b < 2 ^ 64
     → slice_cmp nat_cmp (take r (to_be_bytes w64 a) ++ x) (take r (to_be_bytes w64 b) ++ y) ≡ ordering_then (nat_cmp (a / 256 ^ (8 - r)) (b / 256 ^ (8 - r))) (slice_cmp nat_cmp x y)
 part_cmp r a b x y le la lb = bytes_cmp (8 - r) r 8 a b x y (omega (arith, le)) (div_same a b la lb)
@@ -83,7 +83,7 @@ part_cmp r a b x y le la lb = bytes_cmp (8 - r) r 8 a b x y (omega (arith, le)) 
     div_same : (a b : ℕ) → a < 2 ^ 64 → b < 2 ^ 64 → a / 256 ^ 8 ≡ b / 256 ^ 8
     div_same a b la lb = omega (arith, la, lb)
 
--- the bytes at eight places of a list
+-- the bytes at eight indices of a list
 take_drop_range : (bs : List ℕ) (a r : ℕ) → a + r ≤ length bs → take r (drop a bs) ≡ map (λ k. get_or bs k 0) (range_with_len a r)
 take_drop_range bs a zero le = refl
 take_drop_range bs a (suc r) le =
@@ -111,7 +111,7 @@ item_chunk words at n i (suc r) le in_range =
     ∙ ap (λ (j : ℕ). take (suc r) (drop j (front ++ word))) len
     ∙ ap (take (suc r)) (drop-append_seam front word)
 
--- keys whose next bytes are two words' bytes
+-- keys whose next bytes are the bytes of two words
 pub cmp_part : (xs ys : List ℕ) (c d r a b : ℕ) → c + r ≡ d → r ≤ 8 → a < 2 ^ 64 → b < 2 ^ 64 → take r (drop c xs) ≡ take r (to_be_bytes w64 a) → take r (drop c ys) ≡ take r (to_be_bytes w64 b)
     → key_cmp (drop c xs) (drop c ys) ≡ ordering_then (nat_cmp (a / 256 ^ (8 - r)) (b / 256 ^ (8 - r))) (key_cmp (drop d xs) (drop d ys))
 unfolding key_cmp
@@ -173,14 +173,14 @@ cmp_end (x ∷ xs) (y ∷ ys) (suc c) lx ly h = cmp_end xs ys c (omega (arith, l
     less (inl e) = inl (omega (arith, e))
     less (inr e) = inr (omega (arith, e))
 
--- powers of bytes, as powers of bits
+-- powers of 256 as powers of 2
 pub pow256 : (m : ℕ) → 256 ^ m ≡ 2 ^ (8 * m)
 pow256 zero = refl
 pow256 (suc m) =
     let e : 8 * suc m ≡ 8 * m + 8 = omega arith in
     pow-suc 256 m ∙ ap (λ (n : ℕ). n * 256) (pow256 m) ∙ sym (ap (λ (n : ℕ). 2 ^ n) e ∙ pow-add 2 (8 * m) 8)
 
--- a shift by bytes
+-- a shift by whole bytes
 pub byte_shift : (a r : ℕ) → r ≤ 8 → a / 256 ^ (8 - r) ≡ a / 2 ^ (64 - 8 * r)
 byte_shift a r le =
     let e : 8 * (8 - r) ≡ 64 - 8 * r = omega (arith, le) in
@@ -190,7 +190,7 @@ pub item_key_length : (w : ℕ → ℕ) (at : ℕ) → length (item_at w at).key
 item_key_length w at =
     ap length (key_at w at) ∙ length-take-le (key_len w at) (flat_map (to_be_bytes w64) (map (λ i. w (at + 1 + i)) (range_with_len 0 (words_for (key_len w at))))) (omega (arith, flat_map_length (λ i. w (at + 1 + i)) (words_for (key_len w at))))
 
--- an item's key and a key, compared by words that have their bytes
+-- an item's key and a key, compared by words that hold their bytes
 module _ (w : ℕ → ℕ) (at : ℕ) (k : List ℕ) where
   mine_is : (i r : ℕ) → r ≤ 8 → 8 * i + r ≤ key_len w at → take r (drop (8 * i) (item_at w at).key) ≡ take r (to_be_bytes w64 (w (at + 1 + i)))
   mine_is i r le in_range = ap (λ xs. take r (drop (8 * i) xs)) (key_at w at) ∙ item_chunk w (at + 1) (key_len w at) i r le in_range
@@ -222,7 +222,7 @@ module _ (w : ℕ → ℕ) (at : ℕ) (k : List ℕ) where
       either (inl e) = inl (e ∙ sym (item_key_length w at))
       either (inr e) = inr e
 
-  -- if both begin with the same word, the bytes after those that both have in it decide
+  -- if both begin with the same word, the bytes after those that both have in that word decide
   pub beyond_first : (r first : ℕ) → first ≡ w (at + 1) → first < 2 ^ 64 → to_be_bytes w64 first ≡ map (λ j. get_or k j 0) (range_with_len 0 8) → r ≤ 8 → r ≤ key_len w at → r ≤ length k
       → key_cmp (item_at w at).key k ≡ key_cmp (drop r (item_at w at).key) (drop r k)
   beyond_first r first same small bytes le lm lo =

@@ -1,4 +1,4 @@
--- A pair is put below a page.
+-- Putting a pair below a page.
 use Rattle.std.proofs.Common.{◌≡◌, ℕ, zero, suc, ◌-◌, ◌<◌, ◌≤◌, List, [], ◌∷◌, ◌++◌, length, get_or, take, drop, IsTrue, ap, sym, subst, ◌∙◌, refl, inl, inr, arith}
 use mathlib.Core.Bool.{false≢true}
 use Rattle.std.specs.List.{flat_map, remove}
@@ -16,7 +16,7 @@ use Rattle.be_tree_reading.proofs.Order.{key_exact, key_cmp_flip_less, AllAbove_
 use Rattle.be_tree_reading.proofs.Frame.{times_append, times-cons, times_other, same_page, swaps_fresh, swaps_trans, swaps_stays, swaps_with, readable_kept}
 use Rattle.be_tree_reading.proofs.TreeFacts.{in_three, IsSplit, put_split, inner_split, leaf_split, as_branches, branch_tree}
 
--- a put keeps the order
+-- a put preserves the order
 above_put : (k : List ℕ) (pair : Pair) (xs : List Pair) → key_cmp pair.key k ≡ Greater → AllAbove k xs → AllAbove k (put pair xs)
 above_put k pair [] gt above = (gt, tt)
 above_put k pair (x ∷ xs) gt above =
@@ -159,7 +159,7 @@ module _ {S K : Type 0} (kept_of : S → K) (page_state_of : S → ℕ → PageS
       held Taken used = refl
       held Filled used = refl
 
-  -- and is still in use
+  -- and it is still in use
   pub kept_after : (before after : List ℕ) (page : ℕ) (old new : S) → Swaps kept_of page_state_of words_of before after old new → times page before ≡ 0 → IsTrue (is_kept (page_state_of old page)) → IsTrue (is_kept (page_state_of new page))
   kept_after before after page old new swaps none used = subst (λ s. IsTrue (is_kept s)) (sym (swaps_stays kept_of page_state_of words_of before after old new swaps page none (readable_kept _ used))) used
 
@@ -233,7 +233,7 @@ module _ {S K : Type 0} (kept_of : S → K) (page_state_of : S → ℕ → PageS
       (subst (λ s. IsTreeAt below 6 s (words_of read) (child item)) (sym same.page_state)
       (subst (λ w. IsTreeAt below 6 (page_state_of old) w (child item)) (sym same.words) (branch_child level below (page_state_of old) (words_of old) item e h)))
 
-  -- a page's items change, and are then written in its place
+  -- a page's items change and are then written in its place
   pub becomes_over : (before : List ℕ) (all : List Pair) (level next page : ℕ) (xs us : List Pair) (old mid new : S) → Becomes kept_of page_state_of words_of before all level xs old mid
       → times page before ≡ 0 → ((q : ℕ) → times q before ≤ 1) → IsTrue (is_kept (page_state_of old page))
       → Becomes kept_of page_state_of words_of (page ∷ pages_below level (words_of mid) xs) (pairs_below level (words_of mid) xs) next us mid new

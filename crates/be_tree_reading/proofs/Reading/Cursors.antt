@@ -136,6 +136,6 @@ from_branch level below page_state words least page k r at after e tree some ran
         ∙ ap (λ (x : Pair). pairs_from (pairs_at below words (child x)) k after ++ pairs_below (suc below) words (drop (suc (r - 1)) items)) is
         ∙ ap (λ i. pairs_from (pairs_at below words (child branch)) k after ++ pairs_below (suc below) words (drop i items)) past
 
--- a tree's pairs, from its root's page
+-- a tree's pairs, starting from its root's page
 pub root_pairs : (root page level : ℕ) (words : ℕ → ℕ → ℕ) → root ≡ suc page → level ≡ level_of (words page) → pairs words root ≡ pairs_at level words page
 root_pairs root page level words e at = ap (pairs words) e ∙ ap (λ l. pairs_at l words page) (sym at)

@@ -27,7 +27,7 @@ last_bytes w at long =
     ∙ ap (drop r) (bytes_at_later w (at + 1) i (r + 8))
     ∙ ap (λ (n : ℕ). drop r (bytes_at w n (r + 8))) from
 
--- what the pairs from the first one on give
+-- what the pairs from the first one on contribute
 in_bound : (x : Pair) (xs : List Pair) (high : Option (List ℕ)) → is_past high x.key ≡ false → numbers_to (x ∷ xs) high ≡ number_of x.key ∷ numbers_to xs high
 in_bound x xs high h = ap (λ b. map (λ (y : Pair). number_of y.key) (if b then [] else x ∷ pairs_to xs high)) h
 

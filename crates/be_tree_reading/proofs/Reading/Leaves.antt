@@ -97,7 +97,7 @@ to_append (x ∷ xs) ys high = by (is_past high x.key) (to_append xs ys high)
     by true rest = refl
     by false rest = ap (λ ns. number_of x.key ∷ ns) rest
 
--- the first numbers of one part are the first of both
+-- the first numbers of one part are the first of both together
 pub first_of_two : (mid now : List ℕ) (xs ys : List Pair) (high : Option (List ℕ)) → HasFirst mid (numbers_to xs high) now → HasFirst mid (numbers_to (xs ++ ys) high) now
 first_of_two mid now xs ys high first =
     let more = if any_past high xs then [] else numbers_to ys high in

@@ -37,7 +37,7 @@ module _ (level below : ℕ) (page_state : ℕ → PageState) (words : ℕ → �
       let lead = leads_down level below page_state words least page next e tree lt in
       subst (StartsAt branch.key) (sym lead.parts) (starts_append branch.key (pairs_at below words (child branch)) (pairs_below level words (drop (next + 1) items)) starts)
 
-  -- the branch after the one taken
+  -- the branch after the one that was taken
   pub next_here : (rest : List Pair) → level ≡ suc below → IsTreeAt level least page_state words page → next < words page 1
       → IsNext page_state words page (item_place next) (pairs_below level words (drop next (items_of (words page))) ++ rest)
   next_here rest e tree lt = record {
@@ -48,13 +48,13 @@ module _ (level below : ℕ) (page_state : ℕ → PageState) (words : ℕ → �
     readable = λ _. readable_kept (page_state page) tree.page_in_use;
   }
 
-  -- no branch is after it on this page
+  -- no branch comes after it on this page
   pub next_above : (rest : List Pair) (q place : ℕ) → words page 1 ≤ next → IsNext page_state words q place rest
       → IsNext page_state words q place (pairs_below level words (drop next (items_of (words page))) ++ rest)
   next_above rest q place end is =
       subst (IsNext page_state words q place) (sym (ap (λ xs. xs ++ rest) (past_end words (record { page = page; next = next; level = level }) (omega (arith, end, items_count (words page)))))) is
 
--- if the first key is above the bound, none is within it
+-- if the first key is above the bound, no key is within it
 pub none_within : (k : List ℕ) (rest : List Pair) (high : Option (List ℕ)) → StartsAt k rest → is_past high k ≡ true → numbers_to rest high ≡ []
 none_within k [] high starts past = absurd starts
 none_within k (x ∷ xs) high same past =

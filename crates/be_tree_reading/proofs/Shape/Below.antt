@@ -1,4 +1,4 @@
--- What is below a node's items, in parts and while other pages change.
+-- What is below a node's items, part by part and while other pages change.
 use Rattle.std.proofs.Common.{◌≡◌, ℕ, zero, suc, ◌+◌, ◌<◌, ◌≤◌, List, [], ◌∷◌, ◌++◌, length, get_or, All, IsTrue, ap, sym, subst, ◌∙◌, refl, arith}
 use mathlib.Core.Bool.{false≢true}
 use Rattle.std.specs.List.{flat_map}
@@ -27,7 +27,7 @@ pages_append (suc level) words xs ys = flat_map-append (λ b. child b ∷ pages_
 pub times_pages : (level : ℕ) (words : ℕ → ℕ → ℕ) (xs ys : List Pair) (q : ℕ) → times q (pages_below level words (xs ++ ys)) ≡ times q (pages_below level words xs) + times q (pages_below level words ys)
 times_pages level words xs ys q = ap (times q) (pages_append level words xs ys) ∙ times_append q (pages_below level words xs) (pages_below level words ys)
 
--- how often a page is among those of two branches
+-- how many times a page occurs among those of two branches
 pub times_both : (level : ℕ) (words : ℕ → ℕ → ℕ) (left right : Pair) (q : ℕ) → times q (pages_below (suc level) words (left ∷ right ∷ []))
     ≡ times q (child left ∷ child right ∷ []) + times q (pages_below level words (items_of (words (child left)) ++ items_of (words (child right))))
 times_both level words left right q =
@@ -44,7 +44,7 @@ times_both level words left right q =
       times_pages level words (items_of (words (child left))) (items_of (words (child right))) q,
     )
 
--- what holds for all of a list holds for all of a part
+-- what holds for all of a list holds for each part of it
 pub all_left : {A : Type 0} (P : A → Type 0) (xs ys : List A) → All P (xs ++ ys) → All P xs
 all_left P xs ys all i d lt = subst P (get_or_append_left xs ys d i lt) (all i d (omega (arith, length-append xs ys, lt)))
 
@@ -167,7 +167,7 @@ module _ {S K : Type 0} (kept_of : S → K) (page_state_of : S → ℕ → PageS
         subst (λ s. IsTrue (is_kept s)) (sym (swaps_stays kept_of page_state_of words_of before after old new swaps q (omega (arith, apart q, was)) (readable_kept (page_state_of old q) (below.in_use q was)))) (below.in_use q was);
   }
 
-  -- the pages that newly come into use aren't among the part's
+  -- the pages that come into use aren't among the part's
   pub beside_apart : (q : ℕ) → times q after ≤ 1 → times q after + times q (pages_below level (words_of old) items) ≤ 1
   beside_apart q once = split (times q (pages_below level (words_of old) items)) (times q after) refl refl
     where

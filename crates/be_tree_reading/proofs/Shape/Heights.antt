@@ -11,7 +11,7 @@ use Rattle.be_tree_reading.specs.Tree.{child, pages_at, pages_below, AreShaped, 
 use Rattle.be_tree_reading.proofs.Frame.{times-cons, times_other, same_page}
 use Rattle.be_tree_reading.proofs.Shape.Levels.{pigeonhole, tree_in_use, kept_not_free}
 
--- the smallest number of pages at and below a node with six items
+-- the minimum number of pages at and below a node with six items
 abbrev minimum_pages : ℕ → ℕ
 minimum_pages zero = 1
 minimum_pages (suc level) = 6 * minimum_pages level
@@ -46,7 +46,7 @@ tall (suc level) le = elim (cases_lt level 13) [
   | inr ge ↦ let below = tall level ge in omega (arith, below)
 ]
 
--- each page of a tree is there only once
+-- each page of a tree occurs in it only once
 pub once_at : (level least : ℕ) (page_state : ℕ → PageState) (words : ℕ → ℕ → ℕ) (page : ℕ) → IsTreeAt level least page_state words page → (q : ℕ) → times q (pages_at level words page) ≤ 1
 once_at level least page_state words page tree q = elim (cases_eq q page) [
   | inl e ↦ subst (λ p. times p (pages_at level words page) ≤ 1) (sym e) (omega (arith, times-cons page page (pages_below level words (items_of (words page))), same_page page, tree.page_once))

@@ -1,4 +1,4 @@
--- A node that is written as a tree's root.
+-- A node written as a tree's root.
 use Rattle.std.proofs.Common.{◌≡◌, ℕ, zero, suc, ◌+◌, ◌≤◌, List, [], ◌∷◌, ◌++◌, length, IsTrue, ap, sym, subst, ◌∙◌, inl, inr, arith, cond, ◌==◌, if◌then◌else◌}
 use Rattle.be_pages.specs.declared.room.PageState.{PageState}
 use Rattle.std.proofs.lemmas.Bool.{cases_eq}
@@ -53,7 +53,7 @@ module _ {S K : Type 0} (kept_of : S → K) (page_state_of : S → ℕ → PageS
     swaps = swaps_trans kept_of page_state_of words_of before (pages_below level (words_of mid) xs) (pages (words_of new) root) old mid new first.swaps last.swaps;
   }
 
-  -- the items of a root's page change, and are then written in its place
+  -- the items of a root's page change and are then written in its place
   pub tree_over : (before : List ℕ) (all : List Pair) (level page : ℕ) (xs : List Pair) (root : ℕ) (old mid new : S) → Becomes kept_of page_state_of words_of before all level xs old mid
       → times page before ≡ 0 → ((q : ℕ) → times q before ≤ 1) → IsTrue (is_kept (page_state_of old page))
       → BecomesTree kept_of page_state_of words_of (page ∷ pages_below level (words_of mid) xs) (pairs_below level (words_of mid) xs) root mid new
@@ -75,7 +75,7 @@ root_some zero = omega arith
 root_some (suc level) = omega arith
 
 module _ {S K : Type 0} (kept_of : S → K) (page_state_of : S → ℕ → PageState) (words_of : S → ℕ → ℕ → ℕ) where
-  -- a tree stays well formed when a page that isn't its own is given up
+  -- a tree remains well formed when a page that isn't its own is given up
   below_given_up : (level : ℕ) (items : List Pair) (page : ℕ) (mid new : S) → IsBelow level (page_state_of mid) (words_of mid) items → times page (pages_below level (words_of mid) items) ≡ 0
       → words_of new ≡ words_of mid → ((q : ℕ) → (q ≡ page → ⊥) → page_state_of new q ≡ page_state_of mid q) → IsBelow level (page_state_of new) (words_of new) items
   below_given_up level items page mid new below none words others =

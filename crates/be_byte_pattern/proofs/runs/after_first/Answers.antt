@@ -4,7 +4,7 @@ use Rattle.be_byte_pattern.proofs.LiteralRuns.{first_serves, nothing_sought, one
 use Rattle.be_byte_pattern.proofs.runs.after_first.Goals as goal
 use Rattle.be_byte_pattern.proofs.runs.after_first.Goals.{After-place_of-at}
 
--- the places that one step has skipped
+-- the positions that one step has skipped
 passed : (c : After-place_of-at) (ps : List Part) → some_tail (matches (map Only c.args.run.now ++ ps)) (drop c.place_of-at.result c.places.rest.now) ≡ some_tail (matches (map Only c.args.run.now ++ ps)) c.places.rest.now
 passed c ps =
     let e : c.args.run.now ≡ c.in-Some.first.now ∷ c.in-Some.others.now = search rules in

@@ -8,7 +8,7 @@ use Rattle.be_paged_reading.specs.Version.{Encodes}
 use Rattle.be_paged.specs.Stops.{Gains}
 use Rattle.be_paged.proofs.edits.unset_all.Given as goal
 
--- each turn has removed one attribute
+-- each iteration has removed one attribute
 abbrev pub invariant-loop : goal.invariant-loop
 invariant-loop g l = record {
   changes : Changes g.R.Look.kept g.R.Look.page_state g.R.Look.words (contents l.initial.version) (contents l.version) l.initial.room l.room;

@@ -4,7 +4,7 @@ use Rattle.be_tree_reading.specs.Cursor.{IsCursor, remaining}
 use Rattle.be_paged_reading.specs.Reading.{front_of_node}
 use Rattle.be_paged_reading.proofs.attributes.count_rest.Given as goal
 
--- the cursor has passed `count` of the node's pairs
+-- The cursor has passed `count` of the node's pairs.
 abbrev pub invariant-loop-count : goal.invariant-loop-count
 invariant-loop-count g l = record {
   cursor : IsCursor (g.L.Look.page_state l.look) (g.L.Look.words l.look) l.cursor;

@@ -10,7 +10,7 @@ use Rattle.be_paged_reading.specs.Catalog.{IsCatalog}
 use Rattle.be_paged_reading.specs.Reading.{AreValid, front_of_node}
 use Rattle.be_paged_reading.proofs.attributes.list_attributes.Given as goal
 
--- the cursor has passed as many of the node's pairs as there are attributes in the list
+-- The cursor has passed one pair of the node for each attribute in the list.
 abbrev pub invariant-loop : goal.invariant-loop
 invariant-loop g l = record {
   cursor : IsCursor (g.L.Look.page_state l.look) (g.L.Look.words l.look) l.cursor;

@@ -8,7 +8,7 @@ use Rattle.be_paged_reading.specs.Reading.{attribute_pair}
 use Rattle.be_paged_reading.proofs.Asking.Walks.{some_same, none_some}
 use Rattle.be_paged_reading.proofs.attributes.next_name.Goals as goal
 
--- the key of the pair that the walk meets
+-- The key of the pair that the walk visits.
 same_key : (words now : ℕ → ℕ → ℕ) (page at node : ℕ) (name : List ℕ) (value : Value) (first : Option Pair) → now ≡ words → first ≡ Some (item_at (words page) at) → first ≡ Some (attribute_pair node (name, value))
     → (item_at (now page) at).key ≡ catalog_key node name
 same_key words now page at node name value first same met is =

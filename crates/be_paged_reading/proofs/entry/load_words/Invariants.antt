@@ -2,7 +2,7 @@ use Rattle.std.proofs.Common.{◌≡◌, ℕ, ◌+◌, ◌<◌, length, slice_in
 use Rattle.be_pages.specs.Pages.{IsUnchanged}
 use Rattle.be_paged_reading.proofs.entry.load_words.Given as goal
 
--- the words read so far
+-- The words read so far.
 abbrev pub invariant-loop-j : goal.invariant-loop-j
 invariant-loop-j g l = record {
   len : length l.words ≡ 8;

@@ -2,7 +2,7 @@ use Rattle.std.proofs.Common.{◌≡◌, ℕ, ◌+◌, ◌<◌, slice_index}
 use Rattle.be_pages.specs.Pages.{OnlyWrites}
 use Rattle.be_paged_reading.proofs.entry.store_words.Given as goal
 
--- the words written so far
+-- The words written so far.
 abbrev pub invariant-loop-j : goal.invariant-loop-j
 invariant-loop-j g l = record {
   stored : (k : ℕ) → k < l.j → g.R.Look.words l.room l.page (l.at + k) ≡ slice_index l.words k;

@@ -7,7 +7,7 @@ use Rattle.be_tree_reading.specs.Tree.{pairs}
 use Rattle.be_paged_reading.specs.Nodes.{marked}
 use Rattle.be_paged_reading.proofs.marks.list_nodes.Given as goal
 
--- the nodes listed so far, and those that the cursor still has ahead
+-- The nodes listed so far, and those that are still ahead of the cursor.
 abbrev pub invariant-loop : goal.invariant-loop
 invariant-loop g l = record {
   cursor : IsCursor (g.L.Look.page_state l.look) (g.L.Look.words l.look) l.cursor;

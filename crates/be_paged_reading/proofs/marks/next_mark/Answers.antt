@@ -12,7 +12,7 @@ use Rattle.be_paged_reading.proofs.marks.next_mark.Given.{Over}
 use Rattle.be_paged_reading.proofs.marks.next_mark.Goals as goal
 use Rattle.be_paged_reading.proofs.marks.next_mark.Goals.{After-step}
 
--- what the step leaves ahead, by the words at the call
+-- What the step leaves ahead, in terms of the words at the call.
 left : (g : Over) (c : After-step g) → remaining (g.L.Look.words c.args.look.now) c.step.new.self ≡ drop 1 (remaining (g.L.Look.words c.args.look.now) c.steps.cursor)
 left g c = subst (λ (w : ℕ → ℕ → ℕ). remaining w c.step.new.self ≡ drop 1 (remaining w c.steps.cursor)) c.steps.invariant.unchanged.words c.step.ensures.remaining
 

@@ -4,7 +4,7 @@ use Rattle.be_tree_reading.specs.Cursor.{IsCursor, remaining}
 use Rattle.be_paged_reading.specs.Nodes.{marked}
 use Rattle.be_paged_reading.proofs.marks.next_mark.Given as goal
 
--- the cursor has passed no mark
+-- The cursor has not passed a mark.
 abbrev pub invariant-steps : goal.invariant-steps
 invariant-steps g l = record {
   cursor : IsCursor (g.L.Look.page_state l.fn.look) (g.L.Look.words l.fn.look) l.cursor;

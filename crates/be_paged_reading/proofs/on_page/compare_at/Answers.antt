@@ -8,7 +8,7 @@ use Rattle.be_paged_reading.proofs.on_page.compare_at.Given.{Over}
 use Rattle.be_paged_reading.proofs.on_page.compare_at.Goals as goal
 use Rattle.be_paged_reading.proofs.on_page.compare_at.Goals.{After-word-mine, After-word_from-other}
 
--- the first word of the entry's name
+-- The first word of the entry's name.
 mine_is : (g : Over) (c : After-word-mine g) → to_be_bytes w64 c.word-mine.result ≡ padded (entry_at (g.L.Look.words c.args.look.now c.args.page) c.args.at).name (8 * 0) 8
 mine_is g c =
     let words = g.L.Look.words c.args.look.now c.args.page in
@@ -34,7 +34,7 @@ loop-j-init g c =
       unchanged = record { kept = c.word-mine.ensures.kept; page_state = c.word-mine.ensures.page_state; words = c.word-mine.ensures.words };
     }
 
--- one of its later words
+-- One of the later words of the entry's name.
 next_is : (g : Over) (c : After-word_from-other g) → to_be_bytes w64 c.word-next.result ≡ padded (entry_at (g.L.Look.words c.args.look.now c.args.page) c.args.at).name (8 * c.loop-j.j) 8
 next_is g c =
     let words = g.L.Look.words c.args.look.now c.args.page in

@@ -11,7 +11,7 @@ use Rattle.be_paged_reading.proofs.on_page.find_index.Given.{Over}
 use Rattle.be_paged_reading.proofs.on_page.find_index.Goals as goal
 use Rattle.be_paged_reading.proofs.on_page.find_index.Goals.{After-middle-at, After-compare_at}
 
--- the place is an index's
+-- There is an index at this position.
 in_range : (g : Over) (c : After-middle-at g) → c.middle-at.result < g.L.Look.words c.args.look.now c.args.page 1
 in_range g c = omega (arith, c.middle-at.ensures.1, c.halves.invariant.in_range)
 
@@ -40,7 +40,7 @@ pub compare_at-requires-clause-short : goal.compare_at-requires-clause-short
 compare_at-requires-clause-short g c =
     subst (λ (t : List ℕ). length t ≤ 63) (sym (c.as_bytes-text.ensures.value ∙ c.as_str.ensures.text)) (name_short c.args.name.now c.as_str.ensures.valid)
 
--- how the entry's name compares
+-- How the name of the entry compares.
 compared : (g : Over) (c : After-compare_at g) → name_cmp (entry_at (g.L.Look.words c.args.look.now c.args.page) (entry_place c.middle-at.result)).name c.args.name.now ≡ c.compare_at.result
 compared g c =
     let at = c.middle-at.result in
@@ -48,7 +48,7 @@ compared g c =
     ∙ ap (λ (h : ℕ → ℕ → ℕ). name_cmp (entry_at (h c.args.page) (entry_place at)).name c.as_bytes-text.result.now) c.halves.invariant.unchanged.words
     ∙ ap (name_cmp (entry_at (g.L.Look.words c.args.look.now c.args.page) (entry_place at)).name) (c.as_bytes-text.ensures.value ∙ c.as_str.ensures.text))
 
--- a comparison only reads
+-- A comparison only reads.
 same_since : (g : Over) (c : After-compare_at g) → IsUnchanged g.L.Look.kept g.L.Look.page_state g.L.Look.words c.args.look.now c.compare_at.new.look
 same_since g c =
     let known = c.halves.invariant.unchanged in

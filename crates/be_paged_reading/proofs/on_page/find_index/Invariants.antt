@@ -3,7 +3,7 @@ use Rattle.be_pages.specs.Pages.{IsUnchanged}
 use Rattle.be_paged_reading.proofs.Stored.PageIndices.{AreAbove, AreBelow}
 use Rattle.be_paged_reading.proofs.on_page.find_index.Given as goal
 
--- the names before `low` are lower, those from `high` on are higher
+-- The names before `low` are lower, and those from `high` on are higher.
 abbrev pub invariant-halves : goal.invariant-halves
 invariant-halves g l = record {
   below : AreBelow (g.L.Look.words l.fn.look l.page) l.name l.low;

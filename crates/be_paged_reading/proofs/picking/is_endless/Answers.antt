@@ -7,7 +7,7 @@ use Rattle.be_tree_reading.specs.Walk.{is_before_end}
 use Rattle.be_plan.proofs.Ways.{nat_is}
 use Rattle.be_paged_reading.proofs.picking.is_endless.Goals as goal
 
--- each key is at or after the empty key
+-- Every key is at or after the empty key.
 from_nothing : (low key : List ℕ) → (length low == 0) ≡ true → is_from low false key ≡ true
 unfolding key_cmp
 from_nothing [] [] e = refl

@@ -39,7 +39,7 @@ is_ahead-requires-clause-in_page g c = (here g (goal.at.is_ahead-requires-clause
 pub is_ahead-requires-clause-item : goal.is_ahead-requires-clause-item
 is_ahead-requires-clause-item g c = (here g (goal.at.is_ahead-requires-clause-item g c).After-place-at).readable.1.1
 
--- the item, after its comparison with the end of the way
+-- The item, after it was compared with the end of the way.
 compared : (g : Over) (c : After-is_ahead g) → IsPlaceAhead (g.L.Look.page_state c.is_ahead.new.look) (g.L.Look.words c.is_ahead.new.look) (g.L.Look.words c.args.look.now) c.args.leaf c.loop-i.i c.place-at.result
 compared g c =
     let i = c.loop-i.invariant in
@@ -47,7 +47,7 @@ compared g c =
     (c.is_ahead.ensures.unchanged.page_state ∙ i.unchanged.page_state) (c.is_ahead.ensures.unchanged.words ∙ i.unchanged.words) c.place-at.ensures c.requires.leaf
     (omega (arith, c.loop-i-test.true, c.count-ahead.ensures.count))
 
--- whether it is on the way
+-- Whether the item is on the way.
 reported : (g : Over) (c : After-is_ahead g) → c.is_ahead.result ≡ is_on_way c.args.way (get_or (items_ahead (g.L.Look.words c.args.look.now) c.args.leaf) c.loop-i.i none).key
 reported g c =
     c.is_ahead.ensures.within
@@ -86,7 +86,7 @@ loop-i-preserved g c =
           c.pick_item.ensures.unchanged;
     }
 
--- the list is full
+-- The list is full.
 pub returns-then-len-most-clause-ended : goal.returns-then-len-most-clause-ended
 returns-then-len-most-clause-ended g c = λ _ rest stays.
     let zs = items_ahead (g.L.Look.words c.args.look.now) c.args.leaf in
@@ -96,7 +96,7 @@ returns-then-len-most-clause-ended g c = λ _ rest stays.
 pub returns-then-len-most-clause-goes_on : goal.returns-then-len-most-clause-goes_on
 returns-then-len-most-clause-goes_on g c = λ e. absurd (cc e)
 
--- the way ends here
+-- The way ends here.
 pub returns-then-not-is_ahead-clause-ended : goal.returns-then-not-is_ahead-clause-ended
 returns-then-not-is_ahead-clause-ended g c = λ _ rest stays.
     let b = (goal.at.returns-then-not-is_ahead-clause-ended g c).After-is_ahead in
@@ -107,7 +107,7 @@ returns-then-not-is_ahead-clause-ended g c = λ _ rest stays.
 pub returns-then-not-is_ahead-clause-goes_on : goal.returns-then-not-is_ahead-clause-goes_on
 returns-then-not-is_ahead-clause-goes_on g c = λ e. absurd (cc e)
 
--- all items were tested
+-- All items have been tested.
 pub returns-clause-ended : goal.returns-clause-ended
 returns-clause-ended g c = λ e. absurd (cc e)
 

@@ -4,7 +4,7 @@ use Rattle.be_tree_reading.specs.Walk.{items_ahead}
 use Rattle.be_paged_reading.specs.KeyTests.{passing_on}
 use Rattle.be_paged_reading.proofs.picking.pick_ahead.Given as goal
 
--- the list has the nodes of the items before this one that pass
+-- The list contains the nodes of those items before this one that pass.
 abbrev pub invariant-loop-i : goal.invariant-loop-i
 invariant-loop-i g l = record {
   parts : l.fn.found.items ++ passing_on l.test l.way (items_ahead (g.L.Look.words l.fn.look) l.leaf)

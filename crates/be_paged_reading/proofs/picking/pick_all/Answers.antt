@@ -33,7 +33,7 @@ step_leaf-requires g c =
 read : (g : Over) (c : After-pick_ahead g) → g.L.Look.words c.step_leaf.new.look ≡ g.L.Look.words c.args.look.now
 read g c = c.step_leaf.ensures.unchanged.words ∙ c.leaves.invariant.unchanged.words
 
--- the leaf's items that the walk has ahead
+-- The items of the leaf that are ahead of the walk.
 abbrev here : (g : Over) (c : After-pick_ahead g) → List Pair
 here g c = items_ahead (g.L.Look.words c.args.look.now) c.in-Some.leaf
 
@@ -66,7 +66,7 @@ pick_ahead-requires-clause-fits g c = c.leaves.invariant.size
 pub pick_ahead-requires-clause-few : goal.pick_ahead-requires-clause-few
 pick_ahead-requires-clause-few g c = c.leaves.invariant.few
 
--- the walk ends in this leaf
+-- The walk ends in this leaf.
 pub returns-then-is_last-clause-found : goal.returns-then-is_last-clause-found
 returns-then-is_last-clause-found g c =
     let at = (goal.at.returns-then-is_last-clause-found g c).After-pick_ahead in
@@ -112,7 +112,7 @@ leaves-preserved g c =
           c.pick_ahead.ensures.unchanged;
     }
 
--- the walk has nothing ahead
+-- Nothing is ahead of the walk.
 pub returns-clause-found : goal.returns-clause-found
 returns-clause-found g c =
     let words = g.L.Look.words c.args.look.now in

@@ -4,7 +4,7 @@ use Rattle.be_tree_reading.specs.Walk.{IsWalk, StaysFalse, ahead, is_on_way}
 use Rattle.be_paged_reading.specs.KeyTests.{AreTestable, passing_on}
 use Rattle.be_paged_reading.proofs.picking.pick_all.Given as goal
 
--- the list has the nodes of the keys passed so far; the others are ahead
+-- The list contains the nodes of those visited keys that pass. All other keys are still ahead.
 abbrev pub invariant-leaves : goal.invariant-leaves
 invariant-leaves g l = record {
   walk : IsWalk (g.L.Look.page_state l.fn.look) (g.L.Look.words l.fn.look) l.walk;

@@ -26,7 +26,7 @@ returns-clause-answer g c = λ volume version.
     attributes_some volume c.args.node (sym there ∙ sym c.has_key.ensures.found ∙ c.if-not-has_key.false)
     ∙ ap Ok (sym (c.in_ok-list_attributes.ensures.list volume.nodes read (values_valid volume version.sound) (version.sound.few_attributes c.args.node)))
 
--- what always holds, holds if memory ran out
+-- What always holds also holds if memory ran out.
 where_wanted : {T P : Type 0} (r : Result T Refusal) → P → IfErr r (λ e. e ≡ OutOfMemory → P)
 where_wanted (Ok x) p = tt
 where_wanted (Err e) p = λ is. p

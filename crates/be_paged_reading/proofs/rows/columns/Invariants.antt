@@ -5,7 +5,7 @@ use Rattle.be_paged_reading.specs.Cells.{AreReported, IsFew, found_in, name_in}
 use Rattle.be_paged_reading.specs.Version.{IsVersion}
 use Rattle.be_paged_reading.proofs.rows.columns.Given as goal
 
--- what the nodes so far have at the names is written
+-- The values of the nodes so far have been written for all names.
 abbrev pub invariant-loop-node : goal.invariant-loop-node
 invariant-loop-node g l = record {
   reported : (volume : State) → IsVersion (g.L.Look.page_state l.fn.look) (g.L.Look.words l.fn.look) l.version_page volume

@@ -9,7 +9,7 @@ use Rattle.be_paged_reading.specs.declared.cells.Cell.{Cell}
 use Rattle.be_paged_reading.proofs.Reported.{Found}
 use Rattle.be_paged_reading.proofs.rows.report_row.Given as goal
 
--- what the node has at the names so far is written
+-- The values of the node have been written for the names so far.
 abbrev pub invariant-loop-name : goal.invariant-loop-name
 invariant-loop-name g l = record {
   row : GoesOn (g.L.Look.page_state l.look) (g.L.Look.words l.look) l.fn.row l.row;

@@ -16,7 +16,7 @@ pub number_at-number-requires-clause-long : goal.number_at-number-requires-claus
 number_at-number-requires-clause-long g c =
     subst (λ (w : ℕ → ℕ → ℕ). 8 ≤ length (item_at (w c.args.page) c.args.at).key) (sym c.put_text-length.ensures.unchanged.words) c.requires.is_text.long
 
--- the test's result is whether the key passes
+-- The result of the test is whether the key passes.
 reported : (g : Over) (c : After-passes-passes g) → c.passes-passes.result ≡ passes c.args.test.now.0 c.args.test.now.1 (item_at (g.L.Look.words c.args.look.now c.args.page) c.args.at).key
 reported g c =
     let key = (item_at (g.L.Look.words c.args.look.now c.args.page) c.args.at).key in

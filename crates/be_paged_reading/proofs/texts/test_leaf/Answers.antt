@@ -30,13 +30,13 @@ is_past_at-is_past-requires-clause-item g c =
 here : (g : Over) (c : After-is_past_at-is_past g) → c.loop-i.i < g.L.Look.words c.args.look.now c.args.leaf.0 1
 here g c = omega (arith, c.loop-i-test.true, c.word-count.ensures.value)
 
--- whether the item is above the bound
+-- Whether the item is above the bound.
 asked : (g : Over) (c : After-is_past_at-is_past g) → is_past (option_copied c.args.high) (item_at (g.L.Look.words c.args.look.now c.args.leaf.0) (2 + 42 * c.loop-i.i)).key ≡ c.is_past_at-is_past.result
 asked g c =
     sym (ap (λ (w : ℕ → ℕ → ℕ). is_past (option_copied c.args.high) (item_at (w c.args.leaf.0) (2 + 42 * c.loop-i.i)).key) c.loop-i.invariant.unchanged.words)
     ∙ sym c.is_past_at-is_past.ensures.past
 
--- the words are those at the call
+-- The words are those at the call.
 read : (g : Over) (c : After-is_past_at-is_past g) → g.L.Look.words c.is_past_at-is_past.new.look ≡ g.L.Look.words c.args.look.now
 read g c = c.is_past_at-is_past.ensures.unchanged.words ∙ c.loop-i.invariant.unchanged.words
 
@@ -77,7 +77,7 @@ loop-i-preserved g c =
           c.test_item.ensures.unchanged;
     }
 
--- the bound is in this leaf
+-- The bound is in this leaf.
 pub returns-then-is_past-clause-first : goal.returns-then-is_past-clause-first
 returns-then-is_past-clause-first g c = record {
   left = nodes_passing_to c.args.test.now.0 c.args.test.now.1 (drop c.loop-i.i (items_of (g.L.Look.words c.args.look.now c.args.leaf.0))) (option_copied c.args.high);
@@ -114,7 +114,7 @@ returns-in_err-test_item-clause-first g c =
       has = record { got = has.got; parts = has.parts; is = c.in_err-test_item.ensures.kept ∙ has.is };
     }
 
--- no key of this leaf is above the bound
+-- No key of this leaf is above the bound.
 pub returns-clause-first : goal.returns-clause-first
 returns-clause-first g c = record {
   left = nodes_passing_to c.args.test.now.0 c.args.test.now.1 (drop c.loop-i.i (items_of (g.L.Look.words c.args.look.now c.args.leaf.0))) (option_copied c.args.high);

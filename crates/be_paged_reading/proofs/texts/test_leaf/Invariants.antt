@@ -7,7 +7,8 @@ use Rattle.be_tree_reading.proofs.Reading.Leaves.{any_past}
 use Rattle.be_paged_reading.specs.Texts.{nodes_passing_to}
 use Rattle.be_paged_reading.proofs.texts.test_leaf.Given as goal
 
--- the items before this one are within the bound, and the list has the nodes of those that pass
+-- All items before this one are within the bound, and the list contains the nodes of those that
+-- pass.
 abbrev pub invariant-loop-i : goal.invariant-loop-i
 invariant-loop-i g l = record {
   has : HasGot l.fn.found.items (nodes_passing_to l.fn.test.0 l.fn.test.1 (drop l.fn.leaf.1 (items_of (g.L.Look.words l.fn.look l.fn.leaf.0))) (option_copied l.fn.high))

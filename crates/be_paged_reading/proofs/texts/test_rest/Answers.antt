@@ -44,7 +44,7 @@ test_leaf-requires-clause-texts g c =
 pub test_leaf-requires-clause-fits : goal.test_leaf-requires-clause-fits
 test_leaf-requires-clause-fits g c = c.leaves.invariant.size
 
--- the leaf's pairs, and those after it
+-- The pairs of the leaf, and those after it.
 parts : (g : Over) (c : After-test_leaf g) → remaining (g.L.Look.words c.args.look.now) c.leaves.cursor
     ≡ drop c.in-Some.from (items_of (g.L.Look.words c.args.look.now c.in-Some.page)) ++ remaining (g.L.Look.words c.args.look.now) c.step_leaf.new.self
 parts g c =
@@ -61,7 +61,7 @@ has g c =
 read : (g : Over) (c : After-test_leaf g) → g.L.Look.words c.step_leaf.new.look ≡ g.L.Look.words c.args.look.now
 read g c = c.step_leaf.ensures.unchanged.words ∙ c.leaves.invariant.unchanged.words
 
--- the first of the leaf's nodes are the first of all nodes
+-- The first nodes of the leaf are the first of all nodes.
 first : (g : Over) (c : After-test_leaf g)
     → HasFirst c.args.found.now.items (nodes_passing_to c.args.test.now.0 c.args.test.now.1 (remaining (g.L.Look.words c.args.look.now) c.args.cursor.now) (option_copied c.args.high)) c.test_leaf.new.found.items
 first g c =

@@ -5,7 +5,7 @@ use Rattle.be_paged_reading.specs.Entry.{Entry}
 use Rattle.be_paged_reading.specs.Page.{entry_at, entry_place, IsEntry}
 use Rattle.be_paged_reading.proofs.version.store_version.Given as goal
 
--- the first four words and the indices before i are written
+-- The first four words and the indices before i have been written.
 abbrev pub invariant-loop-i : goal.invariant-loop-i
 invariant-loop-i g l = record {
   tag : g.R.Look.words l.room l.page 0 ≡ 255;

@@ -8,7 +8,8 @@ use Rattle.be_plan.proofs.asking.collect.Given as goal
 abbrev pub ghost-collect_side : goal.ghost-collect_side
 ghost-collect_side g a = g.volume
 
--- what has been found belongs to the sides that are finished, and `rest` is what is left of the query
+-- What has been found satisfies the sides that are finished, and `rest` is the unevaluated part of
+-- the query.
 abbrev pub invariant-sides : goal.invariant-sides
 invariant-sides g l = record {
   stays : g.S.Source.kept l.source ≡ g.S.Source.kept l.initial.source;

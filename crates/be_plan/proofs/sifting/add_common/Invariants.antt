@@ -3,7 +3,7 @@ use Rattle.std.specs.List.{Contains}
 use Rattle.be_plan.specs.Walk.{Keeps}
 use Rattle.be_plan.proofs.sifting.add_common.Given as goal
 
--- the others before the place are below all numbers that are still to come
+-- The other numbers before the position are below all numbers that are still to come.
 abbrev pub invariant-loop-i : goal.invariant-loop-i
 invariant-loop-i l = record {
   end : l.at ≤ length l.others;

@@ -11,7 +11,7 @@ use Rattle.be_plan.proofs.walks.test_texts.Goals.{After-nodes_passing}
 pub nodes_passing-requires : goal.nodes_passing-requires
 nodes_passing-requires g c = (g.volume, c.requires.1.0)
 
--- what the source has added
+-- What the source has added.
 only : (g : Over) (c : After-nodes_passing g) → HasOnlyTrue g.volume (Leaf c.args.name.now c.args.test.now.0 c.args.test.now.1) c.args.name.now c.args.range.now.low.items (high_of c.args.range.now)
     c.args.found.now.items c.nodes_passing.new.found.items
 only g c =

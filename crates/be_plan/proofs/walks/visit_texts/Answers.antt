@@ -22,7 +22,7 @@ use Rattle.be_plan.proofs.walks.visit_texts.Goals as goal
 abbrev wanted : State → Formula → ℕ → Type 0
 wanted s f n = sat s f n ≡ true
 
--- what a key within the range has added is a node within it
+-- If a key within the range has added a node, the node is within the range.
 added : (s : State) (f : Formula) (name low : List ℕ) (high : Option (List ℕ)) (next bytes before : List ℕ) → IsSound s → index_kind s name ≡ Some Cstr
     → HasCome s (wanted s f) name low high (Some next) before → is_above high next ≡ false → bytes ≡ next
     → (n : ℕ) → IsKeyOf bytes n → IsNodeWithin s name low high n

@@ -2,7 +2,7 @@ use Rattle.std.proofs.Common.{◌≡◌, ◌++◌, length}
 use Rattle.be_script_runner.specs.Run.{Wrote}
 use Rattle.be_script_runner.proofs.runs.put.Given as goal
 
--- what was written so far and what is left are all the bytes
+-- the bytes written so far, followed by the rest, are all the bytes
 abbrev pub invariant-loop-rest : goal.invariant-loop-rest
 invariant-loop-rest g l = Wrote (g.W.Write.contents l.fn.writer) (g.W.Write.contents l.writer) (λ out. l.fn.bytes ≡ out ++ l.rest)
 

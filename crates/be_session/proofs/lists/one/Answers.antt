@@ -6,7 +6,7 @@ use Rattle.be_session.specs.declared.faults.Fault.{Fault}
 use Rattle.be_session.specs.declared.lists.Operation.{Operation}
 use Rattle.be_session.proofs.lists.one.Goals as goal
 
--- parts that mean no operation are those of an invalid operation
+-- Parts that don't encode an operation are those of an invalid operation.
 invalid_by : (o : Operation) (bytes name value : List ℕ) (r : Result Op Fault) → name ≡ part bytes o.name_at o.name_length → value ≡ part bytes o.value_at o.value_length
     → IfErr r (λ e. IsNoOperation o.kind name o.code o.number value e) → IfErr r (λ e. IsInvalidAt o bytes e)
 invalid_by o bytes name value (Ok op) n v h = tt

@@ -6,7 +6,7 @@ use Rattle.be_tree.specs.Path.{IsWay}
 use Rattle.be_tree_reading.specs.Tree.{IsTreeAt}
 use Rattle.be_tree.proofs.path.find_path.Given as goal
 
--- the path so far leads to this page, and has room for a step on each level left
+-- the path so far leads to this page, and has room for one step per remaining level
 abbrev pub invariant-loop-level : goal.invariant-loop-level
 invariant-loop-level g l = record {
   least : ℕ;

@@ -6,7 +6,7 @@ use Rattle.be_tree.specs.Path.{IsChanged, whole}
 use Rattle.be_tree_reading.specs.Tree.{pairs_at}
 use Rattle.be_tree.proofs.rising.rise.Given as goal
 
--- the change has reached this level, for every tree that it may have begun from
+-- the change has reached this level, for every tree from which it may have begun
 abbrev pub invariant-loop-i : goal.invariant-loop-i
 invariant-loop-i g l = record {
   kept : g.R.Look.kept l.room ≡ g.R.Look.kept l.fn.room;

@@ -41,7 +41,8 @@ loop-i-init g c =
       some = c.requires.some;
     }
 
--- the node as it was given, for every tree that it may belong to, and the pairs that the tree will have
+-- the node as it was given, for every tree to which it may belong, and the pairs that the tree will
+-- have
 abbrev Begun : (g : Over) (c : After-deref g) (start : g.row.R.Denot) → Type 0
 Begun g c start = IsInHand g.R.Look.kept g.R.Look.page_state g.R.Look.words c.args.root c.args.above.now c.args.was c.args.pair.now c.args.in_hand.items (level_of (g.R.Look.words start c.args.was)) start c.args.room.now
 
@@ -62,7 +63,7 @@ last_takes above i s t u lt before more n = omega (arith, lt, length-take-le (le
 last_fewer : (above : List Step) (i : ℕ) (s t u : ℕ → PageState) → i < length above → TakesAtMost (2 * i) s t → TakesFewer (length (left above i) + 2) t u → TakesFewer (most_taken (length above)) s u
 last_fewer above i s t u lt before more n = omega (arith, lt, length-take-le (length above - i) above (omega arith), before n, more n)
 
--- the node left to settle
+-- the node that remains to be settled
 module _ (g : Over) (c : After-deref g) (start : g.row.R.Denot) (h : Begun g c start) where
   hand : IsInHand g.R.Look.kept g.R.Look.page_state g.R.Look.words c.args.root (left c.args.above.now c.loop-i.i) c.loop-i.was c.args.pair.now c.deref.result.now (level_of (g.R.Look.words start c.loop-i.was)) start c.loop-i.room
   hand =
@@ -79,7 +80,7 @@ module _ (g : Over) (c : After-deref g) (start : g.row.R.Denot) (h : Begun g c s
       hands_start g.R.Look.kept g.R.Look.page_state g.R.Look.words c.args.root c.args.above.now (left c.args.above.now c.loop-i.i) c.args.was c.loop-i.was c.args.pair.now c.args.in_hand.items c.loop-i.slots.items
       (level_of (g.R.Look.words start c.args.was)) (level_of (g.R.Look.words start c.loop-i.was)) start c.args.room.now c.loop-i.room h (c.loop-i.invariant.in_hand start h)
 
-  -- the page above it is unwritten in turn
+  -- the page above it is now unwritten
   up : (page : ℕ) (out : List Slot) (new : g.row.R.Denot) → c.loop-i.i < length c.args.above.now
       → IsAbove g.R.Look.kept g.R.Look.page_state g.R.Look.words c.args.root (take (length (left c.args.above.now c.loop-i.i) - 1) (left c.args.above.now c.loop-i.i)) page c.args.pair.now out
       (whole (g.R.Look.words start) (left c.args.above.now c.loop-i.i) (pairs_below (level_of (g.R.Look.words start c.loop-i.was)) (g.R.Look.words c.loop-i.room) (pairs_of (g.R.Look.words c.loop-i.room) c.args.pair.now c.deref.result.now))) start new
@@ -88,7 +89,7 @@ module _ (g : Over) (c : After-deref g) (start : g.row.R.Denot) (h : Begun g c s
       subst (λ xs. IsAbove g.R.Look.kept g.R.Look.page_state g.R.Look.words c.args.root xs page c.args.pair.now out (all g c start) start new) (steps_above c.args.above.now c.loop-i.i lt)
       (subst (λ ps. IsAbove g.R.Look.kept g.R.Look.page_state g.R.Look.words c.args.root (take (length (left c.args.above.now c.loop-i.i) - 1) (left c.args.above.now c.loop-i.i)) page c.args.pair.now out ps start new) same turned)
 
-  -- or the tree is whole
+  -- or the tree is complete
   whole_now : (root : ℕ) (new : g.row.R.Denot)
       → BecomesTree g.R.Look.kept g.R.Look.page_state g.R.Look.words (pages (g.R.Look.words start) c.args.root)
       (whole (g.R.Look.words start) (left c.args.above.now c.loop-i.i) (pairs_below (level_of (g.R.Look.words start c.loop-i.was)) (g.R.Look.words c.loop-i.room) (pairs_of (g.R.Look.words c.loop-i.room) c.args.pair.now c.deref.result.now))) root start new

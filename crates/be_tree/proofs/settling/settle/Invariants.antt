@@ -6,7 +6,7 @@ use Rattle.be_tree.specs.Slot.{pairs_of}
 use Rattle.be_tree_reading.specs.Tree.{pairs_below}
 use Rattle.be_tree.proofs.settling.settle.Given as goal
 
--- the node left to settle is on this level, for every tree that it may belong to
+-- the node that remains to be settled is on this level, for every tree to which it may belong
 abbrev pub invariant-loop-i : goal.invariant-loop-i
 invariant-loop-i g l = record {
   in_hand : (start : g.row.R.Denot) → IsInHand g.R.Look.kept g.R.Look.page_state g.R.Look.words l.root l.above l.fn.was l.pair l.fn.in_hand.items (level_of (g.R.Look.words start l.fn.was)) start l.fn.room

@@ -15,7 +15,7 @@ use Rattle.be_tree.proofs.settling.settle_left.Given.{Over}
 use Rattle.be_tree.proofs.settling.settle_left.Goals as goal
 use Rattle.be_tree.proofs.settling.settle_left.Goals.{After-deref, Start}
 
--- the branch before the child's is among the page's
+-- the branch before the child's is one of the page's branches
 in_range : (g : Over) (c : Start g) → c.args.step.at - 1 < g.R.Look.words c.args.room.now c.args.step.page 1
 in_range g c =
     let h = c.requires.child.1 in

@@ -43,7 +43,7 @@ risen_takes above s d e f some two one more n = omega (arith, some, length-take-
 risen_fewer : (above : List Step) (s d e f : ℕ → PageState) → 0 < length above → TakesAtMost 2 s d → TakesAtMost 1 d e → TakesFewer (length (front above)) e f → TakesFewer (length above + 2) s f
 risen_fewer above s d e f some two one more n = omega (arith, some, length-take-le (length above - 1) above (omega arith), two n, one n, more n)
 
--- the node, for every tree that it may belong to, after its page's level was read
+-- the node, for every tree to which it may belong, after its page's level was read
 abbrev Begun : (g : Over) (c : After-word-level g) (start : g.row.R.Denot) → Type 0
 Begun g c start = IsInHand g.R.Look.kept g.R.Look.page_state g.R.Look.words c.args.root c.args.above.now c.args.was c.args.pair.now c.args.slots.now (level_of (g.R.Look.words start c.args.was)) start c.args.room.now
 
@@ -106,7 +106,7 @@ module _ (g : Over) (c : After-word-level g) (start : g.row.R.Denot) (h : Begun 
     count : length (spliced settled.cut (items_of (g.R.Look.words start (last c.args.above.now).page)) (pairs_of (g.R.Look.words new) c.args.pair.now settled.branches.items)) + settled.cut.gone ≡ g.R.Look.words new (last c.args.above.now).page 1 + length settled.branches.items
     count = settled_count g.R.Look.kept g.R.Look.page_state g.R.Look.words c.args.root (front c.args.above.now) (last c.args.above.now) c.args.was c.word-level.result c.args.pair.now c.args.slots.now start c.word-level.new.self hand settled new s
 
-    -- and they were
+    -- and they were put there
     module _ (bs : List Slot) (is : bs ≡ settled.branches.items) (to : ℕ) (put : g.row.R.Denot) (spliced_in : IsSpliced g.R.Look.kept g.R.Look.page_state g.R.Look.words (last c.args.above.now).page settled.cut c.args.pair.now bs to new put)
         (enough : minimum_at (front c.args.above.now) (suc c.word-level.result) ≤ length (spliced settled.cut (items_of (g.R.Look.words start (last c.args.above.now).page)) (pairs_of (g.R.Look.words new) c.args.pair.now settled.branches.items))) where
       spliced_so : IsSpliced g.R.Look.kept g.R.Look.page_state g.R.Look.words (last c.args.above.now).page settled.cut c.args.pair.now settled.branches.items to new put

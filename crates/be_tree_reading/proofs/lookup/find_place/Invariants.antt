@@ -4,7 +4,7 @@ use Rattle.be_tree_reading.specs.Key.{payload_at}
 use Rattle.be_tree_reading.specs.Tree.{IsTreeAt, pairs, pairs_at}
 use Rattle.be_tree_reading.proofs.lookup.find_place.Given as goal
 
--- the key is still to be looked up in the tree from this page down
+-- the key remains to be looked up in the tree from this page down
 abbrev pub invariant-loop-level : goal.invariant-loop-level
 invariant-loop-level g l = record {
   least : ℕ;

@@ -15,7 +15,7 @@ use Rattle.be_tree_reading.proofs.numbers.numbers_within.Given.{Over}
 use Rattle.be_tree_reading.proofs.numbers.numbers_within.Goals as goal
 use Rattle.be_tree_reading.proofs.numbers.numbers_within.Goals.{After-first_leaf-leaf, After-push_to}
 
--- what is from `low` on: what the leaf has of it, and the rest
+-- what is from `low` on: the leaf's share of it, and the rest
 abbrev rest : (g : Over) (c : After-first_leaf-leaf g) → List Pair
 rest g c = c.first_leaf-leaf.ensures.from.0
 
@@ -157,7 +157,7 @@ returns-then-is_end-clause-found g c =
     (c.push_to.ensures.unchanged.page_state ∙ c.first_leaf-leaf.ensures.unchanged.page_state) (read g (goal.at.returns-then-is_end-clause-found g c).After-push_to)) in
     got_rest before (numbers_to all high) (numbers_to (rest g b) high) mid mid has (sym (ap (λ (ns : List ℕ). mid ++ ns) none ∙ append-nil mid))
 
--- what later calls require holds as at the call
+-- what later calls require still holds
 pub push_past-requires-clause-tree : goal.push_past-requires-clause-tree
 push_past-requires-clause-tree g c =
     subst (λ (w : ℕ → ℕ → ℕ). IsTree (g.L.Look.page_state c.ends_before-is_end.new.look) w c.args.root)

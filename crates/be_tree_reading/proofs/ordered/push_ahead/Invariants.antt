@@ -6,7 +6,8 @@ use Rattle.be_tree_reading.specs.Walk.{IsWalk, StaysFalse, ahead, is_on_way, on_
 use Rattle.be_tree_reading.specs.Way.{IsLastOf, numbers_in}
 use Rattle.be_tree_reading.proofs.ordered.push_ahead.Given as goal
 
--- what was passed, and what is still wanted of what is ahead, are everything that was wanted
+-- what was passed, and what is still wanted of what is ahead, together are everything that was
+-- wanted
 abbrev pub invariant-leaves : goal.invariant-leaves
 invariant-leaves g l = record {
   walk : IsWalk (g.L.Look.page_state l.fn.look) (g.L.Look.words l.fn.look) l.walk;

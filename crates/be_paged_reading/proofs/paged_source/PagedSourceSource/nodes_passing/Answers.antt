@@ -78,7 +78,7 @@ nodes_passing-requires-clause-texts g c =
     subst (λ (r : ℕ). AreTexts (pairs w r)) (sym (c.in-Some.ensures.found.root nowhere))
     (keys_texts w (contents_of (w self.page)) c.requires.0 c.args.keys.name.now c.in-Some.index.place nowhere version.encodes c.in-Some.ensures.found.named version.sound kind)
 
--- what the call added
+-- What the call added.
 only : (g : Over) (c : After-nodes_passing g) (volume : State)
     → SourceOf (g.L.Look.page_state c.args.self.now.look) (g.L.Look.words c.args.self.now.look) c.args.self.now.page c.args.self.now.known c.args.self.now.cursor c.args.self.now.place c.args.self.now.last.0 c.args.self.now.last.1 volume
     → HasOnlyTrue volume (Leaf c.args.keys.name.now c.args.test.now.0 c.args.test.now.1) c.args.keys.name.now c.args.keys.low.now (option_copied c.args.keys.high) c.args.found.now.items c.nodes_passing.new.found.items

@@ -3,7 +3,7 @@ use Rattle.be_pages.specs.PageSet.{has_page}
 use Rattle.be_pages.specs.Place.{place_of, place_after, retired_at, IsNewest}
 use Rattle.be_pages.proofs.page_pool.PagePool.end.Given as goal
 
--- the pages that no longer wait are settled, and the others are where they were
+-- the pages that no longer wait are settled, and the others are unchanged
 abbrev pub invariant-loop-page : goal.invariant-loop-page
 invariant-loop-page l = record {
   done : (q : ℕ) → has_page l.self.touched.places.items q ≡ false → place_of l.self.places.items q ≡ place_after l.ending (place_of l.initial.self.places.items q);

@@ -3,7 +3,7 @@ use Rattle.std.specs.Ordering.{is_lt}
 use Rattle.be_volume.specs.Maps.{name_cmp}
 use Rattle.be_plan.proofs.ranges.Range.raise_to.Goals as goal
 
--- the low end is the bound, or has stayed
+-- The low end is either the bound, or unchanged.
 raised : (low bound new k : List ℕ) (fits : Bool) → (fits ≡ true → new ≡ bound) → (fits ≡ false → new ≡ low) → (is_lt (name_cmp k bound) ≡ false → is_lt (name_cmp k low) ≡ false) →
     is_lt (name_cmp k new) ≡ false → is_lt (name_cmp k low) ≡ false
 raised low bound new k true puts stays up h = up (sym (ap (λ l. is_lt (name_cmp k l)) (puts refl)) ∙ h)

@@ -1,4 +1,4 @@
--- `into_loose` moves two fields, with what they own. There is a value, so the pointer is that of a box.
+-- `into_loose` moves two fields with what they own. There is a value, so the pointer is that of a box.
 use mathlib.Core.Path.{◌≡◌, refl, sym, subst}
 use mathlib.Core.List.{List, [], ◌∷◌, ◌++◌}
 use seplogic.Ra.Ura.{Ura}

@@ -1,4 +1,4 @@
--- `lent` lends what the pointer points to, and the owned value follows it. There is a value, so the pointer is that of a box.
+-- `lent` lends the target of the pointer, and the owned value follows it. There is a value, so the pointer is that of a box.
 use Rattle.std.proofs.Common.{◌≡◌, ℕ, List, [], ◌∷◌, refl, true}
 use Rattle.std.specs.Prelude.{is_some, Some}
 use seplogic.Ra.Ura.{Ura}
@@ -40,7 +40,7 @@ use Rattle.bestore_c.proofs.owned_query.OwnedQuery.lent.Code as code
 abbrev stayed : Stays f.ended.signature.params f.ended.kept
 stayed = (stay_dropped (mut_ref_to (0 ∷ []) tt (plain (λ _. Own))) no, tt)
 
--- everything owned except the value, which is in this block
+-- Everything that is owned except the value, which is in this block.
 module _ {M : Type 1} {𝓤 : Ura M} (𝓛 : Logic 𝓤) (h : OwnedQuery) (rb ro b o : ℕ) (hv : Val) where
   abbrev Rest : Fml
   Rest = fsep (fsep (token E.al h.alloc (bare (τ E)) (block_ptr b o)) (handle E h.alloc hv)) (cell_at full_share Own.mir (word E hv b o ∷ []) rb ro)

@@ -1,4 +1,4 @@
--- `of_loose` moves two fields, with what they own.
+-- `of_loose` moves two fields with what they own.
 use mathlib.Core.Path.{refl, sym, subst}
 use mathlib.Core.List.{List, [], ◌∷◌, ◌++◌}
 use seplogic.Ra.Ura.{Ura}

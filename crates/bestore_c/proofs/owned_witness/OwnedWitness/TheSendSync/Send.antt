@@ -1,4 +1,4 @@
--- The pointer may go to another thread with what it owns.
+-- The pointer can be sent to another thread together with what it owns.
 use denote.Param.Send.{AllSend, IsSend, owning_send, sendable, struct_send}
 use denote.Struct.Owning.{shape, fields, to}
 use denote.Struct.Struct.{exits_of}
