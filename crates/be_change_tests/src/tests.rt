@@ -8,7 +8,7 @@ mod reads;
 mod steps;
 
 use crate::tests::endings::{ends_again, keeps_pins, refusals, written_of};
-use crate::tests::kinds::mismatch_of;
+use crate::tests::kinds::has_mismatch;
 use crate::tests::moves::move_both_ways;
 use crate::tests::reads::{kinds_taken, own_reads, unchecked_kinds};
 use be_change::CollectError;
@@ -49,25 +49,16 @@ fn refuses_the_wrong_kind(rt: HostRuntime) -> Result<(), Fail> {
 /// In a list that is written all at once, the first set of another kind is found, wherever it is.
 #[test]
 fn finds_the_wrong_kind(rt: HostRuntime) -> Result<(), Fail> {
-    let lists = [
-        ("set 1 a CSTR \"x\"; set 1 b LLNG 1", None),
-        ("set 1 a LLNG 1; set 1 a LLNG 2", Some((0, Kind::Cstr))),
-        (
-            "new; set 1 a CSTR \"x\"; set 1 a LLNG 1",
-            Some((2, Kind::Cstr)),
-        ),
-        ("rmindex a; set 1 a LLNG 1", None),
-        (
-            "rmindex a; mkindex a LLNG; set 1 a CSTR \"x\"",
-            Some((2, Kind::Llng)),
-        ),
-        (
-            "set 1 b LLNG 1; mkindex b CSTR; set 1 b LLNG 1",
-            Some((2, Kind::Cstr)),
-        ),
-    ];
-    for (list, found) in lists {
-        assert_eq!(rt; again!(mismatch_of(rt.alloc(), list)), Ok(found));
+    let lines = r#"set 1 a CSTR "x"; set 1 b LLNG 1 => none
+set 1 a LLNG 1; set 1 a LLNG 2 => 0 CSTR
+new; set 1 a CSTR "x"; set 1 a LLNG 1 => 2 CSTR
+rmindex a; set 1 a LLNG 1 => none
+rmindex a; mkindex a LLNG; set 1 a CSTR "x" => 2 LLNG
+set 1 b LLNG 1; mkindex b CSTR; set 1 b LLNG 1 => 2 CSTR"#;
+    for line in lines.lines() {
+        if !has_mismatch(rt.alloc(), line)? {
+            return Err(Fail::new(line));
+        }
     }
     Ok(())
 }

@@ -97,15 +97,6 @@ impl Both {
         }
     }
 
-    /// Applies a list of operations that has to be accepted.
-    pub fn accepted(self, ops: &[Op]) -> Result<Both, Fail> {
-        let (both, answer) = self.write(ops)?;
-        if answer?.len() != ops.len() {
-            return Err(Fail::new("another number of answers"));
-        }
-        Ok(both)
-    }
-
     /// The answer to a query, with the given pick or the chosen indices.
     pub fn query(
         self,

@@ -1,6 +1,5 @@
 //! A volume of three hundred nodes with two indices, for tests of what requests cost.
-use crate::Both;
-use be_test_tools::list_of;
+use crate::{Both, Forms};
 use std::alloc::{AllocError, Global};
 use std::test::Fail;
 
@@ -18,20 +17,26 @@ fn node_text(alloc: Global, node: u64) -> Result<String, AllocError> {
     )
 }
 
-fn make_node(alloc: Global, both: Both, node: u64) -> Result<Both, Fail> {
+fn make_node(alloc: Global, forms: &mut Forms, node: u64) -> Result<(), Fail> {
     let text = match node_text(alloc, node) {
         Err(_) => node_text(alloc, node)?,
         Ok(text) => text,
     };
-    both.accepted(&list_of(alloc, text.as_str())?)
+    forms.accept_text(alloc, text.as_str())
+}
+
+/// Makes the indices and the nodes.
+fn fill(alloc: Global, forms: &mut Forms) -> Result<(), Fail> {
+    forms.accept_text(alloc, "mkindex name CSTR;mkindex size LONG")?;
+    for node in 1..=NODES {
+        make_node(alloc, forms, node)?;
+    }
+    forms.accept_text(alloc, "new")
 }
 
 /// Both forms of the volume, with 1,024 pages. They are the same in each run.
 pub fn filled(alloc: Global) -> Result<Both, Fail> {
-    let indices = list_of(alloc, "mkindex name CSTR;mkindex size LONG")?;
-    let mut both = Both::new(alloc, 1024)?.accepted(&indices)?;
-    for node in 1..=NODES {
-        both = make_node(alloc, both, node)?;
-    }
-    both.accepted(&list_of(alloc, "new")?)
+    let mut forms = Forms::new(alloc, 1024)?;
+    fill(alloc, &mut forms)?;
+    forms.take()
 }

@@ -7,6 +7,7 @@
 mod asking;
 mod both;
 mod files;
+mod forms;
 mod random;
 mod same;
 mod writing;
@@ -14,5 +15,6 @@ mod writing;
 pub use asking::{query_both, read_query};
 pub use both::Both;
 pub use files::{NODES, filled};
+pub use forms::Forms;
 pub use random::Random;
 pub use writing::{accepts, apply_pages};

@@ -24,7 +24,7 @@ ghost use Rattle.std.specs.Prelude.{◌≡◌, true, IfOk};
 ghost use Rattle.be_volume.specs.Volume.{State};
 ghost use Rattle.be_plan.specs.Explain.{are_places};
 
-use crate::tests::counting::{nodes_by, nodes_chosen};
+use crate::tests::counting::{Counts, nodes_by, nodes_chosen};
 use be_plan::{Cover, Picks, Source, choose, choose_from, explain, volume_source};
 use be_query::{Query, parse};
 use be_test_tools::{Answers, check_lines, list_of};
@@ -137,7 +137,7 @@ fn found_text(alloc: Global, nodes: &[u64], asked: &str) -> Result<String, Refus
 fn found(alloc: Global, volume: &Volume, query: &Query, cover: &Cover) -> Result<String, Refusal> {
     match nodes_by(alloc, volume, query, cover)? {
         Some((nodes, counts)) => found_text(alloc, &nodes, counts.asked.as_str()),
-        None => Ok(String::from_str(alloc, "not covered")?),
+        None => Ok(String::from_str(alloc, "not the nodes of a scan")?),
     }
 }
 
@@ -150,6 +150,20 @@ fn are_scanned(volume: &Volume, query: &Query, nodes: &[u64]) -> Result<bool, Re
     Ok(volume.query(query)?.as_slice() == nodes)
 }
 
+/// The number of ranges, if these are the nodes of a scan.
+fn ranges_text(
+    alloc: Global,
+    volume: &Volume,
+    query: &Query,
+    nodes: &[u64],
+    ranges: u64,
+) -> Result<String, Refusal> {
+    if are_scanned(volume, query, nodes)? {
+        return number(alloc, ranges);
+    }
+    Ok(String::from_str(alloc, "not the nodes of a scan")?)
+}
+
 /// How many ranges the cover asked for whole. The nodes that it finds have to be those of a scan.
 fn count_ranges(
     alloc: Global,
@@ -157,12 +171,10 @@ fn count_ranges(
     query: &Query,
     cover: &Cover,
 ) -> Result<String, Refusal> {
-    if let Some((nodes, counts)) = nodes_by(alloc, volume, query, cover)? {
-        if are_scanned(volume, query, &nodes)? {
-            return number(alloc, counts.ranges);
-        }
+    match nodes_by(alloc, volume, query, cover)? {
+        Some((nodes, counts)) => ranges_text(alloc, volume, query, &nodes, counts.ranges),
+        None => Ok(String::from_str(alloc, "not the nodes of a scan")?),
     }
-    Ok(String::from_str(alloc, "not the nodes of a scan")?)
 }
 
 /// The nodes, and how many kinds and ranges were asked for to find them.
@@ -179,6 +191,20 @@ fn looks(alloc: Global, values: u64, searches: u64) -> Result<String, Refusal> {
 
 /// Counts the calls to a source that knows the kinds. They are the keys of a range without its end;
 /// the values and the searches for keys; or the kinds and the ranges.
+fn counts_text(
+    alloc: Global,
+    command: &str,
+    nodes: &[u64],
+    counts: &Counts,
+) -> Result<String, Refusal> {
+    match command {
+        "keys" => number(alloc, (counts.asked.as_str().len() as u64).wrapping_sub(1)),
+        "kinds" => kinds(alloc, nodes, counts.kinds, counts.ranges),
+        _ => looks(alloc, counts.values, counts.searches),
+    }
+}
+
+/// The same for what is chosen.
 fn counted(
     alloc: Global,
     volume: &Volume,
@@ -186,11 +212,7 @@ fn counted(
     query: &Query,
 ) -> Result<String, Refusal> {
     let (nodes, counts) = nodes_chosen(alloc, volume, query)?;
-    match command {
-        "keys" => number(alloc, (counts.asked.as_str().len() as u64).wrapping_sub(1)),
-        "kinds" => kinds(alloc, &nodes, counts.kinds, counts.ranges),
-        _ => looks(alloc, counts.values, counts.searches),
-    }
+    counts_text(alloc, command, &nodes, &counts)
 }
 
 /// What is chosen from the volume's indices.
@@ -492,6 +514,14 @@ fn gives_keys(volume: &Volume, index: &Name, other: &Name) -> bool {
         && is_next_in(volume, other, LAST, false, &[])
 }
 
+/// Whether a volume returns the kinds and the keys of k, which has an index, and of q, which has
+/// none.
+fn gives_each(volume: &Volume) -> Result<(bool, bool), Refusal> {
+    let k = Name::new("k")?;
+    let q = Name::new("q")?;
+    Ok((gives_kinds(volume, &k, &q), gives_keys(volume, &k, &q)))
+}
+
 /// As a source, a volume returns an index's kind and its keys in order, and neither for a name
 /// without an index.
 #[test]
@@ -501,11 +531,9 @@ fn plan_source(rt: HostRuntime) -> Result<(), Fail> {
 each k CSTR: x x x
 drop 2
 new";
-    let k = Name::new("k")?;
-    let q = Name::new("q")?;
-    let volume = volume_of(rt.alloc(), lines)?;
-    assert!(rt; gives_kinds(&volume, &k, &q));
-    assert!(rt; gives_keys(&volume, &k, &q));
+    let (kinds, keys) = gives_each(&volume_of(rt.alloc(), lines)?)?;
+    assert!(rt; kinds);
+    assert!(rt; keys);
     Ok(())
 }
 

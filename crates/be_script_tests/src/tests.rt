@@ -113,12 +113,22 @@ fn push_rows(script: &mut String, replies: &mut String, rows: &str) -> Result<()
     Ok(())
 }
 
+/// Appends an example's rows, followed by these rows.
+fn push_both(
+    script: &mut String,
+    replies: &mut String,
+    example: &str,
+    rows: &str,
+) -> Result<(), AllocError> {
+    push_rows(script, replies, example)?;
+    push_rows(script, replies, rows)
+}
+
 /// The script of an example's rows followed by these rows, and its replies.
 fn script_of(alloc: Global, example: &str, rows: &str) -> Result<(String, String), AllocError> {
     let mut script = String::new(alloc);
     let mut replies = String::new(alloc);
-    push_rows(&mut script, &mut replies, example)?;
-    push_rows(&mut script, &mut replies, rows)?;
+    push_both(&mut script, &mut replies, example, rows)?;
     Ok((script, replies))
 }
 
@@ -166,6 +176,18 @@ fn run_by(
     }
 }
 
+/// Returns true if a run that ended like this wrote these replies, and false if memory ran out
+/// after a front of them.
+fn has_replies(outcome: Result<(), RunFault>, written: &str, replies: &str) -> Result<bool, Fail> {
+    match outcome {
+        Ok(()) if written == replies => Ok(true),
+        Ok(()) if wants_memory(written, replies) => Ok(false),
+        // If the vector can't grow, the write fails.
+        Err(RunFault::Memory | RunFault::Write) if replies.starts_with(written) => Ok(false),
+        _ => Err(Fail::new(first_other(written, replies).unwrap_or("too few lines"))),
+    }
+}
+
 /// Runs a script. It returns true if its replies are these, and false if memory ran out after a
 /// front of these replies.
 fn replies_to(
@@ -179,14 +201,7 @@ fn replies_to(
 {
     let mut written: Vec<u8> = Vec::new(alloc);
     let result = run_by(by, alloc, script, &mut written, commits);
-    let written = str::from_utf8(&written)?;
-    match result {
-        Ok(()) if written == replies => Ok(true),
-        Ok(()) if wants_memory(written, replies) => Ok(false),
-        // If the vector can't grow, the write fails.
-        Err(RunFault::Memory | RunFault::Write) if replies.starts_with(written) => Ok(false),
-        _ => Err(Fail::new(first_other(written, replies).unwrap_or("too few lines"))),
-    }
+    has_replies(result, str::from_utf8(&written)?, replies)
 }
 
 /// Fails unless this server gives the script these replies. If memory ran out in the first run, the

@@ -20,15 +20,30 @@ use std::alloc::{AllocError, Global};
 use std::test::Fail;
 use std::thread::Threads;
 
+/// Fails unless a room for one pass gives these replies.
+pub(crate) fn check_one(alloc: Global, pages: u64, commits: u64, lines: &str) -> Result<(), Fail> {
+    check_lines(alloc, &mut for_one(alloc, pages, commits)?, lines)
+}
+
+/// Fails unless a room for two passes gives these replies.
+fn check_two(alloc: Global, pages: u64, commits: u64, lines: &str) -> Result<(), Fail> {
+    check_lines(alloc, &mut for_two(alloc, pages, commits)?, lines)
+}
+
 /// How many passes a store with these limits has.
+fn count_once(alloc: Global, limits: Limits) -> Result<u64, Refusal> {
+    let (_, dealt) = Store::open(alloc, limits)?;
+    Ok(dealt.len() as u64)
+}
+
+/// The same. After running out of memory, the store is opened again.
 fn count_passes(alloc: Global, pages: u64, passes: u64, commits: u64) -> Result<u64, Refusal> {
     let limits = Limits {
         pages,
         passes,
         commits,
     };
-    let (_, dealt) = again!(Store::open(alloc, limits))?;
-    Ok(dealt.len() as u64)
+    again!(count_once(alloc, limits))
 }
 
 /// Limits that are out of range, the largest ones, and each number of passes.
@@ -53,7 +68,7 @@ fn two_passes(rt: HostRuntime) -> Result<(), Fail> {
     let lines = "0 new / 1 pin / 0 set 1 k CSTR v => commit 1 / node 1 / pin 1 / commit 2 / ok
 1 get 1 k / 1 indices / 1 attrs 1 => none / indices 0 / attrs 0
 1 unpin / 1 pin / 1 get 1 k => ok / pin 2 / CSTR \"v\"";
-    check_lines(rt.alloc(), &mut for_two(rt.alloc(), 64, 100)?, lines)
+    check_two(rt.alloc(), 64, 100, lines)
 }
 
 /// An index has only pairs that were set after it was made. It finds an older node once the node's
@@ -65,7 +80,7 @@ fn index_made_later(rt: HostRuntime) -> Result<(), Fail> {
          commit 3 / ok
 0 pin / 0 query size==5 / 0 unpin => pin 3 / pin 3 / nodes / ok
 0 set 1 size LONG 5 / 0 pin / 0 query size==5 => commit 4 / ok / pin 4 / pin 4 / nodes 1";
-    check_lines(rt.alloc(), &mut for_one(rt.alloc(), 64, 100)?, lines)
+    check_one(rt.alloc(), 64, 100, lines)
 }
 
 /// A store for two commits: an error of the volume comes before CommitsSpent, and reads still work.
@@ -74,14 +89,14 @@ fn commits_spent(rt: HostRuntime) -> Result<(), Fail> {
     let lines = "0 new / 0 drop 9 => commit 1 / node 1 / refused 2 NoNode
 0 mkindex k LONG / 0 new / 0 drop 9 => commit 2 / ok / refused 9 CommitsSpent / refused 2 NoNode
 0 pin / 0 query k==1 => pin 2 / pin 2 / nodes";
-    check_lines(rt.alloc(), &mut for_one(rt.alloc(), 64, 2)?, lines)
+    check_one(rt.alloc(), 64, 2, lines)
 }
 
 /// After two passes meet, both have seen what either had.
 #[test]
 fn meeting(rt: HostRuntime) -> Result<(), Fail> {
     let lines = "0 new / seen / meet / seen => commit 1 / node 1 / seen 1 0 / met 1 / seen 1 1";
-    check_lines(rt.alloc(), &mut for_two(rt.alloc(), 64, 100)?, lines)
+    check_two(rt.alloc(), 64, 100, lines)
 }
 
 /// A pass that joins another pass's witness has seen what the witness has. A pass that has seen
@@ -90,7 +105,7 @@ fn meeting(rt: HostRuntime) -> Result<(), Fail> {
 fn joining(rt: HostRuntime) -> Result<(), Fail> {
     let lines = "0 new / seen / join / seen => commit 1 / node 1 / seen 1 0 / met 1 / seen 1 1
 1 new / join / seen => commit 2 / node 2 / met 2 / seen 1 2";
-    check_lines(rt.alloc(), &mut for_two(rt.alloc(), 64, 100)?, lines)
+    check_two(rt.alloc(), 64, 100, lines)
 }
 
 /// A live query returns which nodes have joined its answer, and which have left, since its last
@@ -104,7 +119,7 @@ fn live_query(rt: HostRuntime) -> Result<(), Fail> {
 0 new / 0 set 1 k LONG 1 / 0 set 2 k LONG 9 => commit 4 / node 2 / commit 5 / ok / commit 6 / ok
 0 unpin / 0 pin / 0 refresh => ok / pin 6 / created 2 / removed 1
 0 unpin / 0 pin / 0 refresh => ok / pin 6 / created / removed";
-    check_lines(rt.alloc(), &mut for_one(rt.alloc(), 64, 100)?, lines)
+    check_one(rt.alloc(), 64, 100, lines)
 }
 
 /// A live query is refreshed by another pass, at an older pin, and after its index was removed and
@@ -123,7 +138,7 @@ fn live_query_of_two_passes(rt: HostRuntime) -> Result<(), Fail> {
          ok / pin 6
 1 refresh / 1 set 2 k LONG 8 / 1 unpin / 1 pin / 1 refresh => created / removed 3 / commit 7 / \
          ok / ok / pin 7 / created 2 / removed";
-    check_lines(rt.alloc(), &mut for_two(rt.alloc(), 64, 100)?, lines)
+    check_two(rt.alloc(), 64, 100, lines)
 }
 
 /// A prepared query follows its name's index to another place and to another kind, and notices when
@@ -139,7 +154,7 @@ fn prepared_query(rt: HostRuntime) -> Result<(), Fail> {
 0 rmindex k / 0 mkindex k CSTR / 0 set 2 k CSTR 50 => commit 4 / ok / commit 5 / ok / commit 6 / ok
 0 pin / again / 0 unpin / 0 rmindex k / 0 pin / again => pin 6 / pin 6 / nodes 2 / ok / commit 7 / \
          ok / pin 7 / refused 17 NotCovered";
-    check_lines(rt.alloc(), &mut for_one(rt.alloc(), 64, 100)?, lines)
+    check_one(rt.alloc(), 64, 100, lines)
 }
 
 /// A pass that isn't pinned reads at a pin made for the read. That pin is released even if the read
@@ -153,7 +168,7 @@ fn pinned_for_a_read(rt: HostRuntime) -> Result<(), Fail> {
 0 attrs 1 / 0 indices / 0 refresh => attrs 1 / \"k\" LONG 5 / indices 1 / \"k\" LONG / created 1 / \
          removed
 0 query j==5 / 0 attrs 9 / 0 unpin => refused 17 NotCovered / refused 2 NoNode / not pinned";
-    check_lines(rt.alloc(), &mut for_one(rt.alloc(), 64, 100)?, lines)
+    check_one(rt.alloc(), 64, 100, lines)
 }
 
 /// The operations that rebuild a version: with a dropped number, an attribute outside its index,
@@ -169,7 +184,7 @@ state => new / set 1 \"k\" LONG 5 / new / drop 2 / mkindex \"j\" LONG / mkindex 
 0 unpin => ok
 state => new / set 1 \"j\" LONG 7 / set 1 \"k\" LONG 5 / new / drop 2 / new / mkindex \"k\" LONG / \
      set 3 \"k\" LONG 8";
-    check_lines(rt.alloc(), &mut for_two(rt.alloc(), 64, 100)?, lines)
+    check_two(rt.alloc(), 64, 100, lines)
 }
 
 /// A text, repeated `count` times.
@@ -225,11 +240,7 @@ fn lines_of_64(alloc: Global) -> Result<String, AllocError> {
 #[test]
 fn batches_in_store(rt: HostRuntime) -> Result<(), Fail> {
     let lines = lines_of_64(rt.alloc())?;
-    check_lines(
-        rt.alloc(),
-        &mut for_two(rt.alloc(), 32, 100)?,
-        lines.as_str(),
-    )
+    check_two(rt.alloc(), 32, 100, lines.as_str())
 }
 
 /// Sets 64 attributes of node 1, named by number.
@@ -354,7 +365,7 @@ fn list_at_full(rt: HostRuntime) -> Result<(), Fail> {
 0 new;new / 0 drop 1;new;new / 0 new;drop 9 => refused 11 Full 0 / refused 11 Full 0 / refused 2 \
          NoNode
 1 unpin / 0 new;new => ok / commit 4 / node 4 / node 5";
-    check_lines(rt.alloc(), &mut for_two(rt.alloc(), 8, 100)?, lines)
+    check_two(rt.alloc(), 8, 100, lines)
 }
 
 /// What is refused and what is read in a full pool with this many nodes.
@@ -376,14 +387,21 @@ fn fill_with_nodes(alloc: Global, room: &mut Room) -> Result<u64, Fail> {
     Ok(made)
 }
 
+/// How many nodes the smallest pool takes, the journal's length, and whether the journal is legal.
+fn fill_smallest(alloc: Global) -> Result<(u64, u64, bool), Fail> {
+    let mut room = for_one(alloc, 8, 100)?;
+    let made = fill_with_nodes(alloc, &mut room)?;
+    let (length, is_legal) = room.close(alloc)?;
+    Ok((made, length, is_legal))
+}
+
 /// In the smallest pool, writes end with Full of the number of nodes made. The volume's errors,
 /// reads and the journal still work.
 #[test]
 fn smallest_pool(rt: HostRuntime) -> Result<(), Fail> {
-    let mut room = for_one(rt.alloc(), 8, 100)?;
-    let made = fill_with_nodes(rt.alloc(), &mut room)?;
+    let (made, length, is_legal) = fill_smallest(rt.alloc())?;
     assert!(rt; made >= 13 && made < 37);
-    assert_eq!(rt; room.close(rt.alloc()), Ok((made, true)));
+    assert!(rt; length == made && is_legal);
     Ok(())
 }
 
@@ -444,24 +462,35 @@ fn dropped_pass(rt: HostRuntime) -> Result<(), Fail> {
     Ok(())
 }
 
+/// Whether all writes of two threads were accepted, and whether the journal has each exactly once.
+fn race<R: Threads + Sync>(rt: &R, alloc: Global) -> Result<(bool, bool), Refusal> {
+    let room = for_two(alloc, 64, 1000)?;
+    let (journal, is_accepted) = room.race(rt, alloc)?;
+    Ok((is_accepted, has_hundred_by_each(&journal)?))
+}
+
 /// Two threads write. The journal has each write of both exactly once, and is legal.
 #[test]
 fn two_writers(rt: HostRuntime) -> Result<(), Fail> {
-    let room = for_two(rt.alloc(), 64, 1000)?;
-    let (journal, is_accepted) = room.race(&rt, rt.alloc())?;
+    let (is_accepted, has_each) = race(&rt, rt.alloc())?;
     assert!(rt; is_accepted);
-    assert!(rt; has_hundred_by_each(&journal)?);
+    assert!(rt; has_each);
     Ok(())
+}
+
+/// A pass joins a witness on its own thread. Returns the number of its pin, and whether all writes
+/// of the other pass were accepted.
+fn hand<R: Threads + Sync>(rt: &R, alloc: Global, room: &mut Room) -> Result<(u64, bool), Fail> {
+    let lines = "0 new;new / seen => commit 1 / node 1 / node 2 / seen 1 0";
+    check_lines(alloc, room, lines)?;
+    Ok(room.hand(rt)?)
 }
 
 /// A pass joins a witness on its own thread, and pins what the witness had seen, or more, while the
 /// other pass writes. There are enough pages for all writes and the pin.
 #[test]
 fn handed_to_a_thread(rt: HostRuntime) -> Result<(), Fail> {
-    let mut room = for_two(rt.alloc(), 1024, 1000)?;
-    let lines = "0 new;new / seen => commit 1 / node 1 / node 2 / seen 1 0";
-    check_lines(rt.alloc(), &mut room, lines)?;
-    let (number, is_accepted) = room.hand(&rt)?;
+    let (number, is_accepted) = hand(&rt, rt.alloc(), &mut for_two(rt.alloc(), 1024, 1000)?)?;
     assert!(rt; is_accepted);
     assert!(rt; number >= 1);
     Ok(())
@@ -482,11 +511,11 @@ fn writes_on_what_was_read(rt: HostRuntime) -> Result<(), Fail> {
          none
 0 if 2 new / 0 if 4 new / 0 if 3 drop 9 / 0 if 3 drop 3 => conflict 3 / conflict 3 / refused 2 \
          NoNode / commit 4 / ok";
-    check_lines(rt.alloc(), &mut for_two(rt.alloc(), 64, 4)?, lines)?;
+    check_two(rt.alloc(), 64, 4, lines)?;
     let spent =
         "0 new / 0 if 0 new / 0 if 1 drop 9 / 0 if 1 new => commit 1 / node 1 / conflict 1 / \
          refused 2 NoNode / refused 9 CommitsSpent";
-    check_lines(rt.alloc(), &mut for_one(rt.alloc(), 64, 1)?, spent)
+    check_one(rt.alloc(), 64, 1, spent)
 }
 
 /// The journal's entries from any index on, up to any number of them.
@@ -500,7 +529,7 @@ fn entries_of_the_journal(rt: HostRuntime) -> Result<(), Fail> {
 1 entries 1 1 / 1 entries 2 1 => 2 by 1 set 1 \"k\" LONG 5 -> ok / 3 by 0 drop 2 -> ok
 1 entries 0 0 / 1 entries 3 9 / 1 entries 18446744073709551615 18446744073709551615 / 1 next => \
          next 3";
-    check_lines(rt.alloc(), &mut for_two(rt.alloc(), 64, 9)?, lines)
+    check_two(rt.alloc(), 64, 9, lines)
 }
 
 /// Writes lists of different kinds: new nodes and a dropped one, an attribute outside its index and
@@ -534,12 +563,19 @@ fn carry<R: Threads + Sync>(rt: &R, alloc: Global, room: &mut Room) -> Result<bo
     Ok(is_accepted)
 }
 
+/// The same for the state that those lists make. Then it pins once more.
+fn carry_between<R: Threads + Sync>(rt: &R, alloc: Global, room: &mut Room) -> Result<bool, Fail> {
+    write_and_pin(alloc, room)?;
+    let is_accepted = carry(rt, alloc, room)?;
+    check_lines(alloc, room, "0 unpin / 0 pin => ok / pin 167")?;
+    Ok(is_accepted)
+}
+
 /// A state is written to a second store while another thread writes. It is the pinned state, and
 /// all writes are accepted.
 #[test]
 fn carried_meanwhile(rt: HostRuntime) -> Result<(), Fail> {
-    let mut room = for_two(rt.alloc(), 1024, 1000)?;
-    write_and_pin(rt.alloc(), &mut room)?;
-    assert!(rt; carry(&rt, rt.alloc(), &mut room)?);
-    check_lines(rt.alloc(), &mut room, "0 unpin / 0 pin => ok / pin 167")
+    let is_accepted = carry_between(&rt, rt.alloc(), &mut for_two(rt.alloc(), 1024, 1000)?)?;
+    assert!(rt; is_accepted);
+    Ok(())
 }

@@ -18,6 +18,12 @@ use be_value::Refusal;
 use be_volume::Op;
 use std::alloc::Global;
 use std::test::Fail;
+use std::thread::Threads;
+
+/// Fails unless a room of 64 pages gives these replies.
+fn check(alloc: Global, lines: &str) -> Result<(), Fail> {
+    check_lines(alloc, &mut opened(alloc, 64)?, lines)
+}
 
 /// Limits out of range are refused with BadLimits; the smallest valid ones open a table with one
 /// seat.
@@ -45,7 +51,7 @@ fn open_limits(rt: HostRuntime) -> Result<(), Fail> {
 fn busy(rt: HostRuntime) -> Result<(), Fail> {
     let lines = "hold lock, pin | seen => refused 1 Busy 0 / pin 0 / 0
 1 lock => 0";
-    check_lines(rt.alloc(), &mut opened(rt.alloc(), 64)?, lines)
+    check(rt.alloc(), lines)
 }
 
 /// Each of three passes learns which of the others has the lock.
@@ -53,14 +59,14 @@ fn busy(rt: HostRuntime) -> Result<(), Fail> {
 fn busy_of_three(rt: HostRuntime) -> Result<(), Fail> {
     let lines = "turn / turn / hold lock | lock => refused 1 Busy 2 / refused 1 Busy 2
 turn / turn / hold lock | lock => refused 1 Busy 1 / refused 1 Busy 1";
-    check_lines(rt.alloc(), &mut opened(rt.alloc(), 64)?, lines)
+    check(rt.alloc(), lines)
 }
 
 /// While a pass holds the lock, another pins and reads: before the write is published, and after.
 #[test]
 fn reading_under_held_lock(rt: HostRuntime) -> Result<(), Fail> {
     let lines = "between pin | read, look, unpin, pin, read => pin 0 / 1 / 1 / 1 / ok / pin 1 / 2";
-    check_lines(rt.alloc(), &mut opened(rt.alloc(), 64)?, lines)
+    check(rt.alloc(), lines)
 }
 
 /// A pinned version is the volume after the entries up to it, while a later write changes the
@@ -71,20 +77,20 @@ fn pinned_volume(rt: HostRuntime) -> Result<(), Fail> {
 0 set 1 size LONG 6;rmindex size / 1 get 1 size => 2 / LONG 5 / LONG / LONG 5
 1 unpin / 1 pin / 1 get 1 size => ok / pin 2 / LONG 6 / none / LONG 6
 1 get 2 size => none / none / none";
-    check_lines(rt.alloc(), &mut opened(rt.alloc(), 64)?, lines)
+    check(rt.alloc(), lines)
 }
 
 #[test]
 fn stale_announcement(rt: HostRuntime) -> Result<(), Fail> {
     let lines = "0 new / 0 new / late 8 => 1 / 2 / 2 / 10
 0 scan / 1 unpin / 0 scan => 2 / ok / 10";
-    check_lines(rt.alloc(), &mut opened(rt.alloc(), 64)?, lines)
+    check(rt.alloc(), lines)
 }
 
 #[test]
 fn meeting(rt: HostRuntime) -> Result<(), Fail> {
     let lines = "0 new / 1 seen / meet / 0 seen / 1 seen => 1 / 0 / 1 / 1 / 1";
-    check_lines(rt.alloc(), &mut opened(rt.alloc(), 64)?, lines)
+    check(rt.alloc(), lines)
 }
 
 /// Creates nodes until a scan is due, and returns how many it created. BadLimits if no scan is due
@@ -129,15 +135,22 @@ fn scans_early(alloc: Global, room: &mut Room) -> Result<bool, Fail> {
 /// page, and three once it has an inner page.
 #[test]
 fn scan_due(rt: HostRuntime) -> Result<(), Fail> {
-    assert!(rt; scans_early(rt.alloc(), &mut opened(rt.alloc(), 1024)?)?);
+    let is_early = scans_early(rt.alloc(), &mut opened(rt.alloc(), 1024)?)?;
+    assert!(rt; is_early);
     Ok(())
+}
+
+/// Whether all nodes of two threads were entered, and whether the journal has each exactly once.
+fn race_of_two<R: Threads + Sync>(rt: &R, alloc: Global) -> Result<(bool, bool), Refusal> {
+    let (journal, entered) = race(rt, alloc)?;
+    Ok((entered, has_hundred_by_each(&journal)?))
 }
 
 /// Two passes make a hundred nodes each, each on its own thread.
 #[test]
 fn two_writers(rt: HostRuntime) -> Result<(), Fail> {
-    let (journal, entered) = race(&rt, rt.alloc())?;
+    let (entered, has_each) = race_of_two(&rt, rt.alloc())?;
     assert!(rt; entered);
-    assert!(rt; has_hundred_by_each(&journal)?);
+    assert!(rt; has_each);
     Ok(())
 }

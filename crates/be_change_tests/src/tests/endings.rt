@@ -2,18 +2,21 @@
 ghost use Rattle.be_store.specs.Passes.{IsPassOf};
 
 use crate::tests::steps::{
-    abandoned, collected, current_number, ended, make_first, open_for_one, open_for_two,
-    set_and_end,
+    abandoned, begun, current_number, ended, new_node, open_for_one, open_for_two, remove,
+    set_and_end, unset, write,
 };
 use be_change::{Change, Ended, Kinds};
 use be_store::{Name, Pass, Refusal, Store};
 use std::alloc::Global;
 
+/// The list that makes node 1 with the number 1.
+const FIRST: &str = "new;set 1 a LLNG 1";
+
 /// Makes this many nodes, and returns the number of the last.
 fn make_nodes(change: &mut Change, count: u64) -> Result<u64, Refusal> {
     let mut last = 0;
     for _ in 0..count {
-        last = collected(change.new_node())?;
+        last = new_node(change)?;
     }
     Ok(last)
 }
@@ -23,23 +26,77 @@ fn next_number(store: &Store, alloc: Global, pass: &mut Pass) -> Result<u64, Ref
     requires { IsPassOf store.now pass.old }
     ensures { IsPassOf store.now pass.new }
 {
-    let mut change = Change::begin(alloc, store, pass, Kinds::Checked)?;
-    let next = change.new_node();
+    let mut change = begun(store, alloc, pass, Kinds::Checked)?;
+    let next = new_node(&mut change);
     abandoned(change, store, pass);
-    collected(next)
+    next
+}
+
+/// Makes this many nodes with a change. Returns the change's commit number, and the last number
+/// that it returned.
+fn write_nodes(
+    store: &Store,
+    alloc: Global,
+    pass: &mut Pass,
+    count: u64,
+) -> Result<(u64, u64), Refusal>
+    requires { IsPassOf store.now pass.old }
+    ensures { IsPassOf store.now pass.new }
+{
+    let mut change = begun(store, alloc, pass, Kinds::Checked)?;
+    let last = make_nodes(&mut change, count)?;
+    match ended(change, store, pass)? {
+        Ended::Accepted(number) => Ok((number, last)),
+        _ => Err(Refusal::BadLimits),
+    }
+}
+
+/// The same, with the next node's number after the change between the two.
+fn written_in(
+    store: &Store,
+    alloc: Global,
+    pass: &mut Pass,
+    count: u64,
+) -> Result<(u64, u64, u64), Refusal>
+    requires { IsPassOf store.now pass.old }
+    ensures { IsPassOf store.now pass.new }
+{
+    let (number, last) = write_nodes(store, alloc, pass, count)?;
+    let next = next_number(store, alloc, pass)?;
+    Ok((number, next, last))
 }
 
 /// Makes this many nodes with a change on an empty store. Returns the change's commit number, the
 /// next node's number after it, and the last number that it returned.
 pub(crate) fn written_of(alloc: Global, count: u64) -> Result<(u64, u64, u64), Refusal> {
     let (store, mut pass) = open_for_one(alloc, 100)?;
-    let mut change = Change::begin(alloc, &store, &mut pass, Kinds::Checked)?;
-    let last = make_nodes(&mut change, count)?;
-    let Ended::Accepted(number) = ended(change, &store, &mut pass)? else {
-        return Err(Refusal::BadLimits);
-    };
-    let next = next_number(&store, alloc, &mut pass)?;
-    Ok((number, next, last))
+    written_in(&store, alloc, &mut pass, count)
+}
+
+/// Sets the number of node 1 with a change. Returns whether it was written.
+fn write_number(store: &Store, alloc: Global, pass: &mut Pass, number: i64) -> Result<bool, Refusal>
+    requires { IsPassOf store.now pass.old }
+    ensures { IsPassOf store.now pass.new }
+{
+    let change = begun(store, alloc, pass, Kinds::Checked)?;
+    set_and_end(change, store, pass, 1, number)
+}
+
+/// Whether a change has to be repeated, if another pass wrote a 7 since it began.
+fn is_too_late(
+    store: &Store,
+    alloc: Global,
+    first: &mut Pass,
+    second: &mut Pass,
+) -> Result<bool, Refusal>
+    requires passes { IsPassOf store.now first.old × IsPassOf store.now second.old }
+    ensures passes { IsPassOf store.now first.new × IsPassOf store.now second.new }
+{
+    let change = begun(store, alloc, first, Kinds::Checked)?;
+    let other = write_number(store, alloc, second, 7);
+    let is_written = set_and_end(change, store, first, 1, 8)?;
+    other?;
+    Ok(!is_written)
 }
 
 /// Whether a change has to be repeated, if another pass wrote a 7 since it began. Also the number
@@ -53,14 +110,10 @@ fn against(
     requires passes { IsPassOf store.now first.old × IsPassOf store.now second.old }
     ensures passes { IsPassOf store.now first.new × IsPassOf store.now second.new }
 {
-    make_first(store, second, 1)?;
-    let change = Change::begin(alloc, store, first, Kinds::Checked)?;
-    let other = Change::begin(alloc, store, second, Kinds::Checked)?;
-    set_and_end(other, store, second, 1, 7)?;
-    let again = !set_and_end(change, store, first, 1, 8)?;
+    write(store, alloc, second, FIRST)?;
+    let again = is_too_late(store, alloc, first, second)?;
     let before = current_number(store, alloc, second, 1)?;
-    let change = Change::begin(alloc, store, first, Kinds::Checked)?;
-    set_and_end(change, store, first, 1, 8)?;
+    write_number(store, alloc, first, 8)?;
     let after = current_number(store, alloc, second, 1)?;
     Ok((again, before, after))
 }
@@ -83,14 +136,26 @@ fn refusal_of(change: Change, store: &Store, pass: &mut Pass) -> Result<Refusal,
     }
 }
 
+/// Makes a node, and removes a node that doesn't exist.
+fn remove_ninth(change: &mut Change) -> Result<(), Refusal> {
+    new_node(change)?;
+    remove(change, 9)
+}
+
+/// Makes a node, and removes an attribute that it doesn't have.
+fn unset_new(change: &mut Change) -> Result<(), Refusal> {
+    let name = Name::new("a")?;
+    let node = new_node(change)?;
+    unset(change, node, &name)
+}
+
 /// The error of a change that sets an attribute of a node that doesn't exist.
 fn without_node(store: &Store, alloc: Global, pass: &mut Pass) -> Result<Refusal, Refusal>
     requires { IsPassOf store.now pass.old }
     ensures { IsPassOf store.now pass.new }
 {
-    let mut change = Change::begin(alloc, store, pass, Kinds::Checked)?;
-    collected(change.new_node())?;
-    collected(change.remove_node(9))?;
+    let mut change = begun(store, alloc, pass, Kinds::Checked)?;
+    remove_ninth(&mut change)?;
     refusal_of(change, store, pass)
 }
 
@@ -99,9 +164,8 @@ fn without_attribute(store: &Store, alloc: Global, pass: &mut Pass) -> Result<Re
     requires { IsPassOf store.now pass.old }
     ensures { IsPassOf store.now pass.new }
 {
-    let mut change = Change::begin(alloc, store, pass, Kinds::Checked)?;
-    let node = collected(change.new_node())?;
-    collected(change.unset(node, Name::new("a")?))?;
+    let mut change = begun(store, alloc, pass, Kinds::Checked)?;
+    unset_new(&mut change)?;
     refusal_of(change, store, pass)
 }
 
@@ -110,39 +174,81 @@ fn without_room(store: &Store, alloc: Global, pass: &mut Pass) -> Result<Refusal
     requires { IsPassOf store.now pass.old }
     ensures { IsPassOf store.now pass.new }
 {
-    let mut change = Change::begin(alloc, store, pass, Kinds::Checked)?;
-    collected(change.new_node())?;
+    let mut change = begun(store, alloc, pass, Kinds::Checked)?;
+    new_node(&mut change)?;
     refusal_of(change, store, pass)
 }
 
 /// The errors of three changes, the last one at the journal's limit; and the next node's number
 /// before that one.
+fn refusals_in(
+    store: &Store,
+    alloc: Global,
+    pass: &mut Pass,
+) -> Result<(Refusal, Refusal, Refusal, u64), Refusal>
+    requires { IsPassOf store.now pass.old }
+    ensures { IsPassOf store.now pass.new }
+{
+    let node = without_node(store, alloc, pass)?;
+    let attribute = without_attribute(store, alloc, pass)?;
+    let next = next_number(store, alloc, pass)?;
+    write(store, alloc, pass, FIRST)?;
+    let room = without_room(store, alloc, pass)?;
+    Ok((node, attribute, room, next))
+}
+
+/// The same in a store for one write.
 pub(crate) fn refusals(alloc: Global) -> Result<(Refusal, Refusal, Refusal, u64), Refusal> {
     let (store, mut pass) = open_for_one(alloc, 1)?;
-    let node = without_node(&store, alloc, &mut pass)?;
-    let attribute = without_attribute(&store, alloc, &mut pass)?;
-    let next = next_number(&store, alloc, &mut pass)?;
-    make_first(&store, &mut pass, 1)?;
-    let room = without_room(&store, alloc, &mut pass)?;
-    Ok((node, attribute, room, next))
+    refusals_in(&store, alloc, &mut pass)
+}
+
+/// The pin after a change.
+fn pin_after_end(store: &Store, alloc: Global, pass: &mut Pass) -> Result<Option<u64>, Refusal>
+    requires { IsPassOf store.now pass.old }
+    ensures { IsPassOf store.now pass.new }
+{
+    let change = begun(store, alloc, pass, Kinds::Checked)?;
+    ended(change, store, pass)?;
+    Ok(pass.pinned())
+}
+
+/// The pin after a change that is abandoned.
+fn pin_after_none(store: &Store, alloc: Global, pass: &mut Pass) -> Result<Option<u64>, Refusal>
+    requires { IsPassOf store.now pass.old }
+    ensures { IsPassOf store.now pass.new }
+{
+    let change = begun(store, alloc, pass, Kinds::Checked)?;
+    abandoned(change, store, pass);
+    Ok(pass.pinned())
+}
+
+/// Pins the pass if it isn't pinned.
+fn pin(store: &Store, pass: &mut Pass)
+    requires { IsPassOf store.now pass.old }
+    ensures { IsPassOf store.now pass.new }
+{
+    if pass.pinned().is_none() {
+        store.pin(pass);
+    }
+}
+
+type Pin = Option<u64>;
+
+/// The three pins that `keeps_pins` returns.
+fn pins_in(store: &Store, alloc: Global, pass: &mut Pass) -> Result<(Pin, Pin, Pin), Refusal>
+    requires { IsPassOf store.now pass.old }
+    ensures { IsPassOf store.now pass.new }
+{
+    let after_end = pin_after_end(store, alloc, pass)?;
+    let after_abandon = pin_after_none(store, alloc, pass)?;
+    pin(store, pass);
+    Ok((after_end, after_abandon, pin_after_end(store, alloc, pass)?))
 }
 
 /// The pin after a change by a pass that wasn't pinned, after one that was abandoned, and after one
 /// by a pass that was pinned.
-pub(crate) fn keeps_pins(
-    alloc: Global,
-) -> Result<(Option<u64>, Option<u64>, Option<u64>), Refusal> {
+pub(crate) fn keeps_pins(alloc: Global) -> Result<(Pin, Pin, Pin), Refusal> {
     let (store, mut pass) = open_for_one(alloc, 100)?;
-    let change = Change::begin(alloc, &store, &mut pass, Kinds::Checked)?;
-    ended(change, &store, &mut pass)?;
-    let after_end = pass.pinned();
-    let change = Change::begin(alloc, &store, &mut pass, Kinds::Checked)?;
-    abandoned(change, &store, &mut pass);
-    let after_abandon = pass.pinned();
-    if after_abandon.is_none() {
-        store.pin(&mut pass);
-    }
-    let change = Change::begin(alloc, &store, &mut pass, Kinds::Checked)?;
-    ended(change, &store, &mut pass)?;
-    Ok((after_end, after_abandon, pass.pinned()))
+    pins_in(&store, alloc, &mut pass)
 }

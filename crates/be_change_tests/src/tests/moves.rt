@@ -1,11 +1,12 @@
 //! Two threads that move amounts from one node to another with changes.
+ghost use Rattle.std.specs.Prelude.{IfOk};
 ghost use Rattle.be_store.specs.Passes.{IsPassOf};
 
 use crate::tests::steps::{
-    TRIES, abandoned, collected, current_number, ended, is_accepted, number_at,
+    TRIES, abandoned, begun, current_number, ended, is_accepted, number_at, set, write,
 };
 use be_change::{Change, Kinds};
-use be_store::{Limits, Name, Op, Pass, Refusal, Store, Value};
+use be_store::{Limits, Name, Pass, Refusal, Store};
 use std::alloc::{AllocGlobal, Global};
 use std::thread;
 use std::thread::Threads;
@@ -23,13 +24,9 @@ fn collect_move(
 {
     let name = Name::new("a")?;
     let from = number_at(change, store, pass, nodes.0, &name).unwrap_or(0);
-    collected(change.set(
-        nodes.0,
-        name.copy(),
-        Value::int64(from.saturating_sub(amount)),
-    ))?;
+    set(change, nodes.0, &name, from.saturating_sub(amount))?;
     let to = number_at(change, store, pass, nodes.1, &name).unwrap_or(0);
-    collected(change.set(nodes.1, name, Value::int64(to.saturating_add(amount))))
+    set(change, nodes.1, &name, to.saturating_add(amount))
 }
 
 /// One attempt to move. Returns whether it was written.
@@ -43,7 +40,7 @@ fn try_move(
     requires { IsPassOf store.now pass.old }
     ensures { IsPassOf store.now pass.new }
 {
-    let mut change = Change::begin(alloc, store, pass, Kinds::Checked)?;
+    let mut change = begun(store, alloc, pass, Kinds::Checked)?;
     match collect_move(&mut change, store, pass, nodes, amount) {
         Ok(()) => Ok(is_accepted(ended(change, store, pass)?)),
         Err(refusal) => {
@@ -96,17 +93,6 @@ fn move_often(
     Ok(())
 }
 
-/// Makes two nodes with 1,000 each.
-fn make_both(store: &Store, pass: &mut Pass) -> Result<(), Refusal>
-    requires { IsPassOf store.now pass.old }
-    ensures { IsPassOf store.now pass.new }
-{
-    let first = Op::Set(1, Name::new("a")?, Value::int64(1000));
-    let second = Op::Set(2, Name::new("a")?, Value::int64(1000));
-    store.apply(pass, &[Op::New, Op::New, first, second])?;
-    Ok(())
-}
-
 /// One thread moves 1 from the first node to the second 200 times, and another moves 2 back 200
 /// times.
 fn move_by_two<R: AllocGlobal + Threads + Sync>(
@@ -127,25 +113,54 @@ fn move_by_two<R: AllocGlobal + Threads + Sync>(
     other
 }
 
-/// Lets two threads move. Returns what the nodes have then.
-pub(crate) fn move_both_ways<R: AllocGlobal + Threads + Sync>(
-    rt: &R,
-) -> Result<(i64, i64), Refusal> {
-    // There are so many pages that no schedule leaves a write without one, however long the other
-    // thread is pinned.
+/// A store with three passes. There are so many pages that no schedule leaves a write without one,
+/// however long the other thread is pinned.
+fn open_for_three(alloc: Global) -> Result<(Store, Pass, Pass, Pass), Refusal>
+    ensures { IfOk result (λ r. IsPassOf r.0 r.1 × IsPassOf r.0 r.2 × IsPassOf r.0 r.3) }
+{
     let limits = Limits {
         pages: 4096,
         passes: 3,
         commits: 1000,
     };
-    let (store, mut passes) = Store::open(rt.alloc(), limits)?;
-    let (Some(mut reader), Some(second), Some(first)) = (passes.pop(), passes.pop(), passes.pop())
-    else {
-        unreachable!()
-    };
-    make_both(&store, &mut reader)?;
-    move_by_two(rt, &store, first, second)?;
-    let first = current_number(&store, rt.alloc(), &mut reader, 1)?.unwrap_or(0);
-    let second = current_number(&store, rt.alloc(), &mut reader, 2)?.unwrap_or(0);
+    let (store, mut passes) = Store::open(alloc, limits)?;
+    match (passes.pop(), passes.pop(), passes.pop()) {
+        (Some(third), Some(second), Some(first)) => Ok((store, first, second, third)),
+        _ => Err(Refusal::BadLimits),
+    }
+}
+
+/// The numbers of both nodes.
+fn read_both(store: &Store, alloc: Global, pass: &mut Pass) -> Result<(i64, i64), Refusal>
+    requires { IsPassOf store.now pass.old }
+    ensures { IsPassOf store.now pass.new }
+{
+    let first = current_number(store, alloc, pass, 1)?.unwrap_or(0);
+    let second = current_number(store, alloc, pass, 2)?.unwrap_or(0);
     Ok((first, second))
+}
+
+/// Makes two nodes with 1,000 each, and lets two threads move. Returns what the nodes have then.
+fn move_between<R: AllocGlobal + Threads + Sync>(
+    rt: &R,
+    store: &Store,
+    first: Pass,
+    second: Pass,
+    reader: &mut Pass,
+) -> Result<(i64, i64), Refusal>
+    requires threads { IsPassOf store.now first × IsPassOf store.now second }
+    requires reader { IsPassOf store.now reader.old }
+{
+    let list = "new;new;set 1 a LLNG 1000;set 2 a LLNG 1000";
+    write(store, rt.alloc(), reader, list)?;
+    move_by_two(rt, store, first, second)?;
+    read_both(store, rt.alloc(), reader)
+}
+
+/// The same in a new store.
+pub(crate) fn move_both_ways<R: AllocGlobal + Threads + Sync>(
+    rt: &R,
+) -> Result<(i64, i64), Refusal> {
+    let (store, first, second, mut reader) = open_for_three(rt.alloc())?;
+    move_between(rt, &store, first, second, &mut reader)
 }

@@ -2,10 +2,11 @@
 ghost use Rattle.be_store.specs.Passes.{IsPassOf};
 
 use crate::tests::steps::{
-    collected, current_number, ended, is_taken, make_first, number_at, open_for_one,
+    begun, collected, current_number, ended, new_node, number_at, open_for_one, remove, set,
+    takes_number, takes_text, unset, write,
 };
 use be_change::{Change, Kinds};
-use be_store::{Kind, Name, Op, Pass, Refusal, Store, Value};
+use be_store::{Kind, Name, Pass, Refusal, Store};
 use std::alloc::Global;
 
 type Read = Option<i64>;
@@ -22,12 +23,11 @@ fn reads_of_old(
     ensures { IsPassOf store.now pass.new }
 {
     let before = number_at(change, store, pass, 1, name);
-    collected(change.set(1, name.copy(), Value::int64(2)))?;
-    collected(change.set(1, name.copy(), Value::int64(3)))?;
-    let set = number_at(change, store, pass, 1, name);
-    collected(change.unset(1, name.copy()))?;
-    let unset = number_at(change, store, pass, 1, name);
-    Ok((before, set, unset))
+    set(change, 1, name, 2)?;
+    set(change, 1, name, 3)?;
+    let then = number_at(change, store, pass, 1, name);
+    unset(change, 1, name)?;
+    Ok((before, then, number_at(change, store, pass, 1, name)))
 }
 
 /// The number at a new node, as the change reads it before and after setting it.
@@ -40,46 +40,64 @@ fn reads_of_new(
     requires { IsPassOf store.now pass.old }
     ensures { IsPassOf store.now pass.new }
 {
-    let node = collected(change.new_node())?;
+    let node = new_node(change)?;
     let before = number_at(change, store, pass, node, name);
-    collected(change.set(node, name.copy(), Value::int64(5)))?;
-    let set = number_at(change, store, pass, node, name);
-    Ok((before, set))
+    set(change, node, name, 5)?;
+    Ok((before, number_at(change, store, pass, node, name)))
 }
 
-/// Three reads around a change that removes node 1. They are the number at node 2 in the store
-/// afterwards, and at node 1 in the change, after and before the removal.
-fn removes(
-    mut change: Change,
+/// The number at node 1, as the change reads it after removing the node, and before that, after
+/// setting a 1.
+fn reads_of_gone(
+    change: &mut Change,
     store: &Store,
-    alloc: Global,
     pass: &mut Pass,
     name: &Name,
-) -> Result<(Read, Read, Read), Refusal>
+) -> Result<(Read, Read), Refusal>
     requires { IsPassOf store.now pass.old }
     ensures { IsPassOf store.now pass.new }
 {
-    collected(change.set(1, name.copy(), Value::int64(1)))?;
-    let last = number_at(&change, store, pass, 1, name);
-    collected(change.remove_node(1))?;
-    let gone = number_at(&change, store, pass, 1, name);
-    ended(change, store, pass)?;
-    let made = current_number(store, alloc, pass, 2)?;
-    Ok((made, gone, last))
+    set(change, 1, name, 1)?;
+    let last = number_at(change, store, pass, 1, name);
+    remove(change, 1)?;
+    Ok((number_at(change, store, pass, 1, name), last))
 }
 
 type Reads = ((Read, Read, Read), (Read, Read), (Read, Read, Read));
 
+/// What a change reads of an old node, of a new node, and of a node that it removes.
+fn reads_of_each(
+    change: &mut Change,
+    store: &Store,
+    pass: &mut Pass,
+) -> Result<((Read, Read, Read), (Read, Read), (Read, Read)), Refusal>
+    requires { IsPassOf store.now pass.old }
+    ensures { IsPassOf store.now pass.new }
+{
+    let name = Name::new("a")?;
+    let old = reads_of_old(change, store, pass, &name)?;
+    let new = reads_of_new(change, store, pass, &name)?;
+    let gone = reads_of_gone(change, store, pass, &name)?;
+    Ok((old, new, gone))
+}
+
+/// The same, and the number at node 2 in the store afterwards.
+fn reads_in(store: &Store, alloc: Global, pass: &mut Pass) -> Result<Reads, Refusal>
+    requires { IsPassOf store.now pass.old }
+    ensures { IsPassOf store.now pass.new }
+{
+    write(store, alloc, pass, "new;set 1 a LLNG 1")?;
+    let mut change = begun(store, alloc, pass, Kinds::Checked)?;
+    let (old, new, (gone, last)) = reads_of_each(&mut change, store, pass)?;
+    ended(change, store, pass)?;
+    let made = current_number(store, alloc, pass, 2)?;
+    Ok((old, new, (made, gone, last)))
+}
+
 /// What a change reads, given its own operations.
 pub(crate) fn own_reads(alloc: Global) -> Result<Reads, Refusal> {
     let (store, mut pass) = open_for_one(alloc, 100)?;
-    make_first(&store, &mut pass, 1)?;
-    let name = Name::new("a")?;
-    let mut change = Change::begin(alloc, &store, &mut pass, Kinds::Checked)?;
-    let old = reads_of_old(&mut change, &store, &mut pass, &name)?;
-    let new = reads_of_new(&mut change, &store, &mut pass, &name)?;
-    let last = removes(change, &store, alloc, &mut pass, &name)?;
-    Ok((old, new, last))
+    reads_in(&store, alloc, &mut pass)
 }
 
 /// A store with an index of texts, and a change in it.
@@ -92,46 +110,74 @@ fn with_index(
     requires { IsPassOf store.now pass.old }
     ensures { IsPassOf store.now pass.new }
 {
-    let index = Op::MkIndex(Name::new("a")?, Kind::Cstr);
-    store.apply(pass, &[Op::New, index])?;
-    Change::begin(alloc, store, pass, kinds)
+    write(store, alloc, pass, "new;mkindex a CSTR")?;
+    begun(store, alloc, pass, kinds)
 }
 
 /// Whether a change accepts a number at a name with an index of texts, a text there, and a number
 /// at another name.
 fn taken_by_snapshot(change: &mut Change) -> Result<(bool, bool, bool), Refusal> {
-    let number = is_taken(change.set(1, Name::new("a")?, Value::int64(1)))?;
-    let text = is_taken(change.set(1, Name::new("a")?, Value::text("x")?))?;
-    let other = is_taken(change.set(1, Name::new("b")?, Value::int64(1)))?;
+    let number = takes_number(change, "a")?;
+    let text = takes_text(change, "a")?;
+    let other = takes_number(change, "b")?;
     Ok((number, text, other))
+}
+
+fn remove_index(change: &mut Change) -> Result<(), Refusal> {
+    let name = Name::new("a")?;
+    collected(change.remove_index(name))
+}
+
+fn make_index(change: &mut Change) -> Result<(), Refusal> {
+    let name = Name::new("a")?;
+    collected(change.make_index(name, Kind::Llng))
 }
 
 /// Whether a change accepts a number once it has removed the index. Then, whether it accepts a text
 /// and a number once it has made an index of numbers.
 fn taken_by_change(change: &mut Change) -> Result<(bool, bool, bool), Refusal> {
-    collected(change.remove_index(Name::new("a")?))?;
-    let removed = is_taken(change.set(1, Name::new("a")?, Value::int64(1)))?;
-    collected(change.make_index(Name::new("a")?, Kind::Llng))?;
-    let text = is_taken(change.set(1, Name::new("a")?, Value::text("x")?))?;
-    let number = is_taken(change.set(1, Name::new("a")?, Value::int64(1)))?;
+    remove_index(change)?;
+    let removed = takes_number(change, "a")?;
+    make_index(change)?;
+    let text = takes_text(change, "a")?;
+    let number = takes_number(change, "a")?;
     Ok((removed, text, number))
 }
 
 type Taken = ((bool, bool, bool), (bool, bool, bool));
 
+fn taken_by_each(change: &mut Change) -> Result<Taken, Refusal> {
+    let before = taken_by_snapshot(change)?;
+    let after = taken_by_change(change)?;
+    Ok((before, after))
+}
+
+fn kinds_in(store: &Store, alloc: Global, pass: &mut Pass) -> Result<Taken, Refusal>
+    requires { IsPassOf store.now pass.old }
+    ensures { IsPassOf store.now pass.new }
+{
+    let mut change = with_index(store, alloc, pass, Kinds::Checked)?;
+    let taken = taken_by_each(&mut change)?;
+    ended(change, store, pass)?;
+    Ok(taken)
+}
+
 /// Which kinds a change accepts if it checks them.
 pub(crate) fn kinds_taken(alloc: Global) -> Result<Taken, Refusal> {
     let (store, mut pass) = open_for_one(alloc, 100)?;
-    let mut change = with_index(&store, alloc, &mut pass, Kinds::Checked)?;
-    let before = taken_by_snapshot(&mut change)?;
-    let after = taken_by_change(&mut change)?;
-    ended(change, &store, &mut pass)?;
-    Ok((before, after))
+    kinds_in(&store, alloc, &mut pass)
+}
+
+fn takes_unchecked(store: &Store, alloc: Global, pass: &mut Pass) -> Result<bool, Refusal>
+    requires { IsPassOf store.now pass.old }
+    ensures { IsPassOf store.now pass.new }
+{
+    let mut change = with_index(store, alloc, pass, Kinds::Unchecked)?;
+    takes_number(&mut change, "a")
 }
 
 /// Whether a change that doesn't check kinds accepts a number at a name with an index of texts.
 pub(crate) fn unchecked_kinds(alloc: Global) -> Result<bool, Refusal> {
     let (store, mut pass) = open_for_one(alloc, 100)?;
-    let mut change = with_index(&store, alloc, &mut pass, Kinds::Unchecked)?;
-    is_taken(change.set(1, Name::new("a")?, Value::int64(1)))
+    takes_unchecked(&store, alloc, &mut pass)
 }

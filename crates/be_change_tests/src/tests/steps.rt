@@ -1,11 +1,12 @@
 //! Calls on a change with a pass about which only its store is known. Each call checks whether the
-//! pass is pinned, and returns BadLimits if it isn't.
+//! pass is pinned, and returns BadLimits if it isn't. What else a call promises is dropped by the
+//! helper that makes it.
 ghost use Rattle.std.specs.Prelude.{IfOk};
 ghost use Rattle.be_store.specs.Passes.{IsPassOf};
 
 use be_change::{Change, CollectError, Ended, Kinds};
 use be_store::{Limits, Name, Op, Pass, Refusal, Store, Value};
-use be_test_tools::both_of;
+use be_test_tools::{both_of, list_of};
 use std::alloc::Global;
 
 /// The maximum number of tries of a write while another pass holds the lock.
@@ -30,6 +31,52 @@ pub(crate) fn is_taken(answer: Result<(), CollectError>) -> Result<bool, Refusal
             Ok(true)
         }
     }
+}
+
+/// Makes a node, and returns its number.
+pub(crate) fn new_node(change: &mut Change) -> Result<u64, Refusal> {
+    collected(change.new_node())
+}
+
+/// Removes a node.
+pub(crate) fn remove(change: &mut Change, node: u64) -> Result<(), Refusal> {
+    collected(change.remove_node(node))
+}
+
+/// Sets an attribute to a number.
+pub(crate) fn set(change: &mut Change, node: u64, name: &Name, number: i64) -> Result<(), Refusal> {
+    collected(change.set(node, name.copy(), Value::int64(number)))
+}
+
+/// Removes an attribute.
+pub(crate) fn unset(change: &mut Change, node: u64, name: &Name) -> Result<(), Refusal> {
+    collected(change.unset(node, name.copy()))
+}
+
+/// Whether the change accepts a number at this name of node 1.
+pub(crate) fn takes_number(change: &mut Change, name: &str) -> Result<bool, Refusal> {
+    let name = Name::new(name)?;
+    is_taken(change.set(1, name, Value::int64(1)))
+}
+
+/// Whether the change accepts a text at this name of node 1.
+pub(crate) fn takes_text(change: &mut Change, name: &str) -> Result<bool, Refusal> {
+    let name = Name::new(name)?;
+    let text = Value::text("x")?;
+    is_taken(change.set(1, name, text))
+}
+
+/// Begins a change.
+pub(crate) fn begun(
+    store: &Store,
+    alloc: Global,
+    pass: &mut Pass,
+    kinds: Kinds,
+) -> Result<Change, Refusal>
+    requires { IsPassOf store.now pass.old }
+    ensures { IsPassOf store.now pass.new }
+{
+    Change::begin(alloc, store, pass, kinds)
 }
 
 /// The number that a node has at the name, as the change reads it.
@@ -82,6 +129,11 @@ pub(crate) fn abandoned(change: Change, store: &Store, pass: &mut Pass)
     }
 }
 
+fn set_first(change: &mut Change, node: u64, number: i64) -> Result<(), Refusal> {
+    let name = Name::new("a")?;
+    set(change, node, &name, number)
+}
+
 /// Sets a number, ends the change, and returns whether it was written.
 pub(crate) fn set_and_end(
     mut change: Change,
@@ -93,14 +145,12 @@ pub(crate) fn set_and_end(
     requires { IsPassOf store.now pass.old }
     ensures { IsPassOf store.now pass.new }
 {
-    let set = Name::new("a").map(|name| change.set(node, name, Value::int64(number)));
-    match set {
-        Ok(Ok(())) => Ok(is_accepted(ended(change, store, pass)?)),
-        Ok(Err(error)) => {
+    match set_first(&mut change, node, number) {
+        Ok(()) => Ok(is_accepted(ended(change, store, pass)?)),
+        Err(refusal) => {
             abandoned(change, store, pass);
-            collected(Err(error))
+            Err(refusal)
         }
-        Err(refusal) => Err(refusal),
     }
 }
 
@@ -115,7 +165,7 @@ pub(crate) fn current_number(
     ensures { IsPassOf store.now pass.new }
 {
     let name = Name::new("a")?;
-    let change = Change::begin(alloc, store, pass, Kinds::Checked)?;
+    let change = begun(store, alloc, pass, Kinds::Checked)?;
     let number = number_at(&change, store, pass, node, &name);
     abandoned(change, store, pass);
     Ok(number)
@@ -151,12 +201,30 @@ pub(crate) fn open_for_two(alloc: Global) -> Result<(Store, Pass, Pass), Refusal
     Ok((store, first, second))
 }
 
-/// Makes node 1 with this number.
-pub(crate) fn make_first(store: &Store, pass: &mut Pass, number: i64) -> Result<(), Refusal>
+/// Writes a list. BadLimits if it has no operations, or more than 64.
+fn apply(store: &Store, pass: &mut Pass, ops: &[Op]) -> Result<(), Refusal>
     requires { IsPassOf store.now pass.old }
     ensures { IsPassOf store.now pass.new }
 {
-    let set = Op::Set(1, Name::new("a")?, Value::int64(number));
-    store.apply(pass, &[Op::New, set])?;
-    Ok(())
+    if ops.is_empty() || ops.len() > 64 {
+        return Err(Refusal::BadLimits);
+    }
+    match store.apply(pass, ops) {
+        Ok(_) => Ok(()),
+        Err(refusal) => Err(refusal),
+    }
+}
+
+/// Writes a list in the script language.
+pub(crate) fn write(
+    store: &Store,
+    alloc: Global,
+    pass: &mut Pass,
+    list: &str,
+) -> Result<(), Refusal>
+    requires { IsPassOf store.now pass.old }
+    ensures { IsPassOf store.now pass.new }
+{
+    let ops = list_of(alloc, list)?;
+    apply(store, pass, ops.as_slice())
 }

@@ -77,14 +77,24 @@ fn count_row(both: Both, node: u64, names: &[HeldName; 3]) -> Cost {
     }
 }
 
+fn held(word: Option<&str>) -> Result<HeldName, Refusal> {
+    let name = Name::new(word.unwrap_or(""))?;
+    Ok(HeldName::new(&name))
+}
+
+/// Three words as names.
+fn three_names(text: &str) -> Result<[HeldName; 3], Refusal> {
+    let mut words = text.split(" ");
+    let first = held(words.next())?;
+    let second = held(words.next())?;
+    Ok([first, second, held(words.next())?])
+}
+
 /// The same, with the node and the names as words.
 fn row_cost(alloc: Global, text: &str) -> Result<Cost, Fail> {
-    let mut words = text.split(" ");
-    let node = word_of(words.next().unwrap_or("").as_bytes()).unwrap_or(0);
-    let mut names = [HeldName::new(&Name::new("none")?); 3];
-    for name in &mut names {
-        *name = HeldName::new(&Name::new(words.next().unwrap_or(""))?);
-    }
+    let (node, names) = text.split_once(" ").unwrap_or((text, ""));
+    let node = word_of(node.as_bytes()).unwrap_or(0);
+    let names = three_names(names)?;
     Ok(count_row(filled(alloc)?, node, &names))
 }
 
@@ -109,18 +119,27 @@ fn answer_pages<L: Look>(
 fn count_query(alloc: Global, both: Both, query: &Query) -> Result<Cost, Refusal> {
     let Both { plain, room, page } = both;
     let (look, nodes) = answer_pages(alloc, &plain, Counted::new(room), page, query);
-    let found = nodes?.len() as u64;
-    Ok(Cost::Read {
-        found,
-        reads: look.reads,
-    })
+    let reads = look.reads;
+    match nodes {
+        Ok(nodes) => Ok(Cost::Read {
+            found: nodes.len() as u64,
+            reads,
+        }),
+        Err(refusal) => Err(refusal),
+    }
+}
+
+/// The same on a new volume.
+fn query_once(alloc: Global, query: &Query) -> Result<Result<Cost, Refusal>, Fail> {
+    let both = filled(alloc)?;
+    Ok(count_query(alloc, both, query))
 }
 
 /// The same for a query's text. If memory runs out, it tries again on a new volume.
 fn query_cost(alloc: Global, text: &str) -> Result<Cost, Fail> {
     let query = read_query(alloc, text)?;
-    match count_query(alloc, filled(alloc)?, &query) {
-        Err(Refusal::OutOfMemory) => Ok(count_query(alloc, filled(alloc)?, &query)?),
+    match query_once(alloc, &query)? {
+        Err(Refusal::OutOfMemory) => Ok(query_once(alloc, &query)??),
         cost => Ok(cost?),
     }
 }
@@ -140,12 +159,17 @@ fn count_again(alloc: Global, both: Both, query: Query) -> Result<Cost, Refusal>
     })
 }
 
-/// The same for a query's text. If memory runs out, it tries again on a new volume.
+/// The same for a query's text, on a new volume.
+fn again_once(alloc: Global, text: &str) -> Result<Result<Cost, Refusal>, Fail> {
+    let query = read_query(alloc, text)?;
+    let both = filled(alloc)?;
+    Ok(count_again(alloc, both, query))
+}
+
+/// The same. If memory runs out, it tries again on a new volume.
 fn again_cost(alloc: Global, text: &str) -> Result<Cost, Fail> {
-    match count_again(alloc, filled(alloc)?, read_query(alloc, text)?) {
-        Err(Refusal::OutOfMemory) => {
-            Ok(count_again(alloc, filled(alloc)?, read_query(alloc, text)?)?)
-        }
+    match again_once(alloc, text)? {
+        Err(Refusal::OutOfMemory) => Ok(again_once(alloc, text)??),
         cost => Ok(cost?),
     }
 }

@@ -19,17 +19,6 @@ pub(crate) fn refused(alloc: Global, refusal: Refusal) -> Result<String, AllocEr
     reply_lines(alloc, &Reply::Refused(refusal))
 }
 
-/// The text of the answer to a read.
-pub(crate) fn answer_text(
-    alloc: Global,
-    answer: Result<Reply, Refusal>,
-) -> Result<String, AllocError> {
-    match answer {
-        Ok(reply) => reply_lines(alloc, &reply),
-        Err(refusal) => refused(alloc, refusal),
-    }
-}
-
 /// The text of the answer to a query.
 pub(crate) fn nodes_text(
     alloc: Global,

@@ -8,7 +8,7 @@ ghost use Rattle.be_paged_reading.specs.Version.{IsVersion};
 use crate::tests::lines::nodes_text;
 use crate::tests::run_lines;
 use crate::tests::test_looks::Before;
-use be_paged_test_tools::{Both, accepts, apply_pages, filled, query_both, read_query};
+use be_paged_test_tools::{Both, Forms, accepts, apply_pages, filled, query_both, read_query};
 use be_pages::{Look, VecRoom};
 use be_test_tools::{Counted, EQUAL_VALUES, again};
 use be_value::Refusal;
@@ -54,6 +54,13 @@ fn expect_counting(alloc: Global, both: Both, text: &str, expected: &str) -> Res
     })
 }
 
+/// Both forms after these lines.
+fn after_lines(alloc: Global, both: Both, lines: &str) -> Result<Both, Fail> {
+    let mut forms = Forms { both: Some(both) };
+    run_lines(alloc, &mut forms, lines)?;
+    forms.take()
+}
+
 /// A walk over a hundred names that reads each node. The version is in the room that comes back,
 /// and can be written to.
 #[test]
@@ -61,7 +68,7 @@ fn counting_look(rt: HostRuntime) -> Result<(), Fail> {
     let query = r#"name=="101*" && size>=2900"#;
     let both = filled(rt.alloc())?;
     let both = expect_counting(rt.alloc(), both, query, "nodes 170 222 274\n")?;
-    let both = run_lines(rt.alloc(), both, "drop 222 => ok")?;
+    let both = after_lines(rt.alloc(), both, "drop 222 => ok")?;
     let _both = expect_counting(rt.alloc(), both, query, "nodes 170 274\n")?;
     Ok(())
 }
@@ -171,6 +178,6 @@ fn drop_of_copy(alloc: Global, both: Both) -> Result<(), Fail> {
 
 #[test]
 fn volume_copy(rt: HostRuntime) -> Result<(), Fail> {
-    let both = run_lines(rt.alloc(), Both::new(rt.alloc(), 64)?, EQUAL_VALUES)?;
+    let both = after_lines(rt.alloc(), Both::new(rt.alloc(), 64)?, EQUAL_VALUES)?;
     drop_of_copy(rt.alloc(), both)
 }

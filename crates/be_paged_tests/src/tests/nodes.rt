@@ -3,7 +3,7 @@
 //!
 //! A row is `FROM MOST => NODES`. If memory runs out, a request is made again, as elsewhere here.
 use crate::tests::sizes::numbered;
-use be_paged_test_tools::Both;
+use be_paged_test_tools::Forms;
 use be_value::{Value, word_of};
 use be_volume::Op;
 use std::alloc::Global;
@@ -30,87 +30,90 @@ fn are_numbers(list: &[u64], words: &str) -> bool {
 }
 
 /// Fails unless a row is right.
-fn expect_row(alloc: Global, mut both: Both, row: &str) -> Result<Both, Fail> {
-    let Some((asked, expected)) = row.split_once(" => ") else {
-        return Err(Fail::new(row));
-    };
+fn expect_row(alloc: Global, forms: &mut Forms, row: &str) -> Result<(), Fail> {
+    let (asked, expected) = row.split_once(" => ").unwrap_or((row, ""));
     let (from, most) = asked.split_once(" ").unwrap_or((asked, ""));
-    let list = both.nodes(alloc, number(from), number(most) as usize)?;
-    if !are_numbers(&list, expected) {
-        return Err(Fail::new(row));
+    let list = forms.nodes(alloc, number(from), number(most) as usize)?;
+    if are_numbers(&list, expected) {
+        return Ok(());
     }
-    Ok(both)
+    Err(Fail::new(row))
 }
 
-fn expect_rows(alloc: Global, mut both: Both, rows: &str) -> Result<Both, Fail> {
+fn expect_rows(alloc: Global, forms: &mut Forms, rows: &str) -> Result<(), Fail> {
     for row in rows.lines() {
-        both = expect_row(alloc, both, row)?;
+        expect_row(alloc, forms, row)?;
     }
-    Ok(both)
+    Ok(())
 }
 
 /// Writes one operation, which has to be accepted.
-fn written(both: Both, op: Op) -> Result<Both, Fail> {
-    let (both, answer) = both.write(&[op])?;
-    answer?;
-    Ok(both)
+fn write(forms: &mut Forms, op: Op) -> Result<(), Fail> {
+    forms.write(&[op])??;
+    Ok(())
 }
 
 /// Makes `count` nodes.
-fn with_nodes(mut both: Both, count: u64) -> Result<Both, Fail> {
+fn make_nodes(forms: &mut Forms, count: u64) -> Result<(), Fail> {
     for _ in 0..count {
-        both = written(both, Op::New)?;
+        write(forms, Op::New)?;
     }
-    Ok(both)
+    Ok(())
+}
+
+/// Makes `count` nodes, and then fails unless the rows are right.
+fn expect_after(alloc: Global, forms: &mut Forms, count: u64, rows: &str) -> Result<(), Fail> {
+    make_nodes(forms, count)?;
+    expect_rows(alloc, forms, rows)
 }
 
 /// Gives a node 26 attributes, more than two leaves can hold.
-fn with_attributes(mut both: Both, node: u64) -> Result<Both, Fail> {
+fn set_attributes(forms: &mut Forms, node: u64) -> Result<(), Fail> {
     for letter in 0..26u8 {
-        both = written(both, Op::Set(node, numbered(letter)?, Value::int32(1)))?;
+        let name = numbered(letter)?;
+        write(forms, Op::Set(node, name, Value::int32(1)))?;
     }
-    Ok(both)
+    Ok(())
+}
+
+/// Lists nodes while they are added: none, one, as many as fit into a leaf, and one more.
+fn add_nodes(alloc: Global, forms: &mut Forms) -> Result<(), Fail> {
+    expect_after(alloc, forms, 0, "0 9 => none\n1 0 => none")?;
+    let rows = "0 9 => 1\n1 1 => 1\n1 0 => none\n2 9 => none";
+    expect_after(alloc, forms, 1, rows)?;
+    let rows = "0 99 => 1 2 3 4 5 6 7 8 9 10 11 12
+0 1 => 1
+5 3 => 5 6 7
+12 9 => 12
+13 9 => none";
+    expect_after(alloc, forms, 11, rows)?;
+    let rows = "0 13 => 1 2 3 4 5 6 7 8 9 10 11 12 13
+12 2 => 12 13
+13 1 => 13
+18446744073709551615 9 => none";
+    expect_after(alloc, forms, 1, rows)
 }
 
 /// Nodes without attributes are listed from any number on, up to the count asked for, while nodes
 /// are added.
 #[test]
 fn bare_nodes(rt: HostRuntime) -> Result<(), Fail> {
-    let both = Both::new(rt.alloc(), 128)?;
-    let both = expect_rows(rt.alloc(), both, "0 9 => none\n1 0 => none")?;
-    let both = with_nodes(both, 1)?;
-    let both = expect_rows(
-        rt.alloc(),
-        both,
-        "0 9 => 1\n1 1 => 1\n1 0 => none\n2 9 => none",
-    )?;
-    let both = with_nodes(both, 11)?;
-    let rows = "0 99 => 1 2 3 4 5 6 7 8 9 10 11 12
-0 1 => 1
-5 3 => 5 6 7
-12 9 => 12
-13 9 => none";
-    let both = expect_rows(rt.alloc(), both, rows)?;
-    let both = with_nodes(both, 1)?;
-    let rows = "0 13 => 1 2 3 4 5 6 7 8 9 10 11 12 13
-12 2 => 12 13
-13 1 => 13
-18446744073709551615 9 => none";
-    let _both = expect_rows(rt.alloc(), both, rows)?;
-    Ok(())
+    add_nodes(rt.alloc(), &mut Forms::new(rt.alloc(), 128)?)
 }
 
-/// Two of a hundred nodes are removed. The first and the last node, and the one before the gap,
-/// have attributes.
-#[test]
-fn nodes_with_attributes(rt: HostRuntime) -> Result<(), Fail> {
-    let mut both = with_nodes(Both::new(rt.alloc(), 128)?, 100)?;
+/// Makes these nodes.
+fn make_gap(forms: &mut Forms) -> Result<(), Fail> {
+    make_nodes(forms, 100)?;
     for node in [1, 50, 51, 100] {
-        both = with_attributes(both, node)?;
+        set_attributes(forms, node)?;
     }
-    for node in [51, 52] {
-        both = written(both, Op::Drop(node))?;
-    }
+    write(forms, Op::Drop(51))?;
+    write(forms, Op::Drop(52))
+}
+
+/// How many nodes are left, if the rows are right.
+fn count_with_gap(alloc: Global, forms: &mut Forms) -> Result<usize, Fail> {
+    make_gap(forms)?;
     let rows = "0 2 => 1 2
 2 1 => 2
 49 4 => 49 50 53 54
@@ -118,7 +121,15 @@ fn nodes_with_attributes(rt: HostRuntime) -> Result<(), Fail> {
 51 2 => 53 54
 98 99 => 98 99 100
 101 1 => none";
-    let mut both = expect_rows(rt.alloc(), both, rows)?;
-    assert_eq!(rt; both.nodes(rt.alloc(), 0, 1000)?.len(), 98);
+    expect_rows(alloc, forms, rows)?;
+    Ok(forms.nodes(alloc, 0, 1000)?.len())
+}
+
+/// Two of a hundred nodes are removed. The first and the last node, and the one before the gap,
+/// have attributes.
+#[test]
+fn nodes_with_attributes(rt: HostRuntime) -> Result<(), Fail> {
+    let count = count_with_gap(rt.alloc(), &mut Forms::new(rt.alloc(), 128)?)?;
+    assert_eq!(rt; count, 98);
     Ok(())
 }

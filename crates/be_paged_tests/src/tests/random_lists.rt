@@ -1,7 +1,7 @@
 //! Random lists of operations on both forms of a volume.
 use crate::tests::sizes::numbered;
 use arrayvec::ArrayVec;
-use be_paged_test_tools::{Both, Random, read_query};
+use be_paged_test_tools::{Forms, Random, read_query};
 use be_value::{Kind, Refusal, Value, word_of};
 use be_volume::{Done, Op};
 use std::alloc::{AllocError, Global};
@@ -103,13 +103,12 @@ fn random_write(
     alloc: Global,
     random: &mut Random,
     mix: &Mix,
-    both: Both,
+    forms: &mut Forms,
     seen: &mut [u64; 23],
-) -> Result<Both, Fail> {
-    let ops = list_of(alloc, random, mix, both.plain.next())?;
-    let (both, answer) = both.write(&ops)?;
-    note(seen, &answer);
-    Ok(both)
+) -> Result<(), Fail> {
+    let ops = list_of(alloc, random, mix, forms.next())?;
+    note(seen, &forms.write(&ops)?);
+    Ok(())
 }
 
 /// Queries on few names, some of which have an index.
@@ -127,60 +126,61 @@ fn random_attributes(
     alloc: Global,
     random: &mut Random,
     mix: &Mix,
-    both: &mut Both,
+    forms: &mut Forms,
 ) -> Result<(), Fail> {
-    let node = both.plain.next().wrapping_sub(random.below(mix.nodes));
+    let node = forms.next().wrapping_sub(random.below(mix.nodes));
     let name = numbered((random.below(mix.names) % 256) as u8)?;
-    let _value = both.get(node, &name)?;
-    let _attributes = both.attrs(alloc, node)?;
+    let _value = forms.get(node, &name)?;
+    let _attributes = forms.attrs(alloc, node)?;
     Ok(())
 }
 
 /// Asks both forms a random query.
-fn random_query(alloc: Global, random: &mut Random, both: Both) -> Result<Both, Fail> {
+fn random_query(alloc: Global, random: &mut Random, forms: &mut Forms) -> Result<(), Fail> {
     let text = QUERIES.lines().nth(random.below(8) as usize).unwrap_or("");
     let query = read_query(alloc, text)?;
-    let (both, _answer) = both.query(alloc, &query, None)?;
-    Ok(both)
+    let _answer = forms.query(alloc, &query, None)?;
+    Ok(())
 }
 
 /// Reads random things from both forms.
-fn random_reads(alloc: Global, random: &mut Random, mix: &Mix, both: Both) -> Result<Both, Fail> {
-    let mut both = both;
-    random_attributes(alloc, random, mix, &mut both)?;
-    let _indices = both.indices(alloc)?;
-    random_query(alloc, random, both)
-}
-
-/// Writes a random list, and then reads if `reads`.
-fn random_turn(
+fn random_reads(
     alloc: Global,
     random: &mut Random,
     mix: &Mix,
-    both: Both,
-    reads: bool,
-    seen: &mut [u64; 23],
-) -> Result<Both, Fail> {
-    let both = random_write(alloc, random, mix, both, seen)?;
-    if !reads {
-        return Ok(both);
-    }
-    random_reads(alloc, random, mix, both)
+    forms: &mut Forms,
+) -> Result<(), Fail> {
+    random_attributes(alloc, random, mix, forms)?;
+    let _indices = forms.indices(alloc)?;
+    random_query(alloc, random, forms)
 }
 
 /// Writes random lists, and reads after every eighth.
+fn write_lists(
+    alloc: Global,
+    random: &mut Random,
+    mix: &Mix,
+    forms: &mut Forms,
+    seen: &mut [u64; 23],
+) -> Result<(), Fail> {
+    for i in 0..500 {
+        random_write(alloc, random, mix, forms, seen)?;
+        if i % 8 == 0 {
+            random_reads(alloc, random, mix, forms)?;
+        }
+    }
+    Ok(())
+}
+
+/// The same on a new volume.
 fn run_mix(
     alloc: Global,
     random: &mut Random,
     mix: &Mix,
-    lists: u64,
     seen: &mut [u64; 23],
 ) -> Result<(), Fail> {
-    let mut both = Both::new(alloc, mix.pages)?;
-    for i in 0..lists {
-        both = random_turn(alloc, random, mix, both, i % 8 == 0, seen)?;
-    }
-    Ok(())
+    let mut forms = Forms::new(alloc, mix.pages)?;
+    write_lists(alloc, random, mix, &mut forms, seen)
 }
 
 /// Four sorts: few names, many nodes, one node with many names, and a small room.
@@ -226,7 +226,7 @@ fn random_lists(rt: HostRuntime) -> Result<(), Fail> {
     let mut random = Random::new(88172645463325252);
     let mut seen = [0; 23];
     for i in 0..20 {
-        run_mix(rt.alloc(), &mut random, &mix_of(i % 4), 500, &mut seen)?;
+        run_mix(rt.alloc(), &mut random, &mix_of(i % 4), &mut seen)?;
     }
     for number in "0 2 3 4 5 6 7 8 11".split(' ') {
         if !is_often(&seen, number) {

@@ -1,7 +1,7 @@
 //! The greatest sizes, in the plain volume and in the volume in pages. A list of 64 operations is
 //! accepted. 64 attributes of a node and 32 indices are accepted and listed whole. One more
 //! attribute or index is refused.
-use be_paged_test_tools::Both;
+use be_paged_test_tools::Forms;
 use be_test_tools::again;
 use be_value::{Kind, Name, Refusal, Value};
 use be_volume::Op;
@@ -42,57 +42,68 @@ fn index_list(alloc: Global) -> Result<Vec<Op>, Refusal> {
     Ok(ops)
 }
 
+/// Fails unless a write of one operation is accepted.
+fn accepted(forms: &mut Forms, op: Result<Op, Refusal>) -> Result<(), Fail> {
+    let op = op?;
+    forms.accept(&[op])
+}
+
 /// Fails unless a write of one operation is refused with this error.
-fn refused(both: Both, op: Op, refusal: Refusal) -> Result<(), Fail> {
-    let (_both, answer) = both.write(&[op])?;
-    match answer {
+fn refused(forms: &mut Forms, op: Result<Op, Refusal>, refusal: Refusal) -> Result<(), Fail> {
+    let op = op?;
+    match forms.write(&[op])? {
         Err(other) if other == refusal => Ok(()),
         _ => Err(Fail::new("one more is taken, or refused otherwise")),
     }
 }
 
-/// Both forms after a list of `count` operations.
-fn with_list(alloc: Global, ops: &[Op], count: usize) -> Result<Both, Fail> {
+/// Writes a list, which has to have `count` operations.
+fn write_whole(forms: &mut Forms, ops: &[Op], count: usize) -> Result<(), Fail> {
     if ops.len() != count {
         return Err(Fail::new("another number of operations"));
     }
-    Both::new(alloc, 64)?.accepted(ops)
+    forms.accept(ops)
 }
 
 /// Fails unless both forms list `count` attributes of node 1.
-fn lists_attributes(alloc: Global, both: &mut Both, count: usize) -> Result<(), Fail> {
-    if both.attrs(alloc, 1)??.len() == count {
+fn lists_attributes(alloc: Global, forms: &mut Forms, count: usize) -> Result<(), Fail> {
+    if forms.attrs(alloc, 1)??.len() == count {
         return Ok(());
     }
     Err(Fail::new("another number of attributes"))
 }
 
 /// Fails unless both forms list `count` indices.
-fn lists_indices(alloc: Global, both: &mut Both, count: usize) -> Result<(), Fail> {
-    if both.indices(alloc)?.len() == count {
+fn lists_indices(alloc: Global, forms: &mut Forms, count: usize) -> Result<(), Fail> {
+    if forms.indices(alloc)?.len() == count {
         return Ok(());
     }
     Err(Fail::new("another number of indices"))
 }
 
-/// Both forms with a node of 64 attributes, 63 of which are from the list that made it.
-fn with_attributes(alloc: Global, ops: &[Op]) -> Result<Both, Fail> {
-    let both = with_list(alloc, ops, 64)?;
-    both.accepted(&[sized(63)?])
+/// The list makes a node with 63 attributes. The node takes one more, and none after that.
+fn fill_node(alloc: Global, forms: &mut Forms, ops: &[Op]) -> Result<(), Fail> {
+    write_whole(forms, ops, 64)?;
+    accepted(forms, sized(63))?;
+    lists_attributes(alloc, forms, 64)?;
+    refused(forms, sized(64), Refusal::TooManyAttrs)
 }
 
 #[test]
 fn most_operations_and_attributes(rt: HostRuntime) -> Result<(), Fail> {
     let ops = again!(node_list(rt.alloc()))?;
-    let mut both = with_attributes(rt.alloc(), &ops)?;
-    lists_attributes(rt.alloc(), &mut both, 64)?;
-    refused(both, sized(64)?, Refusal::TooManyAttrs)
+    fill_node(rt.alloc(), &mut Forms::new(rt.alloc(), 64)?, &ops)
+}
+
+/// The list makes 32 indices, and none can be made after that.
+fn fill_catalog(alloc: Global, forms: &mut Forms, ops: &[Op]) -> Result<(), Fail> {
+    write_whole(forms, ops, 32)?;
+    lists_indices(alloc, forms, 32)?;
+    refused(forms, index(32), Refusal::TooManyIndices)
 }
 
 #[test]
 fn most_indices(rt: HostRuntime) -> Result<(), Fail> {
     let ops = again!(index_list(rt.alloc()))?;
-    let mut both = with_list(rt.alloc(), &ops, 32)?;
-    lists_indices(rt.alloc(), &mut both, 32)?;
-    refused(both, index(32)?, Refusal::TooManyIndices)
+    fill_catalog(rt.alloc(), &mut Forms::new(rt.alloc(), 64)?, &ops)
 }

@@ -22,17 +22,28 @@ fn is_past(high: Option<&[u8]>, key: &[u8]) -> bool {
     }
 }
 
+/// The next key of the index, unless it is above `high`.
+fn key_within(
+    volume: &Volume,
+    name: &Name,
+    from: &[u8],
+    after: bool,
+    high: Option<&[u8]>,
+) -> Option<ArrayVec<u8, 264>> {
+    match volume.next_key(name, from, after) {
+        Some(key) if !is_past(high, key.as_slice()) => Some(key),
+        _ => None,
+    }
+}
+
 /// How many keys of the index lie from `low` to `high`, at most 64, counted from key to key.
 fn keys_within(volume: &Volume, name: &Name, low: &[u8], high: Option<&[u8]>) -> usize {
-    let mut next = volume.next_key(name, low, false);
+    let mut next = key_within(volume, name, low, false, high);
     for count in 0..64 {
         let Some(key) = &next else {
             return count;
         };
-        if is_past(high, key.as_slice()) {
-            return count;
-        }
-        next = volume.next_key(name, key.as_slice(), true);
+        next = key_within(volume, name, key.as_slice(), true, high);
     }
     64
 }

@@ -35,17 +35,25 @@ fn are_from_one(nodes: &[u64], count: u64) -> bool {
     nodes.len() as u64 == count && nodes.first() == Some(&1) && nodes.last() == Some(&count)
 }
 
-/// The nodes that `run` finds by what is chosen.
-fn by_plan(alloc: Global, volume: &Volume, query: &Query) -> Result<Vec<u64>, Refusal> {
+/// Whether `run` finds the nodes up to this number by what is chosen.
+fn by_plan(alloc: Global, volume: &Volume, query: &Query, count: u64) -> Result<bool, Refusal> {
     let mut source = volume_source(volume);
     let cover = choose_from(alloc, query, &mut source)?;
-    run(alloc, &cover, query, &mut source)
+    let nodes = run(alloc, &cover, query, &mut source)?;
+    Ok(are_from_one(&nodes, count))
 }
 
-/// The nodes that `answer` finds.
-fn by_answer(alloc: Global, volume: &Volume, query: &Query) -> Result<Vec<u64>, Refusal> {
+/// Whether `answer` finds the nodes up to this number.
+fn by_answer(alloc: Global, volume: &Volume, query: &Query, count: u64) -> Result<bool, Refusal> {
     let mut source = volume_source(volume);
-    answer(alloc, query, &mut source)
+    let nodes = answer(alloc, query, &mut source)?;
+    Ok(are_from_one(&nodes, count))
+}
+
+/// Whether a scan finds the nodes up to this number.
+fn by_scan(volume: &Volume, query: &Query, count: u64) -> Result<bool, Refusal> {
+    let nodes = volume.query(query)?;
+    Ok(are_from_one(&nodes, count))
 }
 
 /// Whether each way finds the nodes up to this number.
@@ -54,9 +62,9 @@ fn finds(alloc: Global, volume: &Volume, count: &str) -> Result<bool, Refusal> {
     let query = parse(alloc, text.as_str())?;
     let count = word_of(count.as_bytes()).unwrap_or(0);
     Ok(
-        are_from_one(&by_plan(alloc, volume, &query)?, count)
-            && are_from_one(&by_answer(alloc, volume, &query)?, count)
-            && are_from_one(&volume.query(&query)?, count),
+        by_plan(alloc, volume, &query, count)?
+            && by_answer(alloc, volume, &query, count)?
+            && by_scan(volume, &query, count)?,
     )
 }
 
@@ -75,11 +83,17 @@ fn finds_each(alloc: Global, volume: &Volume) -> Result<(), Fail> {
     Ok(())
 }
 
+/// Fails unless each way finds each number of nodes. Returns whether a copy has the same next
+/// number.
+fn finds_and_copies(alloc: Global, volume: &Volume) -> Result<bool, Fail> {
+    finds_each(alloc, volume)?;
+    Ok(again!(copies(volume))?)
+}
+
 /// Nodes that a query finds, and a copy of all of them.
 #[test]
 fn many_nodes(rt: HostRuntime) -> Result<(), Fail> {
-    let volume = numbered(rt.alloc(), 26_000)?;
-    finds_each(rt.alloc(), &volume)?;
-    assert!(rt; again!(copies(&volume))?);
+    let copies = finds_and_copies(rt.alloc(), &numbered(rt.alloc(), 26_000)?)?;
+    assert!(rt; copies);
     Ok(())
 }

@@ -97,16 +97,32 @@ fn short_line(alloc: Global, dice: &mut Dice) -> Result<String, AllocError> {
     line.replace(alloc, "{query}", query)
 }
 
+/// The line with this node and this name filled in.
+fn with_names(alloc: Global, line: &str, node: &str, name: &str) -> Result<String, AllocError> {
+    let line = line.replace(alloc, "{node}", node)?;
+    line.replace(alloc, "{name}", name)
+}
+
 fn long_line(alloc: Global, dice: &mut Dice) -> Result<String, AllocError> {
     let node = dice.one_of(NODES, 12);
     let name = dice.one_of(NAMES, 3);
-    let line = dice.one_of(LONG_LINES, 14);
-    let line = line.replace(alloc, "{node}", node)?;
-    let line = line.replace(alloc, "{name}", name)?;
+    let line = with_names(alloc, dice.one_of(LONG_LINES, 14), node, name)?;
     if line.ends_with("{value}") {
         return line.replace(alloc, "{value}", dice.one_of(VALUES, 8));
     }
     Ok(line)
+}
+
+fn any_line(alloc: Global, dice: &mut Dice) -> Result<String, AllocError> {
+    match dice.roll(2) {
+        0 => short_line(alloc, dice),
+        _ => long_line(alloc, dice),
+    }
+}
+
+fn push_line(script: &mut String, line: &str) -> Result<(), AllocError> {
+    script.push_str(line)?;
+    script.push('\n')
 }
 
 /// A script of this many lines.
@@ -114,12 +130,8 @@ fn made(alloc: Global, lines: u64) -> Result<String, AllocError> {
     let mut dice = Dice { state: 1 };
     let mut script = String::new(alloc);
     for _ in 0..lines {
-        let line = match dice.roll(2) {
-            0 => short_line(alloc, &mut dice)?,
-            _ => long_line(alloc, &mut dice)?,
-        };
-        script.push_str(line.as_str())?;
-        script.push('\n')?;
+        let line = any_line(alloc, &mut dice)?;
+        push_line(&mut script, line.as_str())?;
     }
     Ok(script)
 }

@@ -180,6 +180,23 @@ fn ends_unwritten(alloc: Global, bytes: &[u8], fails: bool, end: &str) -> bool {
     outcome.end == end && outcome.written == 0 && outcome.reads == 1_048_577
 }
 
+/// Fails unless the run ends like this, without writing anything.
+fn expect_end(alloc: Global, bytes: &[u8], fails: bool, end: &str) -> Result<(), Fail> {
+    if ends_unwritten(alloc, bytes, fails, end) {
+        return Ok(());
+    }
+    Err(Fail::new(end))
+}
+
+/// The same for a script that is a byte too long, and for the script without its first byte.
+fn check_longest(alloc: Global, script: &[u8]) -> Result<(), Fail> {
+    let longest = script.get(1..).unwrap_or(&[]);
+    expect_end(alloc, script, false, "too long")?;
+    expect_end(alloc, longest, false, "well")?;
+    expect_end(alloc, longest, true, "read")?;
+    expect_end(alloc, script, true, "too long")
+}
+
 /// A script of 1,048,576 bytes runs, and one more byte is too long. Each byte costs a read. A read
 /// that fails after the last allowed byte is reported. A read after one byte more is never made.
 #[test]
@@ -189,12 +206,7 @@ fn longest_script(rt: HostRuntime) -> Result<(), Fail> {
         Ok(script) => script,
         Err(_) => vec![in alloc; b'#'; 1_048_577]?,
     };
-    let longest = &script[1..];
-    assert!(rt; ends_unwritten(alloc, &script, false, "too long"));
-    assert!(rt; ends_unwritten(alloc, longest, false, "well"));
-    assert!(rt; ends_unwritten(alloc, longest, true, "read"));
-    assert!(rt; ends_unwritten(alloc, &script, true, "too long"));
-    Ok(())
+    check_longest(alloc, &script)
 }
 
 /// How a run of a script without requests ends, within these limits.

@@ -223,28 +223,80 @@ fn read(store: &Store, alloc: Global, pass: &mut Pass, request: &Request) -> Tex
     }
 }
 
+/// The answer with another pin.
+fn answer_at(pin: u64, answer: Result<Answer, Refusal>) -> Result<Answer, Refusal> {
+    let Answer { pin: _, nodes } = answer?;
+    Ok(Answer { pin, nodes })
+}
+
+/// A query's answer at a pin made for the read, with the version's number as its pin.
+fn answer_once(
+    store: &Store,
+    alloc: Global,
+    pass: &mut Pass,
+    query: &Query,
+) -> Result<Answer, Refusal>
+    requires pass { IsPassOf store.now pass.old }
+    requires unpinned { pinned_number pass.old.knows.phase ≡ None }
+    ensures { StaysPass store.now pass.old pass.new }
+{
+    let mut version = store.pinned(pass);
+    let answer = version.query(alloc, query);
+    answer_at(version.number(), answer)
+}
+
+fn value_once(store: &Store, pass: &mut Pass, node: u64, name: &Name) -> Option<Value>
+    requires pass { IsPassOf store.now pass.old }
+    requires unpinned { pinned_number pass.old.knows.phase ≡ None }
+    ensures { StaysPass store.now pass.old pass.new }
+{
+    let mut version = store.pinned(pass);
+    version.get(node, name)
+}
+
+fn attrs_once(store: &Store, alloc: Global, pass: &mut Pass, node: u64) -> Listed<Value>
+    requires pass { IsPassOf store.now pass.old }
+    requires unpinned { pinned_number pass.old.knows.phase ≡ None }
+    ensures { StaysPass store.now pass.old pass.new }
+{
+    let mut version = store.pinned(pass);
+    version.attrs(alloc, node)
+}
+
+fn indices_once(store: &Store, alloc: Global, pass: &mut Pass) -> Listed<Kind>
+    requires pass { IsPassOf store.now pass.old }
+    requires unpinned { pinned_number pass.old.knows.phase ≡ None }
+    ensures { StaysPass store.now pass.old pass.new }
+{
+    let mut version = store.pinned(pass);
+    version.indices(alloc)
+}
+
+/// The reply to a query, at a pin made for the read.
+fn query_once(store: &Store, alloc: Global, pass: &mut Pass, text: &str) -> Text
+    requires pass { IsPassOf store.now pass.old }
+    requires unpinned { pinned_number pass.old.knows.phase ≡ None }
+    ensures { StaysPass store.now pass.old pass.new }
+{
+    match parse(alloc, text) {
+        Ok(query) => nodes_text(alloc, answer_once(store, alloc, pass, &query)),
+        Err(refusal) => Err(refusal),
+    }
+}
+
 /// Reads with a pass that isn't pinned, at a pin made for the read.
 fn read_once(store: &Store, alloc: Global, pass: &mut Pass, request: &Request) -> Text
     requires pass { IsPassOf store.now pass.old }
     requires unpinned { pinned_number pass.old.knows.phase ≡ None }
     ensures { StaysPass store.now pass.old pass.new }
 {
-    let mut version = store.pinned(pass);
     match request {
-        Request::Query(text) => {
-            let query = parse(alloc, text.as_str())?;
-            let Answer { pin: _, nodes } = version.query(alloc, &query)?;
-            nodes_text(
-                alloc,
-                Ok(Answer {
-                    pin: version.number(),
-                    nodes,
-                }),
-            )
+        Request::Query(text) => query_once(store, alloc, pass, text.as_str()),
+        Request::Get(node, Ok(name)) => {
+            text_of(alloc, Reply::Value(value_once(store, pass, *node, name)))
         }
-        Request::Get(node, Ok(name)) => text_of(alloc, Reply::Value(version.get(*node, name))),
-        Request::Attrs(node) => attributes_text(alloc, version.attrs(alloc, *node)),
-        Request::Indices => kinds_text(alloc, version.indices(alloc)),
+        Request::Attrs(node) => attributes_text(alloc, attrs_once(store, alloc, pass, *node)),
+        Request::Indices => kinds_text(alloc, indices_once(store, alloc, pass)),
         _ => text_of(alloc, Reply::BadLine),
     }
 }

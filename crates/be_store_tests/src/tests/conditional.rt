@@ -6,7 +6,7 @@ ghost use Rattle.be_store_tests.specs.Staying.{StaysPass};
 
 use crate::tests::calls::{Text, written_text};
 use be_journal::entry_line;
-use be_store::{ApplyIfError, Op, Pass, Refusal, Store};
+use be_store::{ApplyIfError, Entry, Op, Pass, Refusal, Store};
 use be_test_tools::list_of;
 use std::alloc::Global;
 
@@ -47,19 +47,35 @@ fn next(store: &Store, pass: &mut Pass) -> u64
     }
 }
 
+/// Adds a line for each of these entries, the first of which has this index.
+fn push_entries(
+    alloc: Global,
+    text: &mut String,
+    from: u64,
+    list: &[Entry],
+) -> Result<(), Refusal> {
+    let mut number = from;
+    for entry in list {
+        number = number.saturating_add(1);
+        text.push_str(entry_line(alloc, number, entry)?.as_str())?;
+    }
+    Ok(())
+}
+
+fn lines_of(alloc: Global, from: u64, list: Result<Vec<Entry>, Refusal>) -> Text {
+    let list = list?;
+    let mut text = String::new(alloc);
+    push_entries(alloc, &mut text, from, &list)?;
+    Ok(text)
+}
+
 /// Up to `most` journal entries as lines, from an index on.
 fn entries_text(store: &Store, alloc: Global, pass: &mut Pass, from: u64, most: usize) -> Text
     requires { IsPassOf store.now pass.old }
     ensures { StaysPass store.now pass.old pass.new }
 {
-    let list = store.journal_from(alloc, pass, from, most)?;
-    let mut text = String::new(alloc);
-    let mut number = from;
-    for entry in &list {
-        number = number.saturating_add(1);
-        text.push_str(entry_line(alloc, number, entry)?.as_str())?;
-    }
-    Ok(text)
+    let list = store.journal_from(alloc, pass, from, most);
+    lines_of(alloc, from, list)
 }
 
 fn number_of(word: &str) -> u64 {

@@ -239,17 +239,10 @@ impl Room {
 
     /// Closes a store with one pass. Returns the journal's length, and whether it is legal.
     pub(crate) fn close(self, alloc: Global) -> Result<(u64, bool), Refusal> {
-        let Room {
-            store,
-            first,
-            second: _,
-            has_second: _,
-            passes,
-            live: _,
-        } = self;
-        if passes != 1 {
+        if self.passes != 1 {
             return Err(Refusal::BadLimits);
         }
+        let Room { store, first, .. } = self;
         closed(alloc, store, first)
     }
 
@@ -260,17 +253,15 @@ impl Room {
         rt: &R,
         alloc: Global,
     ) -> Result<(Journal, bool), Refusal> {
+        if self.passes != 2 || !self.has_second {
+            return Err(Refusal::BadLimits);
+        }
         let Room {
             store,
             first,
             second,
-            has_second,
-            passes,
-            live: _,
+            ..
         } = self;
-        if passes != 2 || !has_second {
-            return Err(Refusal::BadLimits);
-        }
         let (first, second) = make_both(rt, &store, first, second);
         let is_accepted = first.1 && second.1;
         let journal = journal_of(alloc, store, first.0, second.0)?;

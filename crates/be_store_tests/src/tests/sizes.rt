@@ -6,6 +6,7 @@
 //! the number replacing `#`. Together with what comes before it, the part appears as often as the
 //! size says.
 
+use crate::tests::check_one;
 use crate::tests::room::{Room, for_one};
 use be_store::{Name, Op, Refusal, Value};
 use be_test_tools::{again, check_lines};
@@ -44,27 +45,37 @@ head indices / 0 pin / head indices => indices @ / pin 1 / indices @
  \"x{x}\"";
 
 /// The powers of two below the largest size of a row.
-const POWERS: [u64; 12] = [2, 4, 8, 16, 32, 64, 128, 256, 512, 1024, 2048, 4096];
+const POWERS: &str = "2 4 8 16 32 64 128 256 512 1024 2048 4096";
+
+/// The text with the number in place of each mark.
+fn with_number(alloc: Global, text: &str, mark: &str, number: u64) -> Result<String, AllocError> {
+    let number = format!(in alloc; "{number}")?;
+    text.replace(alloc, mark, number.as_str())
+}
 
 /// Appends a part once for each number from 2 to the size.
 fn push_each(alloc: Global, text: &mut String, part: &str, size: u64) -> Result<(), AllocError> {
     for number in 2..=size {
-        let number = format!(in alloc; "{number}")?;
-        text.push_str(part.replace(alloc, "#", number.as_str())?.as_str())?;
+        text.push_str(with_number(alloc, part, "#", number)?.as_str())?;
+    }
+    Ok(())
+}
+
+/// Appends a row, with each part as often as the size says.
+fn push_row(alloc: Global, text: &mut String, row: &str, size: u64) -> Result<(), AllocError> {
+    for part in row.split('}') {
+        let (once, each) = part.split_once("{").unwrap_or((part, ""));
+        text.push_str(once)?;
+        push_each(alloc, text, each, size)?;
     }
     Ok(())
 }
 
 /// The requests and replies of a row at this size.
 fn lines_at(alloc: Global, row: &str, size: u64) -> Result<String, AllocError> {
+    let row = with_number(alloc, row, "@", size)?;
     let mut text = String::new(alloc);
-    let number = format!(in alloc; "{size}")?;
-    let row = row.replace(alloc, "@", number.as_str())?;
-    for part in row.as_str().split('}') {
-        let (once, each) = part.split_once("{").unwrap_or((part, ""));
-        text.push_str(once)?;
-        push_each(alloc, &mut text, each, size)?;
-    }
+    push_row(alloc, &mut text, row.as_str(), size)?;
     Ok(text)
 }
 
@@ -75,7 +86,7 @@ fn check_size(alloc: Global, row: &str, size: u64) -> Result<(), Fail> {
         Ok(lines) => lines,
     };
     let pages = size.saturating_add(256);
-    check_lines(alloc, &mut for_one(alloc, pages, 20_000)?, lines.as_str())
+    check_one(alloc, pages, 20_000, lines.as_str())
 }
 
 /// The same at one less than a power of two, at the power, and at one more.
@@ -89,7 +100,8 @@ fn check_around(alloc: Global, row: &str, power: u64) -> Result<(), Fail> {
 fn check_row(alloc: Global, row: &str) -> Result<(), Fail> {
     let (most, row) = row.split_once("\n").unwrap_or(("", row));
     let most = word_of(most.as_bytes()).unwrap_or(1);
-    for power in POWERS {
+    for power in POWERS.split(' ') {
+        let power = word_of(power.as_bytes()).unwrap_or(most);
         if power < most {
             check_around(alloc, row, power)?;
         }

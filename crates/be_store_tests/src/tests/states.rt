@@ -50,20 +50,48 @@ pub(crate) fn next_list(store: &Store, alloc: Global, pass: &mut Pass, place: &m
     }
 }
 
+/// Adds a line for each operation of the next list. Returns whether another list may follow.
+fn push_next(
+    store: &Store,
+    alloc: Global,
+    pass: &mut Pass,
+    place: &mut Place,
+    text: &mut String,
+) -> Result<bool, Refusal>
+    requires { IsPassOf store.now pass.old }
+    ensures { StaysPass store.now pass.old pass.new }
+{
+    let list = next_list(store, alloc, pass, place);
+    Ok(push_list(alloc, list, text)? && pass.pinned().is_some())
+}
+
+/// Adds a line for each operation of up to a hundred lists.
+fn push_lists(
+    store: &Store,
+    alloc: Global,
+    pass: &mut Pass,
+    text: &mut String,
+) -> Result<(), Refusal>
+    requires { IsPassOf store.now pass.old }
+    ensures { StaysPass store.now pass.old pass.new }
+{
+    let mut place = Place::new(alloc);
+    for _ in 0..100 {
+        if !push_next(store, alloc, pass, &mut place, text)? {
+            return Ok(());
+        }
+    }
+    Ok(())
+}
+
 /// The operations of up to a hundred lists at the pin; if the pass isn't pinned, only those of the
 /// first list.
 pub(crate) fn state_text(store: &Store, alloc: Global, pass: &mut Pass) -> Text
     requires { IsPassOf store.now pass.old }
     ensures { StaysPass store.now pass.old pass.new }
 {
-    let mut place = Place::new(alloc);
     let mut text = String::new(alloc);
-    for _ in 0..100 {
-        let list = next_list(store, alloc, pass, &mut place);
-        if !push_list(alloc, list, &mut text)? || pass.pinned().is_none() {
-            return Ok(text);
-        }
-    }
+    push_lists(store, alloc, pass, &mut text)?;
     Ok(text)
 }
 

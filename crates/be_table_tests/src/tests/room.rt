@@ -75,8 +75,24 @@ pub(crate) fn opened(alloc: Global, pages: u64) -> Result<Room, Refusal> {
     again!(open_room(alloc, pages))
 }
 
-/// The replies to two passes while a third holds the lock. Their requests are before and after ` |
-/// `.
+/// The replies to two passes. Their requests are before and after ` | `.
+fn answer_both(
+    table: &VersionTable,
+    alloc: Global,
+    second: &mut Seat,
+    third: &mut Seat,
+    requests: &str,
+) -> Text
+    requires { IsResting table.now second.old × IsResting table.now third.old }
+    ensures { IsResting table.now second.new × IsResting table.now third.new }
+{
+    let (before, beyond) = requests.split_once(" | ").unwrap_or((requests, ""));
+    let first = answers(table, alloc, second, before);
+    let last = answers(table, alloc, third, beyond);
+    both_texts(alloc, first, last)
+}
+
+/// The same while a third pass holds the lock.
 fn hold(
     table: &VersionTable,
     alloc: Global,
@@ -90,7 +106,6 @@ fn hold(
     ensures { IsResting table.now writer.new × IsResting table.now second.new
         × IsResting table.now third.new }
 {
-    let (before, beyond) = requests.split_once(" | ").unwrap_or((requests, ""));
     let writing = match table.lock(writer.move_out()) {
         Ok(writing) => writing,
         Err((kept, refusal)) => {
@@ -98,10 +113,16 @@ fn hold(
             return Err(refusal);
         }
     };
-    let first = answers(table, alloc, second, before);
-    let last = answers(table, alloc, third, beyond);
+    let text = answer_both(table, alloc, second, third, requests);
     *writer = writing.unlock();
-    both_texts(alloc, first, last)
+    text
+}
+
+/// Two replies, with the reply to a write between them.
+fn three_texts(alloc: Global, first: Text, entered: Result<u64, Refusal>, last: Text) -> Text {
+    let written = write_text(alloc, entered);
+    let rest = both_texts(alloc, written, last);
+    both_texts(alloc, first, rest)
 }
 
 /// The replies to a pass before and after another one, which holds the lock, makes a node.
@@ -127,11 +148,7 @@ fn write_between(
     let entered = act(&mut writing, &[Op::New], "");
     let last = answers(table, alloc, second, beyond);
     *writer = writing.unlock();
-    both_texts(
-        alloc,
-        first,
-        both_texts(alloc, write_text(alloc, entered), last),
-    )
+    three_texts(alloc, first, entered, last)
 }
 
 /// A pass looks, another one makes `count` nodes, and then the first announces the number it saw,
