@@ -655,7 +655,7 @@ fn largest_query(rt: HostRuntime) -> Result<(), Fail> {
 }
 
 /// The lines of a volume of 300 nodes whose values fall as their numbers rise.
-fn falling_values(alloc: Global) -> Result<String, Refusal> {
+fn descending_values(alloc: Global) -> Result<String, Refusal> {
     let mut lines = String::from_str(alloc, "mkindex n LONG")?;
     for node in 1..301u64 {
         let value = 1000u64.wrapping_sub(node);
@@ -673,9 +673,9 @@ ranges n==850 => 1";
 
 /// Nodes that are found in descending order are returned in ascending order, each once.
 #[test]
-fn falling_nodes(rt: HostRuntime) -> Result<(), Fail> {
-    let lines = match falling_values(rt.alloc()) {
-        Err(Refusal::OutOfMemory) => falling_values(rt.alloc())?,
+fn descending_nodes(rt: HostRuntime) -> Result<(), Fail> {
+    let lines = match descending_values(rt.alloc()) {
+        Err(Refusal::OutOfMemory) => descending_values(rt.alloc())?,
         lines => lines?,
     };
     replies_of(rt.alloc(), lines.as_str(), FALLING)

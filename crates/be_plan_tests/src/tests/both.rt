@@ -77,9 +77,9 @@ impl Source for Estimating<'_> {
 fn crossing_lines(alloc: Global) -> Result<String, Refusal> {
     let mut lines = String::from_str(alloc, "mkindex k ULLG\nmkindex m ULLG")?;
     for node in 1..=130u64 {
-        let falling = 131u64.wrapping_sub(node);
+        let descending = 131u64.wrapping_sub(node);
         lines.push_str(format!(in alloc;
-            "\nnew;set {node} k ULLG {node};set {node} m ULLG {falling}"
+            "\nnew;set {node} k ULLG {node};set {node} m ULLG {descending}"
         )?.as_str())?;
     }
     Ok(lines)
