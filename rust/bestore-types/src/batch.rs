@@ -7,7 +7,7 @@ use std::fmt;
 /// An operation in a batch, as returned by [`Batch::operations`].
 #[derive(Clone, Debug, PartialEq, Eq)]
 pub enum Operation<'a> {
-    /// Makes a node.
+    /// Creates a node.
     NewNode {
         /// In a batch from the journal, the number of the node that was created; otherwise 0.
         node: u64,
@@ -33,7 +33,7 @@ pub enum Operation<'a> {
         /// The name of the attribute.
         name: &'a str,
     },
-    /// Creates an index, which holds attributes that are set from then on.
+    /// Creates an index, which holds the attributes that are set from then on.
     MakeIndex {
         /// The name of the attributes that it holds.
         name: &'a str,
@@ -58,11 +58,10 @@ pub enum Operation<'a> {
 /// # Ok::<(), bestore_types::Error>(())
 /// ```
 ///
-/// These calls don't check names and values. The store to which the batch is applied does, and reports the first operation that isn't
-/// valid.
+/// These methods don't check names and values. The store checks them when the batch is applied, and reports the first invalid operation.
 ///
 /// # Panics
-/// A call that adds an operation panics if the names and values take 4 GiB or more.
+/// A method that adds an operation panics if the batch's names and values would take 4 GiB or more.
 #[derive(Clone, Default)]
 pub struct Batch {
     list: List,
@@ -76,7 +75,7 @@ impl Batch {
         Self::default()
     }
 
-    /// Adds an operation that creates a node. The node gets the next number, which a change knows in advance.
+    /// Adds an operation that creates a node. The node gets the store's next node number, which a change knows in advance.
     pub fn new_node(&mut self) -> &mut Self {
         self.add(sys::BES_NEW_NODE, 0, "", 0, 0, &[])
     }
@@ -109,26 +108,26 @@ impl Batch {
         self.add(sys::BES_REMOVE_INDEX, 0, name, 0, 0, &[])
     }
 
-    /// Returns how many operations the batch has.
+    /// Returns the number of operations in the batch.
     #[must_use]
     pub fn len(&self) -> usize {
         self.list.operations.len()
     }
 
-    /// Returns whether the batch has no operations.
+    /// Returns `true` if the batch has no operations.
     #[must_use]
     pub fn is_empty(&self) -> bool {
         self.list.operations.is_empty()
     }
 
-    /// Returns whether the batch has the maximum number of operations.
+    /// Returns `true` if the batch has the maximum number of operations.
     #[must_use]
     pub fn is_full(&self) -> bool {
         self.len() >= OPERATIONS
     }
 
-    /// Gives the batch a token, a string of your choice by which the batch can be identified later. The token affects neither the
-    /// operations, nor [`to_bytes`](Self::to_bytes), nor `==`.
+    /// Gives the batch a token: a string of your choice that identifies the batch later. The token affects neither the operations, nor
+    /// [`to_bytes`](Self::to_bytes), nor `==`.
     pub fn set_token(&mut self, token: &str) -> &mut Self {
         self.token = Some(token.into());
         self
@@ -140,7 +139,7 @@ impl Batch {
         self.token.as_deref()
     }
 
-    /// Removes all operations and the token, but keeps the memory.
+    /// Removes all operations and the token, but keeps the allocated memory.
     pub fn clear(&mut self) {
         self.token = None;
         self.list.operations.clear();
@@ -155,7 +154,7 @@ impl Batch {
         }
     }
 
-    /// Gives these numbers, in order, to the operations that create nodes. With the nodes from [`Written`](crate::Written), the batch is
+    /// Assigns these numbers, in order, to the operations that create nodes. With the nodes from [`Written`](crate::Written), the batch is
     /// then equal to the one in the journal.
     pub fn set_nodes(&mut self, nodes: &[u64]) -> &mut Self {
         let made = self.list.operations.iter_mut();
@@ -166,7 +165,7 @@ impl Batch {
         self
     }
 
-    /// Returns the nodes to which operations refer, with the operations' indices. An operation that creates a node refers to it only in a
+    /// Returns each node to which an operation refers, with the operation's index. An operation that creates a node refers to it only in a
     /// batch from the journal.
     pub(crate) fn named_nodes(&mut self) -> impl Iterator<Item = (usize, &mut u64)> {
         let operations = self.list.operations.iter_mut().enumerate();
@@ -218,7 +217,7 @@ impl Batch {
 /// Converts a length to the type that the C library takes.
 ///
 /// # Panics
-/// This function panics if the length is 4 GiB or more.
+/// Panics if the length is 4 GiB or more.
 #[must_use]
 pub fn narrow(length: usize) -> u32 {
     u32::try_from(length).expect("names and values have less than 4 GiB")
@@ -256,7 +255,7 @@ impl<'a> IntoIterator for &'a Batch {
 /// An accepted transaction.
 #[derive(Clone, Debug, PartialEq, Eq)]
 pub struct Written {
-    /// The commit number: the journal's length including this transaction.
+    /// The commit number, which is the journal's length including this transaction.
     pub number: u64,
     /// The nodes that the transaction created, in the order of its operations.
     pub nodes: Vec<u64>,

@@ -1,6 +1,7 @@
-//! Batches encoded as bytes, in the format that the libraries for C, C++ and Python also use. All numbers are little-endian.
+//! The encoding of batches as bytes, which the libraries for C, C++ and Python share. All numbers are little-endian.
 //!
-//! First come `BEB`, the format's version, which is 1, and the number of operations, one byte each. Then each operation has:
+//! A batch begins with the three bytes `BEB`, the format's version (1) in one byte, and the number of operations in one byte. Each
+//! operation follows, with:
 //! - its kind, one byte;
 //! - kinds 0 to 3 (new node, remove node, set, unset): the node, 8 bytes;
 //! - kinds 2 to 5 (set, unset, make index, remove index): the length of the name, one byte, and the name;
@@ -99,7 +100,7 @@ struct Reader<'a> {
 }
 
 impl<'a> Reader<'a> {
-    /// Returns the error for the byte that is this far before the next one.
+    /// Returns the error for the byte `back` bytes before the next one to be read.
     fn bad<T>(&self, back: usize, why: &'static str) -> Result<T> {
         Err(Error::BadBatch {
             offset: self.at - back,
@@ -237,8 +238,8 @@ mod tests {
         }
     }
 
-    /// Returns the lines with this mark from the table with which the encoders of all languages are tested: the bytes, and the words after
-    /// them.
+    /// Returns the lines with this mark in the table that tests the encoders of all languages. Each line has the bytes, followed by the
+    /// words that describe them.
     fn table(mark: &str) -> Vec<(Vec<u8>, String)> {
         let path = concat!(env!("CARGO_MANIFEST_DIR"), "/../../tests/batches.txt");
         let text = std::fs::read_to_string(path).unwrap();
@@ -249,7 +250,7 @@ mod tests {
             .collect()
     }
 
-    /// Returns the bytes for words such as `00ff`, `61*63` and `-`.
+    /// Returns the bytes for which words such as `00ff`, `61*63` and `-` stand.
     fn bytes_of(words: &str) -> Vec<u8> {
         words.split_whitespace().flat_map(word_bytes).collect()
     }

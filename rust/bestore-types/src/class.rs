@@ -58,7 +58,7 @@ impl fmt::Display for Class {
 pub struct Meaning {
     /// The error's number in `bestore.h`.
     pub code: u32,
-    /// What a program can do about it.
+    /// What a program can do about the error.
     pub class: Class,
     /// What was wrong.
     pub what: &'static str,
@@ -66,7 +66,7 @@ pub struct Meaning {
     pub advice: &'static str,
 }
 
-/// The meaning of an error that only a later version of the library has. The assumption is that repeating the call won't help.
+/// The meaning of an error added by a later version of the library. It assumes that repeating the call won't help.
 const UNKNOWN: Meaning = Meaning {
     code: sys::BES_OK,
     class: Class::Mine,

@@ -41,7 +41,7 @@ impl Order {
         &self.name
     }
 
-    /// Returns whether this is the reverse of the ascending order.
+    /// Returns `true` if this is the reverse of the ascending order.
     #[must_use]
     pub fn is_descending(&self) -> bool {
         self.is_descending
@@ -87,7 +87,7 @@ impl Cursor {
         &self.order
     }
 
-    /// Returns the value of the page's last node in the index, or `None` at the beginning, where there is no such node.
+    /// Returns the value that the page's last node has in the index, or `None` at the beginning.
     #[must_use]
     pub fn value(&self) -> Option<&Value> {
         self.at.as_ref().map(|at| &at.value)
@@ -99,12 +99,12 @@ impl Cursor {
         self.at.as_ref().map(|at| at.node)
     }
 
-    /// Moves to this node, which has this value.
+    /// Moves the cursor to this node, which has this value in the index.
     pub fn move_to(&mut self, value: Value, node: u64) {
         self.at = Some(Position { value, node });
     }
 
-    /// Returns a cursor with the same value and another node.
+    /// Returns a cursor with the same value but another node.
     #[must_use]
     pub fn with_node(&self, node: u64) -> Self {
         let mut cursor = self.clone();
@@ -131,7 +131,7 @@ impl Cursor {
         }
     }
 
-    /// Returns the index's kind and the last node's key in the index, or `None` at the beginning. Comparing keys byte by byte gives the
+    /// Returns the index's kind and the last node's key in the index, or `None` at the beginning. Compared byte by byte, keys sort in this
     /// order.
     #[must_use]
     pub fn key(&self) -> Option<(Kind, Vec<u8>)> {
@@ -233,7 +233,7 @@ impl FromStr for Cursor {
 
     fn from_str(text: &str) -> Result<Self> {
         let found = of_base64(text).and_then(|bytes| read(&bytes));
-        // Otherwise the bits after the last byte could differ, and the same cursor could have two texts.
+        // Without this check, the unused bits of the last character could differ, so that one cursor could have several texts.
         let found = found.filter(|cursor| cursor.to_string() == text);
         found.ok_or(Error::BadCursor(CursorFault::Text))
     }
@@ -273,7 +273,7 @@ fn split_last(bytes: &[u8]) -> Option<(&[u8], u32)> {
     Some((front, u32::from_be_bytes(last.try_into().ok()?)))
 }
 
-/// Returns the key for a value and a node in an index. Comparing keys byte by byte gives the order of values and nodes.
+/// Returns the key for a value and a node in an index. Compared byte by byte, keys sort by value, then by node.
 #[must_use]
 pub fn encode_key(value: &Value, node: u64) -> Vec<u8> {
     let mut key = match (value, value.kind().width()) {
@@ -285,8 +285,8 @@ pub fn encode_key(value: &Value, node: u64) -> Vec<u8> {
     key
 }
 
-/// Returns the number, with its sign bit inverted if the kind is signed, so that the order of the bits is the order of the numbers. A
-/// second call undoes this.
+/// Returns the number with its sign bit inverted if the kind is signed, so that the numbers sort correctly as bits. Calling this again
+/// restores the number.
 fn in_order(kind: Kind, width: usize, number: u64) -> u64 {
     match kind.least() {
         Some(0) | None => number,
@@ -340,7 +340,7 @@ fn to_base64(bytes: &[u8]) -> String {
     text
 }
 
-/// Returns the bytes that a text encodes, if it isn't longer than a cursor's text can be.
+/// Returns the bytes that a text encodes, unless it is longer than any cursor's text.
 fn of_base64(text: &str) -> Option<Vec<u8>> {
     if text.len() > LONGEST * 4 / 3 {
         return None;

@@ -7,7 +7,7 @@ use std::fmt;
 /// The result of a call in this crate.
 pub type Result<T> = std::result::Result<T, Error>;
 
-/// The reason why a call did nothing, with details.
+/// Why a call did nothing, with details.
 #[non_exhaustive]
 #[derive(Debug)]
 pub enum Error {
@@ -26,11 +26,11 @@ pub enum Error {
     IndexExists,
     /// There is no index with this name.
     NoIndex,
-    /// There is no index on the name that an order uses.
+    /// There is no index on the name by which nodes are to be ordered.
     NoOrder {
         /// The name.
         name: String,
-        /// The names that have an index.
+        /// The names of the existing indices.
         indices: Vec<String>,
     },
     /// No page can continue from the cursor.
@@ -41,7 +41,7 @@ pub enum Error {
     TooManyIndices,
     /// An index can't have this kind.
     NotIndexable,
-    /// The journal has reached the number of entries that the store was opened for.
+    /// The journal has the maximum number of entries that was set when the store was opened.
     CommitsSpent,
     /// Out of memory.
     OutOfMemory,
@@ -54,17 +54,17 @@ pub enum Error {
     Query(QueryError),
     /// A name is empty or has more than 63 bytes.
     NameLength {
-        /// Which operation of the batch, counting from 0.
+        /// The operation's index in the batch, counting from 0.
         operation: Option<u64>,
     },
     /// A value has more than 255 bytes.
     DataLength {
-        /// Which operation of the batch, counting from 0.
+        /// The operation's index in the batch, counting from 0.
         operation: Option<u64>,
     },
     /// A name or a string contains a zero byte.
     HasNul {
-        /// Which operation of the batch, counting from 0.
+        /// The operation's index in the batch, counting from 0.
         operation: Option<u64>,
     },
     /// One of the store's limits is out of range.
@@ -77,7 +77,7 @@ pub enum Error {
     OtherStore,
     /// A batch is empty or has more than 64 operations.
     BadCount {
-        /// How many operations it has.
+        /// The number of operations in it.
         count: usize,
     },
     /// The journal is longer than the write expects.
@@ -100,22 +100,22 @@ pub enum Error {
     NoVolume {
         /// The volume.
         volume: u32,
-        /// How many volumes there are.
+        /// The number of volumes.
         volumes: u32,
     },
     /// An operation refers to a node that isn't in the volume being written to.
     OtherVolume {
         /// The volume being written to.
         volume: u32,
-        /// Which operation of the batch, counting from 0. In a change, the operation that would have been added.
+        /// The operation's index in the batch, counting from 0. In a change, this is the operation that would have been added.
         operation: Option<u64>,
     },
-    /// A shelf's indices are created and removed in all volumes, by separate calls, not by a batch in one volume.
+    /// A batch in one volume can't create or remove an index of a shelf. Use the shelf's own methods, which do this in all volumes.
     PartialIndex {
-        /// Which operation of the batch, counting from 0.
+        /// The operation's index in the batch, counting from 0.
         operation: u64,
     },
-    /// The number of the store's next node is too large for a shelf's volume.
+    /// The store's next node number is too large for a volume of a shelf.
     NodesSpent,
     /// An error from one volume of a shelf.
     InVolume {
@@ -156,7 +156,7 @@ impl Error {
         Error::Other(error.into())
     }
 
-    /// Returns the same error, attributed to this volume of a shelf unless the error depends only on the call.
+    /// Attributes the error to this volume of a shelf, unless the error depends only on the call.
     #[must_use]
     pub fn in_volume(self, volume: u32) -> Self {
         match self {
@@ -171,7 +171,7 @@ impl Error {
         }
     }
 
-    /// Returns the shelf's volume that the error comes from, if any.
+    /// Returns the volume of a shelf in which the error occurred, if any.
     #[must_use]
     pub fn volume(&self) -> Option<u32> {
         match self {
@@ -180,7 +180,7 @@ impl Error {
         }
     }
 
-    /// Returns the error without its volume.
+    /// Returns the error without the volume to which it was attributed.
     #[must_use]
     pub fn without_volume(self) -> Self {
         match self {
@@ -241,7 +241,7 @@ impl Error {
     }
 }
 
-/// Formats an operation's index, between what was wrong with it and the hint on how to fix it.
+/// Formats an operation's index, which comes between the description of the error and the hint on how to fix it.
 fn at_operation(f: &mut fmt::Formatter<'_>, operation: &Option<u64>) -> fmt::Result {
     match operation {
         Some(index) => write!(f, " (operation {index}, counted from 0)"),
@@ -249,7 +249,7 @@ fn at_operation(f: &mut fmt::Formatter<'_>, operation: &Option<u64>) -> fmt::Res
     }
 }
 
-/// Formats what was wrong, what is known about the position, and a hint on how to fix it.
+/// Formats what was wrong, where it was if that is known, and a hint on how to fix it.
 impl fmt::Display for Error {
     fn fmt(&self, f: &mut fmt::Formatter<'_>) -> fmt::Result {
         match self {
@@ -272,7 +272,7 @@ impl fmt::Display for Error {
     }
 }
 
-/// The library's store has one more pass.
+/// A store of the C library has one more pass than this.
 const BAD_LIMITS: &str =
     "a limit of the store is out of range; a store has 8 to 16,384 pages, 1 to 63 passes and 1 to 4,294,967,295 commits";
 
@@ -395,7 +395,7 @@ impl QueryFault {
         Self::ALL.into_iter().find(|fault| fault.code() == code)
     }
 
-    /// Returns whether the library reports the byte offset of this fault in the text.
+    /// Returns `true` if the library reports this fault's byte offset in the text.
     #[must_use]
     pub const fn has_offset(self) -> bool {
         matches!(self, QueryFault::Syntax | QueryFault::BadPattern)
@@ -432,7 +432,7 @@ impl QueryError {
         }
     }
 
-    /// Returns the same error, with the name that has no index and the name's byte offset.
+    /// Adds the name that has no index, and the name's byte offset.
     #[must_use]
     pub fn with_missing(self, name: String, offset: usize) -> Self {
         Self {
@@ -467,7 +467,7 @@ impl QueryError {
         self.offset
     }
 
-    /// Returns the index of the character at which the error is, counting from 0, if it is known.
+    /// Returns the index of the character where the error is, counting from 0, if it is known.
     #[must_use]
     pub fn column(&self) -> Option<usize> {
         self.offset.map(|offset| text::column_at(&self.text, offset))

@@ -31,7 +31,7 @@ macro_rules! kinds {
                 }
             }
 
-            /// Returns whether an index can have this kind.
+            /// Returns `true` if an index can have this kind.
             #[must_use]
             pub const fn is_indexable(self) -> bool {
                 match self {
@@ -39,7 +39,7 @@ macro_rules! kinds {
                 }
             }
 
-            /// Returns whether values of this kind are integers.
+            /// Returns `true` if values of this kind are integers.
             #[must_use]
             pub const fn is_number(self) -> bool {
                 match self {
@@ -93,7 +93,7 @@ impl Kind {
         }
     }
 
-    /// Returns how many bytes an integer of this kind has, or `None` if its values aren't integers.
+    /// Returns the size in bytes of an integer of this kind, or `None` if its values aren't integers.
     #[must_use]
     pub const fn width(self) -> Option<usize> {
         match self {

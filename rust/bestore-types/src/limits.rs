@@ -15,17 +15,17 @@ pub const MOST_VOLUMES: u32 = 64;
 /// ```
 #[derive(Clone, Copy, Debug, PartialEq, Eq)]
 pub struct Limits {
-    /// Pages of 4 KiB, all allocated when the store is opened: 8 to 16,384.
+    /// The number of 4 KiB pages, all allocated when the store is opened: 8 to 16,384.
     pub pages: u64,
-    /// Passes that can be open at the same time: 1 to 63. The store itself has one more. Each takes 89 bytes, and adds 13 instructions to
-    /// the 12,000 or so of a write; a pin and a query cost the same with 8 passes as with 63 (28 November 2026).
+    /// The number of passes that can be open at the same time: 1 to 63. The store itself has one more. Each takes 89 bytes, and adds 13
+    /// instructions to the roughly 12,000 of a write; a pin and a query cost the same with 8 passes as with 63 (28 November 2026).
     pub passes: u64,
-    /// Entries that the journal can have: 1 to 4,294,967,295.
+    /// The maximum number of entries in the journal: 1 to 4,294,967,295.
     pub commits: u64,
 }
 
 impl Default for Limits {
-    /// Returns 4,096 pages, and the maximum numbers of passes and entries.
+    /// Returns limits of 4,096 pages, and the maximum numbers of passes and entries.
     fn default() -> Self {
         Self {
             pages: 4096,

@@ -3,10 +3,10 @@
 use crate::{Batch, Error, Operation, Result};
 use std::fmt;
 
-/// How many node numbers a volume has. This is a power of ten, so that people can see the volume in a node's digits.
+/// The number of node numbers per volume: a power of ten, so that people can read the volume from a node's digits.
 const NUMBERS: u64 = 100_000_000_000_000;
 
-/// How many nodes a store can create: one for each operation in each entry of the longest journal.
+/// The maximum number of nodes that a store can create: one for each operation in each entry of the longest journal.
 const MADE: u64 = 64 << 32;
 
 /// A node's place in a shelf: its volume, and its number in that volume.
@@ -31,7 +31,7 @@ pub struct Node {
 impl From<u64> for Node {
     fn from(node: u64) -> Self {
         Self {
-            // A quotient by 10^14 is below 2^18.
+            // Even the largest `u64`, divided by 10^14, is below 2^18.
             volume: (node / NUMBERS) as u32,
             number: node % NUMBERS,
         }
@@ -44,14 +44,14 @@ impl From<Node> for u64 {
     }
 }
 
-/// Shows the integer.
+/// Formats the integer.
 impl fmt::Display for Node {
     fn fmt(&self, f: &mut fmt::Formatter<'_>) -> fmt::Result {
         u64::from(*self).fmt(f)
     }
 }
 
-/// Appends a volume's nodes to a shelf's nodes.
+/// Converts a volume's nodes to nodes of its shelf, and appends them.
 pub fn extend(nodes: &mut Vec<u64>, volume: u32, numbers: Vec<u64>) {
     let before = u64::from(volume) * NUMBERS;
     match nodes.is_empty() {
@@ -60,17 +60,18 @@ pub fn extend(nodes: &mut Vec<u64>, volume: u32, numbers: Vec<u64>) {
     }
 }
 
-/// Returns whether a store whose next node has this number can be a volume, no matter how many nodes it creates before it is opened again.
+/// Returns `true` if a store whose next node has this number can be a volume, no matter how many nodes it creates before it is opened
+/// again.
 #[must_use]
 pub fn fits(next: u64) -> bool {
     next <= NUMBERS - MADE
 }
 
 impl Batch {
-    /// Returns [`Error::PartialIndex`] if an operation would create or remove an index in only one of several volumes.
+    /// Checks that no operation would create or remove an index in only one of several volumes.
     ///
     /// # Errors
-    /// That error.
+    /// [`Error::PartialIndex`] if an operation would.
     pub fn check_no_index(&self, volumes: usize) -> Result<()> {
         let is_of_index = |one| matches!(one, Operation::MakeIndex { .. } | Operation::RemoveIndex { .. });
         match self.operations().position(is_of_index) {
@@ -82,7 +83,7 @@ impl Batch {
     }
 
     /// Returns the volume to which a shelf's batch should be written, and the batch with the nodes' numbers in that volume. The volume is
-    /// `asked` if given, otherwise that of the nodes to which the operations refer, or `None` if they don't refer to any.
+    /// `asked` if given, and otherwise that of the nodes to which the operations refer. It is `None` if they refer to no node.
     ///
     /// # Errors
     /// [`Error::OtherVolume`] with the first operation that refers to a node in another volume.

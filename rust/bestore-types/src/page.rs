@@ -7,7 +7,7 @@ use crate::Cursor;
 pub struct Page {
     /// The nodes.
     pub nodes: Vec<u64>,
-    /// Whether more nodes follow these.
+    /// Whether more nodes follow.
     pub more: bool,
     /// The position of the last node, for the next page. If the page is empty, the position at which it began.
     pub cursor: Cursor,
@@ -17,7 +17,7 @@ pub struct Page {
 const FIRST_PAGE: usize = 64;
 const LARGEST_PAGE: usize = 4096;
 
-/// How far an iterator over an ordered result has read. Each page is twice as long as the last one, and an error ends the iteration.
+/// The state of an iterator over an ordered result. Each page is twice as long as the last one, and an error ends the iteration.
 #[derive(Clone, Debug)]
 pub struct Paging {
     after: Option<Cursor>,
@@ -49,7 +49,7 @@ impl Paging {
         self.after = Some(cursor);
     }
 
-    /// Returns the next node. `page` is called to read the page after a cursor, with up to the given number of nodes.
+    /// Returns the next node. If necessary, calls `page` to read the page after a cursor, with up to the given number of nodes.
     pub fn next<E>(&mut self, page: impl FnOnce(Option<&Cursor>, usize) -> Result<Page, E>) -> Option<Result<u64, E>> {
         if let Some(node) = self.read.next() {
             return Some(Ok(node));
@@ -76,7 +76,7 @@ mod tests {
     use super::*;
     use crate::{Order, Value};
 
-    /// Returns a page of the nodes after a cursor, up to `last`, in ascending order.
+    /// Returns a page of ascending nodes after a cursor, none of them above `last`.
     fn page(last: u64, after: Option<&Cursor>, most: usize) -> Page {
         let first = after.and_then(Cursor::node).unwrap_or(0) + 1;
         let nodes: Vec<u64> = (first..=last).take(most).collect();

@@ -8,8 +8,8 @@ pub use crate::node::{extend, fits};
 /// The maximum number of operations in a batch.
 pub const OPERATIONS: usize = 64;
 
-/// An operation, like `bes_operation` in `bestore.h`: its name and the bytes of its value are among the bytes that all operations in a
-/// batch share. The crate `bestore-sys` re-exports it from here.
+/// An operation, with the layout of `bes_operation` in `bestore.h`. Its name and the bytes of its value are in a buffer that all operations
+/// in a batch share. The crate `bestore-sys` re-exports it from here.
 #[repr(C)]
 #[derive(Clone, Copy, Debug, Default, PartialEq, Eq)]
 pub struct RawOperation {

@@ -47,12 +47,12 @@ pub fn caret(text: &str, offset: usize) -> String {
     with_caret(text, Some(column_at(text, offset)))
 }
 
-/// Returns how many characters come before this byte.
+/// Returns the number of characters before this byte.
 pub(crate) fn column_at(text: &str, offset: usize) -> usize {
     text.char_indices().take_while(|(at, _)| *at < offset).count()
 }
 
-/// How many characters of a text are shown before and after the position of the error.
+/// The maximum number of characters shown before and after the position of the error.
 pub(crate) const SHOWN: usize = 60;
 
 /// Returns the text on one line and, if an index is given, a caret under the character with that index. If the text is long, only the part

@@ -43,7 +43,7 @@ impl Value {
         }
     }
 
-    /// Returns a string or a MIME type.
+    /// Returns the value if it is a string or a MIME type.
     #[must_use]
     pub fn as_str(&self) -> Option<&str> {
         match self {
@@ -52,7 +52,7 @@ impl Value {
         }
     }
 
-    /// Returns the bytes of a string, a MIME type or a raw value.
+    /// Returns the bytes of a string, a MIME type or a raw value, or `None` for an integer.
     #[must_use]
     pub fn as_bytes(&self) -> Option<&[u8]> {
         match self {
@@ -62,7 +62,7 @@ impl Value {
         }
     }
 
-    /// Returns an integer of any kind if it fits.
+    /// Returns the value if it is an integer that fits into an `i64`, whatever its kind.
     #[must_use]
     pub fn as_i64(&self) -> Option<i64> {
         match *self {
@@ -74,7 +74,7 @@ impl Value {
         }
     }
 
-    /// Returns an integer of any kind if it fits.
+    /// Returns the value if it is an integer that fits into a `u64`, whatever its kind.
     #[must_use]
     pub fn as_u64(&self) -> Option<u64> {
         match *self {
@@ -95,8 +95,7 @@ impl Value {
         }
     }
 
-    /// Returns the integer of this kind that is written in decimal digits in the text, or `None` if the kind can't hold it or isn't an
-    /// integer kind.
+    /// Parses a decimal integer as a value of this kind. Returns `None` if the text isn't such an integer, or if the kind can't hold it.
     #[must_use]
     pub fn integer(kind: Kind, text: &str) -> Option<Value> {
         let least = i128::from(kind.least()?);

@@ -6,7 +6,7 @@ use crate::refused::of_write;
 use crate::{Batch, Error, Kind, Pass, Result, Snapshot, Value};
 use bestore_sys as sys;
 
-/// A change in progress. Through it, the closure of [`Pass::change`] reads the store and collects up to 64 operations.
+/// A change in progress. The closure of [`Pass::change`] uses it to read the store and collect up to 64 operations.
 ///
 /// [`get`](Self::get) reads the snapshot with the operations so far applied. [`snapshot`](Self::snapshot) returns the snapshot without
 /// them.
@@ -16,10 +16,10 @@ pub struct Change<'a> {
     draft: RawDraft,
     /// The operations in the draft.
     batch: Batch,
-    /// The numbers of the nodes that the change creates. The next one will get the number `next`.
+    /// The numbers of the nodes that the change creates. The next one will get number `next`.
     nodes: Vec<u64>,
     next: u64,
-    /// The error from an operation that wasn't collected, if its call couldn't return the error. The change fails with this error.
+    /// The error from an operation that wasn't collected, if its method couldn't return it. The change fails with this error.
     refused: Option<Error>,
 }
 
@@ -54,10 +54,10 @@ impl<'a> Change<'a> {
         &self.batch
     }
 
-    /// Returns an attribute as it is after the operations so far, or `None` if the node or the attribute doesn't exist then.
+    /// Returns an attribute with the operations so far applied, or `None` if the node or the attribute doesn't exist then.
     ///
     /// # Errors
-    /// The same as [`Snapshot::get`].
+    /// The same errors as [`Snapshot::get`].
     pub fn get(&self, node: u64, name: &str) -> Result<Option<Value>> {
         let mut bytes = [0; 255];
         let answer = self
@@ -71,13 +71,13 @@ impl<'a> Change<'a> {
     /// Accepts values of any kind from now on. Before this call, setting a value whose kind differs from that of its index is an error,
     /// because no query would find the value.
     pub fn any_kind(&mut self) -> &mut Self {
-        // Fails only in a forked child, where every other call does too.
+        // This fails only in a forked child, where every other call fails too.
         let _ = self.draft.any_kind();
         self
     }
 
-    /// Creates a node and returns the number that it will have. If this call or one of those below adds a 65th operation, the change fails
-    /// with [`Error::BadCount`].
+    /// Creates a node and returns the number that it will have. If this method or one of those below adds a 65th operation, the change
+    /// fails with [`Error::BadCount`].
     pub fn new_node(&mut self) -> u64 {
         let node = self.next;
         self.next += 1;
@@ -117,8 +117,8 @@ impl<'a> Change<'a> {
         Ok(self)
     }
 
-    /// Sets each node's attribute of this name to the value that it already has, if the value is of this kind. Returns how many attributes
-    /// were set.
+    /// Sets each node's attribute of this name again to its current value, if that value is of this kind. Returns the number of attributes
+    /// set.
     pub(crate) fn set_again(&mut self, nodes: &[u64], name: &str, kind: Kind) -> Result<u64> {
         let mut count = 0;
         for node in nodes {
@@ -154,7 +154,7 @@ impl<'a> Change<'a> {
     /// Removes the index with this name.
     ///
     /// # Errors
-    /// The same as [`make_index`](Self::make_index).
+    /// The same errors as [`make_index`](Self::make_index).
     pub fn remove_index(&mut self, name: &str) -> Result<&mut Self> {
         self.collect(&of_index(sys::BES_REMOVE_INDEX, name, 0))?;
         self.batch.remove_index(name);
@@ -182,8 +182,8 @@ impl<'a> Change<'a> {
         Err(of_write(at_operation, index + 1, None))
     }
 
-    /// Adds an operation without a value, and returns whether it was added. Once an operation can't be added, the change will fail with its
-    /// error, so no more are added.
+    /// Adds an operation without a value, and returns whether it was added. After an operation that can't be added, the change will fail
+    /// with its error, so no more are added.
     fn collect_or_keep_error(&mut self, kind: u32, node: u64, name: &str) -> bool {
         if self.refused.is_some() {
             return false;
@@ -196,10 +196,10 @@ impl<'a> Change<'a> {
         self.refused.is_none()
     }
 
-    /// Returns whether there is anything to write.
+    /// Returns `true` if there is anything to write.
     ///
     /// # Errors
-    /// The error from an operation that wasn't collected, if its call didn't return the error.
+    /// The error from an operation that wasn't collected, if its method couldn't return it.
     pub(crate) fn has_operations(&mut self) -> Result<bool> {
         match self.refused.take() {
             Some(error) => Err(error),
@@ -213,7 +213,7 @@ impl<'a> Change<'a> {
         pass.end_change(&self.draft, self.snapshot.number(), &self.batch, self.nodes)
     }
 
-    /// Runs the closure on newer and newer snapshots until its operations have been written on top of the one that it read.
+    /// Runs the closure on successively newer snapshots until its operations have been written on top of the snapshot that it read.
     pub(crate) fn run<T>(pass: &mut Pass, closure: &mut impl FnMut(&mut Change<'_>) -> Result<T>) -> Result<T> {
         let mut waits = Waits::of(pass);
         loop {

@@ -1,17 +1,17 @@
 //! Copying of a store's state, for tasks that would otherwise hold a snapshot for a long time.
 //!
-//! A pinned snapshot keeps pages that writes may need. So copying unpins its snapshot as soon as a write has found no free page, and starts
-//! over after a pause. In a store that is nearly full and constantly written to, no copy would ever be completed this way. So the last try
+//! A pinned snapshot keeps pages that writes may need. So as soon as a write finds no free page, copying unpins its snapshot, and starts
+//! over after a pause. In a store that is nearly full and constantly written to, this would never complete a copy. So the last attempt
 //! makes writes wait at the gate, where they need no pages.
 
 use crate::{Batch, Result, Snapshot, Store};
 use std::thread;
 use std::time::Duration;
 
-/// How many tries yield to writes before the last one.
+/// The number of attempts that yield to writes before the last one.
 const TRIES: u32 = 6;
 
-/// How long to pause after the first try. Each later pause is twice as long as the one before.
+/// The pause after the first attempt. Each later pause is twice as long as the one before.
 const REST: Duration = Duration::from_millis(10);
 
 /// A store's contents in one snapshot, returned by [`Store::copy_state`].
@@ -30,7 +30,7 @@ pub struct StateCopy {
 enum Step {
     /// A batch has been read from the snapshot, which is still pinned.
     Read,
-    /// A write needed pages, so no snapshot is pinned for this long.
+    /// A write needed pages, so copying pauses for this long, with no snapshot pinned.
     Rest(Duration),
 }
 
@@ -52,7 +52,7 @@ fn copy_by_steps(store: &Store, take: &mut impl FnMut(Step)) -> Result<StateCopy
     }
 }
 
-/// Copies the current snapshot. Returns `None` if a write needed its pages. During the last try, writes wait.
+/// Copies the current snapshot. Returns `None` if a write needed its pages. During the last attempt, writes wait.
 fn try_to_copy(store: &Store, is_last: bool, take: &mut impl FnMut(Step)) -> Result<Option<StateCopy>> {
     let succession = store.succession();
     let mut pass = store.spare()?;
@@ -65,7 +65,7 @@ fn try_to_copy(store: &Store, is_last: bool, take: &mut impl FnMut(Step)) -> Res
     })
 }
 
-/// Copies the snapshot. Stops and returns `None` if `goes_on` returns `false`, because the snapshot must then be unpinned.
+/// Copies the snapshot. If `goes_on` returns `false`, stops and returns `None`, because the snapshot must be unpinned.
 fn read(snapshot: &Snapshot<'_>, mut goes_on: impl FnMut() -> bool) -> Result<Option<StateCopy>> {
     let mut batches = Vec::new();
     for batch in snapshot.state() {
@@ -86,7 +86,7 @@ mod tests {
     use super::*;
     use crate::{Error, Limits, Pass, Retry};
 
-    /// How many nodes the store has. Their state takes several batches and leaves few pages.
+    /// The number of nodes in the store. Their state takes several batches, and leaves few pages free.
     const NODES: u64 = 100;
 
     fn nearly_full() -> Store {

@@ -82,7 +82,7 @@ const fn sign(kind: u32) -> &'static str {
     }
 }
 
-/// Returns whether the comparison is false for every value in an index of this kind.
+/// Returns `true` if the comparison is false for every value in an index of this kind.
 const fn is_never(one: &bes_compared, kind: Kind) -> bool {
     match kind {
         // surface.toml: never true
@@ -96,7 +96,7 @@ const fn is_never(one: &bes_compared, kind: Kind) -> bool {
 }
 
 /// Returns the comparisons in a query that are never true, given the kinds of the indices. `kind_of` returns the kind of the index with a
-/// given name.
+/// given name, if there is one.
 ///
 /// ```
 /// use bestore::{hints, Kind};
@@ -107,7 +107,7 @@ const fn is_never(one: &bes_compared, kind: Kind) -> bool {
 /// ```
 ///
 /// # Errors
-/// The same as [`compared`].
+/// The same errors as [`compared`].
 pub fn hints(query: &str, kind_of: impl Fn(&str) -> Option<Kind>) -> Result<Vec<Hint>> {
     let hint = |one: Compared| {
         let kind = kind_of(&one.name).filter(|kind| one.never.contains(kind))?;

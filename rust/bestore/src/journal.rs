@@ -13,7 +13,7 @@ pub struct Entry {
     pub batch: Batch,
 }
 
-/// An iterator over a journal's entries from a given entry on, returned by [`Pass::journal_from`].
+/// An iterator over a journal's entries, starting at a given one, returned by [`Pass::journal_from`].
 ///
 /// It returns `None` at the end of the journal, and can be called again once the journal has grown. Entries are read one at a time, and
 /// other passes can't write while one is being read. After an error, the next call reads the same entry again.

@@ -1,8 +1,8 @@
 //! A shared, multi-version, in-memory attribute store with the attributes, indices and query language of BeOS.
 //!
-//! A [`Store`] holds numbered nodes with typed attributes. A [`Pass`] is one thread's handle to it: it writes transactions, and pins a
-//! [`Snapshot`] in which to read and run queries. Readers take no locks, and a snapshot doesn't change while others write. This crate is
-//! built on the library libbestore, whose functions are formally verified against their contracts.
+//! A [`Store`] holds numbered nodes with typed attributes. A [`Pass`] is one thread's handle to it, with which the thread writes
+//! transactions, and pins a [`Snapshot`] to read and query. Readers take no locks, and a snapshot doesn't change while others write. This
+//! crate is built on the C library libbestore, whose functions are formally verified against their contracts.
 //!
 //! ```
 //! use bestore::{Kind, Limits, Store};
@@ -26,7 +26,7 @@
 //! # What is promised
 //!
 //! Writes are serializable in a single order, that of the journal. A snapshot is a prefix of that order, and includes everything that its
-//! pass has written or seen. A write with [`Pass::change`] is applied to exactly the snapshot that its closure has read.
+//! pass has written or seen. A write with [`Pass::change`] is applied to exactly the snapshot that its closure read.
 //!
 //! # Threads and processes
 //!

@@ -25,7 +25,7 @@ impl Snapshot<'_> {
     /// ```
     ///
     /// # Errors
-    /// [`Error::Query`] if the text isn't a query, [`Error::OutOfMemory`]. The iterator returns the errors of [`page`](Self::page).
+    /// [`Error::Query`] if the text isn't a query, [`Error::OutOfMemory`]. The iterator itself returns the errors of [`page`](Self::page).
     pub fn ordered(&self, text: &str, order: Order) -> Result<Ordered<'_>> {
         Ok(Ordered::new(Source::One(self), Prepared::new(text)?, order))
     }
@@ -37,7 +37,7 @@ impl Snapshot<'_> {
     ///
     /// # Errors
     /// [`Error::NoOrder`] if there is no such index. [`Error::BadCursor`] if the cursor belongs to another order or query, or if the index
-    /// now has another kind. [`Error::NoRoom`] if `most` is 0. Otherwise the same as [`query`](Self::query).
+    /// now has another kind. [`Error::NoRoom`] if `most` is 0. Otherwise the same errors as [`query`](Self::query).
     pub fn page(&self, prepared: &Prepared, order: &Order, after: Option<&Cursor>, most: usize) -> Result<Page> {
         let check = prepared.check()?;
         let after = begin(order, check, after, most)?;
@@ -76,10 +76,10 @@ impl Snapshot<'_> {
         }
     }
 
-    /// Returns the first `most` nodes that the query finds, in ascending order from the number `from` on.
+    /// Returns the first `most` nodes that the query finds, in ascending order, starting at node number `from`.
     ///
     /// # Errors
-    /// [`Error::NoRoom`] if `most` is 0. Otherwise the same as [`query`](Self::query).
+    /// [`Error::NoRoom`] if `most` is 0. Otherwise the same errors as [`query`](Self::query).
     pub fn first(&self, text: &str, from: u64, most: usize) -> Result<Vec<u64>> {
         let prepared = Prepared::new(text)?;
         let answer = self.pass().raw().first(prepared.raw(), from, most);
@@ -89,17 +89,17 @@ impl Snapshot<'_> {
     /// Like [`first`](Self::first), for a prepared query.
     ///
     /// # Errors
-    /// The same as `first`.
+    /// The same errors as `first`.
     pub fn first_prepared(&self, prepared: &Prepared, from: u64, most: usize) -> Result<Vec<u64>> {
         let answer = self.pass().raw().first(prepared.raw(), from, most);
         answer.map_err(|refused| self.query_error(refused, || prepared.text_or_empty()))
     }
 
-    /// Returns any `most` of the nodes that the query finds, or all of them if there are fewer, in no particular order. If the result is
-    /// large, this takes less time than finding all of it.
+    /// Returns up to `most` of the nodes that the query finds, chosen arbitrarily and in no particular order. If the result is large, this
+    /// is faster than finding all of it.
     ///
     /// # Errors
-    /// [`Error::NoRoom`] if `most` is 0. Otherwise the same as [`query`](Self::query).
+    /// [`Error::NoRoom`] if `most` is 0. Otherwise the same errors as [`query`](Self::query).
     pub fn any(&self, text: &str, most: usize) -> Result<Vec<u64>> {
         let prepared = Prepared::new(text)?;
         let answer = self.pass().raw().any(prepared.raw(), most);
@@ -109,14 +109,14 @@ impl Snapshot<'_> {
     /// Like [`any`](Self::any), for a prepared query.
     ///
     /// # Errors
-    /// The same as `any`.
+    /// The same errors as `any`.
     pub fn any_prepared(&self, prepared: &Prepared, most: usize) -> Result<Vec<u64>> {
         let answer = self.pass().raw().any(prepared.raw(), most);
         answer.map_err(|refused| self.query_error(refused, || prepared.text_or_empty()))
     }
 }
 
-/// Returns the cursor after which a page begins. A cursor that belongs to another order or query is an error, and so is a `most` of 0.
+/// Returns the cursor after which a page begins. It is an error if the cursor belongs to another order or query, or if `most` is 0.
 pub(crate) fn begin(order: &Order, check: u32, after: Option<&Cursor>, most: usize) -> Result<Cursor> {
     if most == 0 {
         return Err(Error::NoRoom);
@@ -133,8 +133,8 @@ enum Source<'a> {
     Shelf(&'a ShelfSnapshot<'a>),
 }
 
-/// An iterator over the nodes that a query finds, in order, returned by [`Snapshot::ordered`] or [`ShelfSnapshot::ordered`]. Each page is
-/// twice as long as the last one. An error ends the iteration.
+/// An iterator over the nodes that a query finds, in order, returned by [`Snapshot::ordered`] or [`ShelfSnapshot::ordered`]. It reads
+/// pages, each twice as long as the last one. An error ends the iteration.
 #[derive(Debug)]
 pub struct Ordered<'a> {
     source: Source<'a>,
@@ -167,7 +167,7 @@ impl<'a> Ordered<'a> {
     /// Returns the first `most` nodes as a page.
     ///
     /// # Errors
-    /// The same as [`Snapshot::page`].
+    /// The same errors as [`Snapshot::page`].
     pub fn page(&self, most: usize) -> Result<Page> {
         let after = self.paging.position();
         self.source.page(&self.prepared, &self.order, after, most)

@@ -22,7 +22,7 @@ pub struct Retry {
     /// Retries while the store is full and another pass holds, or has just held, an older snapshot. Before each retry, the call waits for 1
     /// to 64 milliseconds.
     pub full: u32,
-    /// Retries by [`Pass::change`] after a conflict with another write. Before each retry, it yields to other threads, as for `busy`.
+    /// Retries by [`Pass::change`] after a conflict with another write. Before each retry, it yields to other threads, as with `busy`.
     pub conflict: u32,
 }
 
@@ -47,7 +47,7 @@ impl Default for Retry {
     }
 }
 
-/// How a change waits after an attempt that wrote nothing.
+/// How a change waits between its attempts.
 pub(crate) struct Waits {
     left: Retry,
     pauses: u32,
@@ -143,21 +143,21 @@ pub struct Witness {
 pub struct Status {
     /// The number of pages in the store.
     pub pages: u64,
-    /// The pages that a write can use.
+    /// The number of pages that a write can use.
     pub free: u64,
-    /// The pages of older snapshots, kept because a pass may still read them.
+    /// The number of pages kept because a pass may still be reading an older snapshot.
     pub retired: u64,
-    /// How many entries the journal has.
+    /// The number of entries in the journal.
     pub entries: u64,
-    /// How many entries the journal can have.
+    /// The maximum number of entries in the journal.
     pub commits: u64,
     /// The oldest active reader, if any.
     pub oldest: Option<Oldest>,
 }
 
 impl Status {
-    /// Returns whether a write may find free pages when it is retried, because another pass keeps, or has kept, pages for a snapshot. The
-    /// write came from pass number `own`, and was refused with [`Error::Full`] and this `oldest`.
+    /// Returns `true` if a write may find free pages when it is retried, because another pass keeps, or has just kept, pages for a
+    /// snapshot. The write came from pass number `own`, and was refused with [`Error::Full`] and this `oldest`.
     #[must_use]
     pub fn may_free_pages(&self, own: u64, oldest: u64) -> bool {
         oldest < self.entries && self.oldest.map_or(true, |reader| reader.pass != own)
@@ -167,13 +167,13 @@ impl Status {
 /// The oldest active reader of a store.
 #[derive(Clone, Copy, Debug, PartialEq, Eq)]
 pub struct Oldest {
-    /// The reader has the snapshot with this number, or a later one, pinned.
+    /// The reader has pinned the snapshot with this number, or a later one.
     pub snapshot: u64,
     /// The number of the pass.
     pub pass: u64,
 }
 
-/// A session with the store, used by one thread at a time.
+/// A session with a store, used by one thread at a time.
 ///
 /// A pass writes, and pins the snapshots that it reads. It can be moved to another thread but not shared between threads. Calls on
 /// different passes run concurrently.
@@ -181,7 +181,7 @@ pub struct Oldest {
 pub struct Pass {
     /// The generation from which the pass reads. It also writes there, unless there is a newer generation.
     seat: Seat,
-    /// The seat in the newer generation while the pass reads a snapshot of the earlier one.
+    /// The seat in a newer generation, while the pass reads a snapshot in the earlier one.
     ahead: RefCell<Option<Seat>>,
     succession: Arc<Succession>,
     /// `None` for the store's own pass.
@@ -201,8 +201,8 @@ pub type MakeWrite<'a> = &'a mut dyn FnMut() -> Result<Written>;
 /// `keep` applies a write in memory, and the call that writes returns only after `wait`. So a snapshot may show a write that hasn't been
 /// kept yet.
 pub trait Keeper: Send + Sync + fmt::Debug {
-    /// Writes the batch for the pass with this number. It calls `write` once, while no other write is in progress, and returns its result
-    /// together with a number for [`wait`](Self::wait). The calls are made in the order of the journal.
+    /// Writes the batch for the pass with this number. Calls `write` once, while no other write is in progress, and returns its result
+    /// together with a number to pass to [`wait`](Self::wait). The calls to `write` are in the order of the journal.
     ///
     /// # Errors
     /// The errors of `write`, and the keeper's own errors as [`Error::Other`], which can occur before or after the call to `write`.
@@ -244,7 +244,7 @@ impl Pass {
         }
     }
 
-    /// Returns the pass with a keeper, through which all its writes go from now on. All passes that write must have the same keeper.
+    /// Returns the pass with a keeper, which handles all of its writes from now on. All passes that write must have the same keeper.
     ///
     /// ```
     /// use bestore::{Batch, Keeper, Limits, MakeWrite, Result, Store, Written};
@@ -328,7 +328,7 @@ impl Pass {
         }
     }
 
-    /// Writes with a seat in the newest generation, which can't be superseded while this call runs. Returns a commit number.
+    /// Writes with a seat in the newest generation, which can't be replaced while this call runs. Returns a commit number.
     fn write_on_newest(&self, batch: &Batch, mut write: impl FnMut(&Seat) -> Answer<u64>) -> Answer<u64> {
         loop {
             let open = self.succession.enter()?;
@@ -350,8 +350,8 @@ impl Pass {
     }
 
     /// Releases the old memory after [`Store::carry_on`](crate::Store::carry_on), so that it can be freed, unless a snapshot in it is held.
-    /// [`pin`](Self::pin) does the same, so this call is meant for a pass that is idle or only writes. Returns whether there was anything
-    /// to release. The pass's [`number`](Self::number) may be different afterwards.
+    /// [`pin`](Self::pin) does the same, so this method is for a pass that is idle or only writes. Returns `true` if there was anything to
+    /// release. The pass's [`number`](Self::number) may change.
     ///
     /// # Errors
     /// [`Error::OutOfMemory`], [`Error::Forked`].
@@ -375,8 +375,8 @@ impl Pass {
         self.retry = retry;
     }
 
-    /// Returns how many times the store had been [carried on](crate::Store::carry_on) when the pass last released old memory. While that is
-    /// less than [`Store::generation`](crate::Store::generation), the pass keeps old memory from being freed.
+    /// Returns the store's [generation](crate::Store::generation) at the time when this pass last released old memory. While it is lower
+    /// than the store's current generation, the pass keeps old memory from being freed.
     #[must_use]
     pub fn generation(&self) -> u64 {
         self.seat.generation()
@@ -400,8 +400,8 @@ impl Pass {
         Snapshot::pin(self)
     }
 
-    /// Pins the current snapshot and holds it until [`release`](Self::release): until then, each [`pin`](Self::pin) returns this snapshot.
-    /// This way a session can keep a snapshot without borrowing the pass. If a snapshot is already held, it stays held. Returns the
+    /// Pins the current snapshot and holds it until [`release`](Self::release) is called. Until then, each [`pin`](Self::pin) returns this
+    /// snapshot, so a session can keep a snapshot without borrowing the pass. If a snapshot is already held, keeps holding it. Returns the
     /// snapshot's number.
     ///
     /// ```
@@ -443,17 +443,17 @@ impl Pass {
     ///
     /// # Errors
     /// [`Error::Busy`] and [`Error::Full`] once the retries set by [`Retry`] are used up. [`Error::BadCount`], [`Error::NameLength`],
-    /// [`Error::DataLength`], [`Error::HasNul`]: an operation isn't valid. [`Error::NoNode`] to [`Error::NotIndexable`]: the store refuses
+    /// [`Error::DataLength`], [`Error::HasNul`]: an operation isn't valid. [`Error::NoNode`] to [`Error::NotIndexable`]: the store refused
     /// an operation. [`Error::CommitsSpent`], [`Error::OutOfMemory`], [`Error::Forked`].
     pub fn apply(&self, batch: &Batch) -> Result<Written> {
         self.write(None, batch)
     }
 
-    /// Writes like [`apply`](Self::apply), but only if the journal has exactly `expected` entries. So everything that was read in the
-    /// snapshot with that number is still current.
+    /// Writes like [`apply`](Self::apply), but only if the journal has exactly `expected` entries, so that everything read in the snapshot
+    /// with that number is still current.
     ///
     /// # Errors
-    /// [`Error::Conflict`] if the journal's length differs; otherwise the same as `apply`.
+    /// [`Error::Conflict`] if the journal's length differs; otherwise the same errors as `apply`.
     pub fn apply_if(&self, expected: u64, batch: &Batch) -> Result<Written> {
         self.write(Some(expected), batch)
     }
@@ -466,7 +466,7 @@ impl Pass {
     /// the write is in memory, before a [`Keeper`] has kept it.
     ///
     /// # Errors
-    /// The same as for those calls.
+    /// The same errors as [`apply`](Self::apply) or [`apply_if`](Self::apply_if).
     pub fn apply_with(&self, expected: Option<u64>, batch: &Batch, made: impl FnOnce(&Written)) -> Result<Written> {
         let (written, number) = self.begin_write(expected, batch)?;
         made(&written);
@@ -493,8 +493,8 @@ impl Pass {
         }
     }
 
-    /// Writes a change's draft in memory, trying only once. The draft's operations are those in the batch, and create these nodes. Returns
-    /// the number to pass to `end_write`.
+    /// Makes one attempt to write a change's draft in memory. The batch has the draft's operations, which create these nodes. Returns the
+    /// number to pass to `end_write`.
     pub(crate) fn end_change(&self, draft: &RawDraft, expected: u64, batch: &Batch, nodes: Vec<u64>) -> Result<u64> {
         let mut write = || match self.write_draft(draft, expected, batch) {
             Ok(number) => Ok(Written {
@@ -519,7 +519,7 @@ impl Pass {
         })
     }
 
-    /// If this pass has a keeper, waits until this write has been kept.
+    /// Waits until this write has been kept, if this pass has a keeper.
     pub(crate) fn end_write(&self, number: u64) -> Result<()> {
         self.keeper.as_ref().map_or(Ok(()), |keeper| keeper.wait(number))
     }
@@ -539,7 +539,7 @@ impl Pass {
         }
     }
 
-    /// Replays a batch whose outcomes are known. Returns whether it creates the same nodes again.
+    /// Replays a batch whose outcomes are known. Returns `true` if it creates the same nodes again.
     pub(crate) fn repeat(&self, batch: &Batch) -> Result<bool> {
         let written = self.apply(batch)?;
         let mut repeated = batch.clone();
@@ -562,9 +562,9 @@ impl Pass {
         call()
     }
 
-    /// Reads and writes atomically: runs the closure on the current snapshot, and writes the operations that it collects if there has been
-    /// no other write in the meantime. If there has been one, it runs the closure again on a newer snapshot. It also does so if another
-    /// pass is writing, or if no page is free while another pass holds an older snapshot.
+    /// Reads and writes atomically. Runs the closure on the current snapshot, and writes the operations that it collects, unless there has
+    /// been another write in the meantime. In that case, runs the closure again on a newer snapshot, and likewise if another pass is
+    /// writing, or if no page is free while another pass holds an older snapshot.
     ///
     /// ```
     /// # use bestore::{Limits, Store, Kind};
@@ -590,15 +590,15 @@ impl Pass {
     ///
     /// # Errors
     /// The closure's errors; [`Error::Conflict`], [`Error::Busy`] and [`Error::Full`] once the retries set by [`Retry`] are used up;
-    /// otherwise the same as [`apply`](Self::apply).
+    /// otherwise the same errors as [`apply`](Self::apply).
     pub fn change<T>(&mut self, mut change: impl FnMut(&mut Change<'_>) -> Result<T>) -> Result<T> {
         Change::run(self, &mut change)
     }
 
-    /// Creates a node and returns its number. This call and the next five write like [`apply`](Self::apply).
+    /// Creates a node and returns its number. This method and the next five each [`apply`](Self::apply) a batch with a single operation.
     ///
     /// # Errors
-    /// The same as `apply`.
+    /// The same errors as `apply`.
     pub fn new_node(&self) -> Result<u64> {
         Ok(self.apply(Batch::new().new_node())?.nodes[0])
     }
@@ -606,7 +606,7 @@ impl Pass {
     /// Removes the node and all its attributes.
     ///
     /// # Errors
-    /// The same as [`apply`](Self::apply).
+    /// The same errors as [`apply`](Self::apply).
     pub fn remove_node(&self, node: u64) -> Result<()> {
         self.apply(Batch::new().remove_node(node)).map(drop)
     }
@@ -614,7 +614,7 @@ impl Pass {
     /// Sets the attribute.
     ///
     /// # Errors
-    /// The same as [`apply`](Self::apply).
+    /// The same errors as [`apply`](Self::apply).
     pub fn set(&self, node: u64, name: &str, value: impl Into<Value>) -> Result<()> {
         self.apply(Batch::new().set(node, name, value)).map(drop)
     }
@@ -622,16 +622,16 @@ impl Pass {
     /// Removes the attribute.
     ///
     /// # Errors
-    /// The same as [`apply`](Self::apply).
+    /// The same errors as [`apply`](Self::apply).
     pub fn unset(&self, node: u64, name: &str) -> Result<()> {
         self.apply(Batch::new().unset(node, name)).map(drop)
     }
 
-    /// Creates an index. It holds attributes of this name and kind that are set from then on; use [`reindex`](Self::reindex) to add earlier
-    /// ones.
+    /// Creates an index. It holds the attributes of this name and kind that are set from then on. Use [`reindex`](Self::reindex) to add
+    /// earlier ones.
     ///
     /// # Errors
-    /// The same as [`apply`](Self::apply).
+    /// The same errors as [`apply`](Self::apply).
     pub fn make_index(&self, name: &str, kind: Kind) -> Result<()> {
         self.apply(Batch::new().make_index(name, kind)).map(drop)
     }
@@ -639,14 +639,14 @@ impl Pass {
     /// Removes the index.
     ///
     /// # Errors
-    /// The same as [`apply`](Self::apply).
+    /// The same errors as [`apply`](Self::apply).
     pub fn remove_index(&self, name: &str) -> Result<()> {
         self.apply(Batch::new().remove_index(name)).map(drop)
     }
 
-    /// Adds to the index of this name the attributes that it lacks because they were set before it was created, by setting them to the same
-    /// values again. It uses changes of up to 64 attributes each, so no newer value is lost. Returns how many attributes were set. The cost
-    /// is to read every node and to write each of these attributes.
+    /// Fills the index of this name with the attributes that were set before it was created, by setting them again to their current values.
+    /// This uses changes of up to 64 attributes each, so no newer value is lost. Returns the number of attributes set. The cost is that of
+    /// reading every node and writing each of these attributes.
     ///
     /// ```
     /// # use bestore::{Kind, Limits, Store};
@@ -660,7 +660,7 @@ impl Pass {
     /// ```
     ///
     /// # Errors
-    /// [`Error::NoIndex`]; otherwise the same as [`change`](Self::change).
+    /// [`Error::NoIndex`]; otherwise the same errors as [`change`](Self::change).
     pub fn reindex(&mut self, name: &str) -> Result<u64> {
         let snapshot = self.pin()?;
         let kind = snapshot.index(name)?;
@@ -673,7 +673,7 @@ impl Pass {
         Ok(set)
     }
 
-    /// Returns how many entries the journal no longer has because the store was [carried on](crate::Store::carry_on), or 0 if it never was.
+    /// Returns the number of entries that [`Store::carry_on`](crate::Store::carry_on) has removed from the beginning of the journal.
     ///
     /// # Errors
     /// [`Error::OutOfMemory`], [`Error::Forked`].
@@ -681,14 +681,14 @@ impl Pass {
         Ok(self.on_newest(|seat| Ok(seat.state()))?)
     }
 
-    /// Returns the journal's entries after the first `from`, that is, from commit number `from + 1` on. Entries that the journal [no longer
-    /// has](Self::journal_begin) are left out; you can tell by the first entry's number.
+    /// Returns the journal's entries after the first `from`, that is, starting at commit number `from + 1`. Entries that have been
+    /// [removed](Self::journal_begin) are left out, as you can tell from the first entry's number.
     pub fn journal_from(&self, from: u64) -> Entries<'_> {
         Entries::new(self, from)
     }
 
-    /// Returns the journal as text, one line per entry. Other passes can't write while this call runs. If the store was [carried
-    /// on](crate::Store::carry_on), the text begins with the state at that time.
+    /// Returns the journal as text, one line per entry. Other passes can't write while this call runs. After
+    /// [`Store::carry_on`](crate::Store::carry_on), the text begins with the state at that time.
     ///
     /// # Errors
     /// [`Error::Busy`], [`Error::OutOfMemory`], [`Error::Forked`].
@@ -697,7 +697,7 @@ impl Pass {
         Ok(String::from_utf8_lossy(&bytes).into_owned())
     }
 
-    /// Returns how full the store is and which snapshot keeps pages from being reused. Other passes can't write while this call runs.
+    /// Returns how full the store is, and which snapshot keeps pages from being reused. Other passes can't write while this call runs.
     ///
     /// # Errors
     /// [`Error::Busy`], [`Error::Forked`].
@@ -721,7 +721,8 @@ impl Pass {
         Ok(status?)
     }
 
-    /// Meets a pass that was dropped: afterwards both have seen what either had seen. Returns how many journal entries both have now seen.
+    /// Meets a pass that was dropped. Afterwards, both have seen everything that either had seen. Returns the number of journal entries
+    /// that both have now seen.
     ///
     /// # Errors
     /// [`Error::NoPass`] if there is no pass to meet, or another thread is meeting it; [`Error::Forked`].
@@ -741,9 +742,9 @@ impl Pass {
         })
     }
 
-    /// Joins a witness: afterwards the pass and the witness have both seen what either had seen. So each later snapshot of the pass
-    /// includes everything that the witness had seen, and each transaction that the pass commits later has a higher number than all of
-    /// those entries. Returns how many journal entries both have now seen.
+    /// Joins a witness. Afterwards, the pass and the witness have both seen everything that either had seen. So each later snapshot of the
+    /// pass includes everything that the witness had seen, and each transaction that the pass commits later has a higher number than all of
+    /// those entries. Returns the number of journal entries that both have now seen.
     ///
     /// # Errors
     /// [`Error::OtherStore`] if the witness belongs to another store; [`Error::Forked`].
@@ -751,7 +752,7 @@ impl Pass {
         let is_of_store = Arc::ptr_eq(&self.succession, &witness.succession);
         let seen = self.on_newest(|seat| match seat.raw().join(&mut witness.raw)? {
             Some(seen) => Ok(Some(seat.outside(seen))),
-            // Whatever was seen in an earlier generation has been part of this one from its beginning.
+            // Everything seen in an earlier generation has been in this one from its beginning.
             None => Ok(is_of_store.then_some(seat.begin())),
         });
         seen?.ok_or(Error::OtherStore)

@@ -141,7 +141,7 @@ impl Predicate {
         })
     }
 
-    /// Returns the text of the item before the one with this index. If that one is a comparison, the text is its value.
+    /// Returns the text of the item before the one at this index. If that item is a comparison, the text is its value.
     fn pattern_before(&self, item: u64) -> String {
         let index = usize::try_from(item).unwrap_or(usize::MAX).checked_sub(1);
         let value = index.and_then(|index| self.items.get(index));

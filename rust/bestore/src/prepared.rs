@@ -7,8 +7,8 @@ use bestore_types::raw::crc32;
 use std::cell::Cell;
 use std::fmt;
 
-/// A query that was parsed once, or built by [`Predicate::prepare`](crate::Predicate::prepare). It isn't tied to a store, and can be run in
-/// any snapshot.
+/// A query that has been parsed, or built by [`Predicate::prepare`](crate::Predicate::prepare). It isn't tied to a store, so it can be run
+/// in any snapshot.
 ///
 /// ```
 /// use bestore::Prepared;
@@ -54,7 +54,7 @@ impl Prepared {
         self.text().unwrap_or_default()
     }
 
-    /// Returns the checksum by which this query's cursors identify the query.
+    /// Returns the checksum that identifies this query in its cursors.
     pub(crate) fn check(&self) -> Result<u32> {
         match self.check.get() {
             Some(check) => Ok(check),
@@ -118,7 +118,7 @@ pub struct Updates {
 #[derive(Debug)]
 pub struct Live {
     prepared: Prepared,
-    /// The store of the last refresh, identified by the number that its passes have.
+    /// The store of the last refresh, identified by the store number in its passes.
     store: Option<u64>,
 }
 
@@ -131,24 +131,24 @@ impl Live {
         Prepared::new(text).map(Self::from)
     }
 
-    /// Runs the query, and compares the result with that of the last refresh. Always use snapshots of the same store, or of another store
-    /// into which its state was copied, because nodes are compared by number. This call runs the whole query and takes no lock, so it never
+    /// Runs the query, and compares the result with that of the last refresh. Nodes are compared by number, so always use snapshots of the
+    /// same store, or of another store into which its state was copied. This method runs the whole query and takes no lock, so it never
     /// makes another pass's write return [`Error::Busy`].
     ///
     /// # Errors
-    /// The same as [`Snapshot::query`]. After an error, the query is unchanged.
+    /// The same errors as [`Snapshot::query`]. After an error, the query is unchanged.
     pub fn refresh(&mut self, snapshot: &Snapshot<'_>) -> Result<Updates> {
         self.refresh_by(snapshot, RawPass::refresh)
     }
 
-    /// Returns the same as [`refresh`](Self::refresh), but checks only the nodes that were written since the last refresh, which takes less
-    /// time if the result has 96 nodes or more and few nodes were written. It reads the journal's entries since then, during which other
-    /// passes get [`Error::Busy`]. Otherwise, or if the last refresh was in another store, it runs the whole query.
+    /// Like [`refresh`](Self::refresh), but if the result has 96 nodes or more and few nodes were written since the last refresh, checks
+    /// only those nodes, which takes less time. It finds them by reading the journal's entries since then, during which other passes'
+    /// writes return [`Error::Busy`]. In all other cases, or if the last refresh was in another store, it runs the whole query.
     ///
     /// # Errors
-    /// The same as `refresh`.
+    /// The same errors as `refresh`.
     pub fn refresh_changed(&mut self, snapshot: &Snapshot<'_>) -> Result<Updates> {
-        // The library requires the last refresh to have been in this store, because it reads this store's entries.
+        // The library requires that the last refresh was in this store, because it reads this store's entries.
         match self.store == Some(snapshot.pass().raw().store()) {
             true => self.refresh_by(snapshot, RawPass::refresh_changed),
             false => self.refresh(snapshot),

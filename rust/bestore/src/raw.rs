@@ -29,7 +29,7 @@ use sys::{
 /// The code that a call returns in a forked child. The library itself never returns it.
 pub(crate) const FORKED: u32 = u32::MAX;
 
-/// The maximum number of bytes in the names and values of a batch.
+/// The maximum total size in bytes of a batch's names and values.
 const BYTES: usize = OPERATIONS * (63 + 255);
 
 /// A code other than `BES_OK`, and the number reported with it.
@@ -41,7 +41,7 @@ pub(crate) struct Refused {
 
 pub(crate) type Answer<T> = Result<T, Refused>;
 
-/// The nodes that the result has gained and those that it has lost.
+/// The nodes that a result has gained, and those that it has lost.
 pub(crate) type RawUpdates = Answer<(Vec<u64>, Vec<u64>)>;
 
 fn check(code: u32, carried: u64) -> Answer<()> {
@@ -52,8 +52,8 @@ fn check(code: u32, carried: u64) -> Answer<()> {
     }
 }
 
-/// Returns the whole result of a function that counts all items and writes as many as fit. If they don't all fit, calls it again with a
-/// larger buffer.
+/// Returns all items from a function that counts them all but writes only as many as fit. If they don't all fit, calls the function again
+/// with a larger buffer.
 fn whole<T>(mut room: usize, mut call: impl FnMut(*mut T, usize, &mut u64) -> u32) -> Answer<Vec<T>>
 where
     T: Copy,
@@ -84,7 +84,7 @@ pub(crate) fn checked_name(name: &str) -> Answer<sys::bes_name> {
     check(code, 0).map(|()| checked)
 }
 
-/// Returns a list of operations from a function. If the list doesn't fit, calls it again with a larger buffer.
+/// Returns a list of operations from a function. If the list doesn't fit, calls the function again with larger buffers.
 fn listed(
     room: (usize, usize),
     mut call: impl FnMut(&mut bes_counts, *mut bes_operation, usize, *mut u8, usize) -> Answer<()>,
@@ -112,7 +112,7 @@ fn listed(
     }
 }
 
-/// Calls `bes_apply` or, if a length is expected, `bes_apply_if`.
+/// Calls `bes_apply` or, if `expected` is given, `bes_apply_if`.
 ///
 /// # Safety
 /// `pass` points to a handle that no other call uses.
@@ -132,7 +132,7 @@ unsafe fn apply(pass: *mut bes_pass, expected: Option<u64>, list: &List, made: &
 /// The buffer's capacity for the first query, in nodes.
 const NODES: usize = 256;
 
-/// Returns the nodes that a query finds. The buffer has room for a few more nodes than the last query found, so that few queries have to be
+/// Returns the nodes that a query finds. The buffer has room for somewhat more nodes than the last query found, so that few queries must be
 /// run twice.
 fn found(room: &Cell<usize>, call: impl FnMut(*mut u64, usize, &mut u64) -> u32) -> Answer<Vec<u64>> {
     let mut nodes = whole(room.get(), call)?;
@@ -143,8 +143,8 @@ fn found(room: &Cell<usize>, call: impl FnMut(*mut u64, usize, &mut u64) -> u32)
     Ok(nodes)
 }
 
-/// Returns up to `most` nodes from a call that counts all nodes and writes as many as fit. The buffer has room for at most `all` nodes,
-/// because there can't be more.
+/// Returns up to `most` nodes from a call that counts all nodes but writes only as many as fit. The buffer has room for at most `all`
+/// nodes, because there can't be more.
 fn some(all: u64, most: usize, call: impl FnOnce(*mut u64, usize, &mut u64) -> u32) -> Answer<Vec<u64>> {
     // The buffer has room for at least one node, so that a page from a store without nodes is empty and not an error.
     let room = usize::try_from(all).unwrap_or(usize::MAX).max(1).min(most);
@@ -157,7 +157,7 @@ fn some(all: u64, most: usize, call: impl FnOnce(*mut u64, usize, &mut u64) -> u
     Ok(nodes)
 }
 
-/// Returns the attribute that a call reads, and stores its bytes in `bytes`.
+/// Returns the attribute that a call reads. The call stores the attribute's bytes in `bytes`.
 fn attribute(
     bytes: &mut [u8; 255],
     call: impl FnOnce(&mut bes_attribute, *mut u8, usize) -> u32,
@@ -167,7 +167,7 @@ fn attribute(
     check(code, 0).map(|()| attribute)
 }
 
-/// How many stores this process has tried to open.
+/// The number of stores that this process has tried to open.
 static STORES: AtomicU64 = AtomicU64::new(0);
 
 /// A pass of a store.
@@ -206,7 +206,7 @@ impl RawPass {
         check(code, 0).map(|()| other)
     }
 
-    /// Returns a number from a call that takes only the pass.
+    /// Returns the number from a call whose only input is the pass.
     fn number_by(&self, call: unsafe extern "C" fn(*mut bes_pass, *mut u64) -> u32) -> Answer<u64> {
         let mut number = 0;
         // SAFETY: see the top of this module; `number` outlives the call.
@@ -256,7 +256,7 @@ impl RawPass {
         check(unsafe { sys::bes_unpin(self.handle.get()?) }, 0)
     }
 
-    /// Writes the list. If a length is expected, writes only if the journal has that length. Returns the commit number.
+    /// Writes the list. If `expected` is given, writes only if the journal has that length. Returns the commit number.
     pub(crate) fn apply(&self, expected: Option<u64>, list: &List, made: &mut [u64]) -> Answer<u64> {
         let mut number = 0;
         // SAFETY: see the top of this module.
@@ -281,7 +281,7 @@ impl RawPass {
         check(code, number).map(|()| number)
     }
 
-    /// Returns an attribute as it is after the draft's operations, and stores its bytes in `bytes`.
+    /// Returns an attribute with the draft's operations applied, and stores its bytes in `bytes`.
     pub(crate) fn change_get(
         &self,
         draft: &RawDraft,
@@ -319,7 +319,7 @@ impl RawPass {
         })
     }
 
-    /// Returns how many nodes the query finds.
+    /// Returns the number of nodes that the query finds.
     pub(crate) fn count(&self, text: &str) -> Answer<u64> {
         let (pass, mut count) = (self.handle.get()?, 0);
         // SAFETY: see the top of this module; the capacity is 0, so only the count is written.
@@ -343,7 +343,7 @@ impl RawPass {
         check(code, count).map(|()| count)
     }
 
-    /// Returns the next page in an order and whether more nodes follow it. Moves the cursor to the end of the page.
+    /// Returns the next page in an order, and whether more nodes follow it. Moves the cursor to the end of the page.
     pub(crate) fn ordered(
         &self,
         prepared: &RawPrepared,
@@ -361,7 +361,7 @@ impl RawPass {
         Ok((nodes, more != 0))
     }
 
-    /// Returns the first nodes that a query finds from a given number on.
+    /// Returns the first nodes that a query finds, starting at a given number.
     pub(crate) fn first(&self, prepared: &RawPrepared, from: u64, most: usize) -> Answer<Vec<u64>> {
         let (pass, prepared) = (self.handle.get()?, prepared.0.get()?);
         some(self.next()?, most, |nodes, room, count| {
@@ -417,7 +417,7 @@ impl RawPass {
         })
     }
 
-    /// Returns up to `room` nodes from a given number on.
+    /// Returns up to `room` nodes, starting at a given number.
     pub(crate) fn nodes(&self, from: u64, room: usize) -> Answer<Vec<u64>> {
         let mut nodes = Vec::with_capacity(room);
         let mut count = 0;
@@ -499,7 +499,7 @@ impl RawPass {
         })
     }
 
-    /// Closes the store and the handle. After an error both are unchanged.
+    /// Closes the store and the handle. After an error, both are unchanged.
     pub(crate) fn finish(&self) -> Answer<Vec<u8>> {
         let pass = self.handle.get()?;
         whole(1 << 16, |bytes, room, count| {
@@ -541,7 +541,7 @@ impl RawPass {
     }
 }
 
-/// A query that was parsed once.
+/// A query that has been parsed.
 #[derive(Debug)]
 pub(crate) struct RawPrepared(Handle<bes_prepared>);
 

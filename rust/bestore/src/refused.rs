@@ -12,7 +12,7 @@ pub(crate) fn no_order(name: &str, indices: Vec<(String, Kind)>) -> Error {
     }
 }
 
-/// Returns the error for a query with this text.
+/// Converts the library's refusal of a query with this text.
 pub(crate) fn of_query(refused: Refused, text: impl FnOnce() -> String) -> Error {
     match QueryFault::from_code(refused.code) {
         Some(fault) => {
@@ -24,7 +24,7 @@ pub(crate) fn of_query(refused: Refused, text: impl FnOnce() -> String) -> Error
     }
 }
 
-/// Returns the same error without its offset, for errors whose number isn't a byte offset in the text.
+/// Removes the offset from an error whose number isn't a byte offset in the text.
 pub(crate) fn without_offset(error: Error) -> Error {
     match error {
         Error::Query(error) => Error::Query(QueryError::new(error.text(), error.fault(), None)),
@@ -32,7 +32,7 @@ pub(crate) fn without_offset(error: Error) -> Error {
     }
 }
 
-/// Returns the same error. If the query lacks an index, adds the first one that is missing.
+/// Adds the first missing index to the error of a query that needs one.
 pub(crate) fn with_missing(error: Error, has_index: impl Fn(&str) -> bool) -> Error {
     match error {
         Error::Query(error) if error.fault() == QueryFault::NotCovered => {
@@ -53,7 +53,7 @@ fn first_missing(query: &str, has_index: impl Fn(&str) -> bool) -> Option<(Strin
     names.find(|(name, _)| !has_index(name))
 }
 
-/// Returns the error for a write of `count` operations, with the expected length of the journal if one was given.
+/// Converts the library's refusal of a write of `count` operations, which expected this length of the journal, if any.
 pub(crate) fn of_write(refused: Refused, count: usize, expected: Option<u64>) -> Error {
     let operation = Some(refused.carried);
     match (refused.code, expected) {
@@ -121,7 +121,7 @@ mod tests {
                 _ => of_write(refused(*code, 7), 65, Some(6)),
             };
             assert_eq!((error.code(), error.class()), (Some(*code), *class), "{what}");
-            // A cursor error says why the cursor doesn't fit.
+            // A cursor error says why the page can't continue from the cursor.
             assert!(
                 *code == sys::BES_BAD_CURSOR || error.to_string().starts_with(what),
                 "{error}"

@@ -23,7 +23,7 @@ impl<'a> Snapshot<'a> {
         }
         pass.follow()?;
         let number = match pass.raw().pin() {
-            // The last snapshot was leaked with `mem::forget`; nothing else could have let go of the borrowed pass.
+            // The last snapshot was leaked with `mem::forget`: nothing else could have ended the borrow of the pass.
             Err(refused) if refused.code == sys::BES_PINNED => {
                 pass.raw().unpin()?;
                 pass.raw().pin()?
@@ -34,7 +34,7 @@ impl<'a> Snapshot<'a> {
         Ok(Self { pass, number })
     }
 
-    /// Returns how many journal entries the snapshot contains.
+    /// Returns the number of journal entries that the snapshot contains.
     #[must_use]
     pub fn number(&self) -> u64 {
         self.number
@@ -70,34 +70,34 @@ impl<'a> Snapshot<'a> {
     /// Returns the nodes that the prepared query finds, in ascending order. Nothing is parsed.
     ///
     /// # Errors
-    /// The same as [`query`](Self::query).
+    /// The same errors as [`query`](Self::query).
     pub fn query_prepared(&self, prepared: &Prepared) -> Result<Vec<u64>> {
         let answer = self.pass.raw().query_prepared(prepared.raw());
         answer.map_err(|refused| self.query_error(refused, || prepared.text_or_empty()))
     }
 
-    /// Returns how many nodes the query finds. This costs as much as running the query, except for the list.
+    /// Returns the number of nodes that the query finds. This costs as much as running the query, except for creating the list.
     ///
     /// # Errors
-    /// The same as [`query`](Self::query).
+    /// The same errors as [`query`](Self::query).
     pub fn count(&self, text: &str) -> Result<u64> {
         let answer = self.pass.raw().count(text);
         answer.map_err(|refused| self.query_error(refused, || text.into()))
     }
 
-    /// Returns how many nodes the prepared query finds.
+    /// Returns the number of nodes that the prepared query finds.
     ///
     /// # Errors
-    /// The same as [`query`](Self::query).
+    /// The same errors as [`query`](Self::query).
     pub fn count_prepared(&self, prepared: &Prepared) -> Result<u64> {
         let answer = self.pass.raw().count_prepared(prepared.raw());
         answer.map_err(|refused| self.query_error(refused, || prepared.text_or_empty()))
     }
 
-    /// Returns how many entries the index of this name has, each a value and a node. This reads the whole index.
+    /// Returns the number of entries in the index of this name, each of which is a value and a node. This reads the whole index.
     ///
     /// # Errors
-    /// [`Error::NoIndex`]; otherwise the same as [`query`](Self::query).
+    /// [`Error::NoIndex`]; otherwise the same errors as [`query`](Self::query).
     pub fn pairs(&self, name: &str) -> Result<u64> {
         self.count_prepared(&attribute(name).any(self.index(name)?).prepare()?)
     }
@@ -112,7 +112,7 @@ impl<'a> Snapshot<'a> {
     /// Returns the comparisons in a query that are never true given this snapshot's indices, such as `size>1.5`.
     ///
     /// # Errors
-    /// The same as [`hints`](crate::hints()); [`Error::Forked`].
+    /// The same errors as [`hints`](crate::hints()); [`Error::Forked`].
     pub fn hints(&self, text: &str) -> Result<Vec<Hint>> {
         let indices: BTreeMap<_, _> = self.indices()?.into_iter().collect();
         hints(text, |name| indices.get(name).copied())
@@ -131,7 +131,7 @@ impl<'a> Snapshot<'a> {
         Ok(lacking)
     }
 
-    /// Returns a query's error, with the first missing index.
+    /// Converts the library's refusal of a query, and adds the first missing index.
     pub(crate) fn query_error(&self, refused: Refused, text: impl FnOnce() -> String) -> Error {
         let error = of_query(refused, text);
         if refused.code != sys::BES_NOT_COVERED {
@@ -146,7 +146,7 @@ impl<'a> Snapshot<'a> {
     /// Returns the indices chosen for the query, as comparisons joined by ` || `, and its cost, such as `"size"<"0" score 3`.
     ///
     /// # Errors
-    /// The same as [`query`](Self::query).
+    /// The same errors as [`query`](Self::query).
     pub fn explain(&self, text: &str) -> Result<String> {
         let answer = self.pass.raw().explain(text);
         let bytes = answer.map_err(|refused| self.query_error(refused, || text.into()))?;
@@ -167,7 +167,7 @@ impl<'a> Snapshot<'a> {
         }
     }
 
-    /// Returns whether the node exists.
+    /// Returns `true` if the node exists.
     ///
     /// # Errors
     /// [`Error::OutOfMemory`], [`Error::Forked`].
@@ -175,7 +175,7 @@ impl<'a> Snapshot<'a> {
         Ok(self.pass.raw().nodes(node, 1)?.first() == Some(&node))
     }
 
-    /// Returns the number that the next node will have if it is created on this snapshot.
+    /// Returns the number that the next node will have if it is created on top of this snapshot.
     ///
     /// # Errors
     /// [`Error::Forked`].
@@ -196,13 +196,13 @@ impl<'a> Snapshot<'a> {
     /// Reads one attribute of many nodes: returns each node's value, or `None` if the node has no such attribute.
     ///
     /// # Errors
-    /// The same as [`Snapshot::columns`].
+    /// The same errors as [`Snapshot::columns`].
     pub fn column(&self, nodes: &[u64], name: &str) -> Result<Vec<Option<Value>>> {
         Ok(self.columns(nodes, &[name])?.pop().unwrap_or_default())
     }
 
     /// Reads several attributes of many nodes. For each name, returns a list with each node's value, or `None` if the node has no such
-    /// attribute. If a node's attributes with these names are adjacent, the node takes one tree search, which is faster than a
+    /// attribute. If a node's attributes with these names are adjacent, the node takes only one tree search, which is faster than calling
     /// [`Snapshot::get`] for each.
     ///
     /// # Errors
@@ -268,7 +268,7 @@ impl<'a> Snapshot<'a> {
 impl Drop for Snapshot<'_> {
     fn drop(&mut self) {
         if self.pass.held().is_none() {
-            // Fails only in a forked child, where nothing is pinned.
+            // This fails only in a forked child, where nothing is pinned.
             let _ = self.pass.raw().unpin();
         }
     }
@@ -304,7 +304,7 @@ fn value_of(cell: &sys::bes_cell, bytes: &[u8]) -> Option<Value> {
     Some(Value::of_parts(kind, cell.number, content))
 }
 
-/// How many nodes are read at a time.
+/// The number of nodes to read at a time.
 const NODES: usize = 1024;
 
 /// An iterator over the nodes in a snapshot, returned by [`Snapshot::nodes`]. An error ends the iteration.
@@ -361,7 +361,7 @@ impl Iterator for State<'_> {
         }
         match self.snapshot.pass.raw().state(&self.place) {
             Ok(mut list) if !list.operations.is_empty() => {
-                // The list has capacity for the longest batch, and many lists may be kept at the same time.
+                // The list has capacity for the longest batch, and the caller may keep many lists.
                 list.operations.shrink_to_fit();
                 list.bytes.shrink_to_fit();
                 Some(Ok(list.into()))

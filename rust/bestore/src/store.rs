@@ -18,7 +18,7 @@ pub struct Store(Arc<Shared>);
 pub(crate) struct Shared {
     own: Mutex<Pass>,
     succession: Arc<Succession>,
-    /// Locked by an internal task of the store.
+    /// Locked while an internal task of the store is running.
     task: Mutex<()>,
 }
 
@@ -39,7 +39,7 @@ impl Shared {
     }
 }
 
-/// A pass for an internal task of the store: one of those meant for users or, if all of them are taken, the store's own pass.
+/// A pass for an internal task of the store: one of the users' passes or, if all of them are taken, the store's own pass.
 pub(crate) struct Spare<'a> {
     taken: Taken<'a>,
     _task: MutexGuard<'a, ()>,
@@ -109,7 +109,7 @@ impl Store {
         self.check()?;
         match self.another() {
             Err(Error::NoPass) => {
-                // An internal task may have had the last pass. While this lock is held, no other task can take it.
+                // An internal task may have taken the last pass. While this lock is held, no other task can take it.
                 let _no_task = lock(&self.0.task);
                 self.another()
             }
@@ -122,9 +122,9 @@ impl Store {
         Ok(Pass::new(self.0.seat()?, self.0.clone(), place))
     }
 
-    /// Closes the store through its last clone, when no pass is open, and returns the whole journal as text, one line per entry. For each
-    /// pass, the journal has exactly the writes that calls on that pass have committed, at their commit numbers. If the store was [carried
-    /// on](Self::carry_on), the text begins with the state at that time.
+    /// Closes the store, and returns the whole journal as text, one line per entry. This must be the last clone, and no pass may be open.
+    /// For each pass, the journal has exactly the writes that calls on that pass have committed, at their commit numbers. After
+    /// [`carry_on`](Self::carry_on), the text begins with the state at that time.
     ///
     /// # Errors
     /// [`Error::InUse`] if another clone or a pass is open; [`Error::OutOfMemory`]; [`Error::Forked`]. The unchanged store is returned
@@ -144,13 +144,13 @@ impl Store {
         }
     }
 
-    /// Frees the memory of the journal so far, which would otherwise grow forever. It copies the current snapshot into a new store of the
-    /// underlying library, adds the writes made in the meantime, and switches to it. During the switch, writers wait for a moment. Pinned
-    /// snapshots don't change, commit numbers and node numbers continue, and [`Pass::journal_from`] returns the entries made since that
-    /// snapshot.
+    /// Frees the memory of the journal, which would otherwise grow forever. This copies the current snapshot into a new store of the
+    /// underlying library, adds the writes made in the meantime, and switches to the new store, for which writers wait briefly. Pinned
+    /// snapshots don't change, commit numbers and node numbers continue, and [`Pass::journal_from`] still returns the entries made since
+    /// that snapshot.
     ///
-    /// This needs memory for all pages a second time, and the time to [copy](Self::copy_state) and write the state. The old memory is freed
-    /// once every pass has called [`Pass::pin`] or [`Pass::follow`].
+    /// While this runs, it needs as much memory again as all the pages. It takes as long as [copying](Self::copy_state) and writing the
+    /// state. The old memory is freed once every pass has called [`Pass::pin`] or [`Pass::follow`].
     ///
     /// ```
     /// # use bestore::{Limits, Store};
@@ -167,34 +167,34 @@ impl Store {
     /// ```
     ///
     /// # Errors
-    /// After an error, the store continues as before. [`Error::InUse`]: a pass hasn't yet released the memory from the last time.
+    /// After an error, the store is unchanged. [`Error::InUse`] if a pass hasn't yet released the old memory from the last time.
     /// [`Error::OutOfMemory`], [`Error::Full`], [`Error::Busy`], [`Error::Forked`].
     pub fn carry_on(&self) -> Result<()> {
         self.check()?;
         succession::carry_on(self)
     }
 
-    /// Returns whether it is time to carry on the store: whether the entries since [`carry_on`](Self::carry_on), or since the store was
-    /// opened, take more memory than half of the pages do, and more than 1 MiB. After a failed `carry_on`, the entries must grow by the
-    /// same amount again.
+    /// Returns `true` if it is time to call [`carry_on`](Self::carry_on). This is the case if the entries since the last call, or since the
+    /// store was opened, take more than half as much memory as the pages, and more than 1 MiB. After a failed call, the entries must grow
+    /// by the same amount again.
     #[must_use]
     pub fn is_due(&self) -> bool {
         self.0.succession.is_due()
     }
 
-    /// Makes the store [due](Self::is_due) once its new entries take about this many bytes.
+    /// Makes [`is_due`](Self::is_due) return `true` once the store's new entries take about this many bytes.
     pub fn set_due_after(&self, bytes: u64) {
         self.0.succession.set_due_after(bytes);
     }
 
-    /// Returns how many times the store has been [carried on](Self::carry_on).
+    /// Returns the number of times that [`carry_on`](Self::carry_on) has succeeded.
     #[must_use]
     pub fn generation(&self) -> u64 {
         self.0.succession.generation()
     }
 
     /// Copies the current snapshot for a slow reader, so that the reader doesn't keep pages from writers. If a write finds no free page
-    /// while the copy is being made, the copy starts over a little later. After six such starts, writes wait until the copy is done.
+    /// while the copy is being made, the copy starts over a little later. After six such attempts, writes wait until the copy is complete.
     ///
     /// # Errors
     /// [`Error::OutOfMemory`], [`Error::Forked`].
@@ -202,7 +202,7 @@ impl Store {
         copying::copy(self)
     }
 
-    /// Returns whether a pass still holds memory from before the last [`carry_on`](Self::carry_on).
+    /// Returns `true` if a pass still holds memory from before the last [`carry_on`](Self::carry_on).
     #[must_use]
     pub fn is_read_before(&self) -> bool {
         self.0.succession.is_read_before()
@@ -223,7 +223,7 @@ impl Store {
         Ok(self.0.own())
     }
 
-    /// Returns a pass for an internal task of the store. If another task is running, it first waits for that one.
+    /// Returns a pass for an internal task of the store. Waits for any other task that is running.
     pub(crate) fn spare(&self) -> Result<Spare<'_>> {
         self.check()?;
         let task = lock(&self.0.task);

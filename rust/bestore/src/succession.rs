@@ -1,9 +1,9 @@
-//! Carrying on a store in another store of the library, which frees the memory of its journal.
+//! Replaces a store of the library with a new one that has the same contents, which frees the memory of its journal.
 //!
-//! The library keeps a store's whole journal. So a second store of the library is built from a snapshot and the entries made since that
-//! snapshot, and replaces the first: one *generation* follows another. Each pass takes a seat in the new generation when it next writes or
-//! pins. A pass that is reading a snapshot keeps it, and the first store's memory is freed with the last seat in it. Commit numbers
-//! continue: each generation knows what to add to the numbers that its own store of the library uses.
+//! A store of the library keeps its whole journal. So a second one is built from a snapshot and the entries made since that snapshot, and
+//! replaces the first. Each such store is a *generation*. A pass takes a seat in the new generation when it next writes or pins. A pass
+//! that is reading a snapshot keeps it, and the old generation's memory is freed when its last seat is dropped. Commit numbers continue:
+//! each generation has an offset that it adds to the numbers of its own store.
 
 use crate::raw::{Answer, Birthplace, RawPass, Refused};
 use crate::store::Store;
@@ -12,23 +12,23 @@ use bestore_sys as sys;
 use std::sync::atomic::{AtomicU64, Ordering};
 use std::sync::{Arc, Mutex, MutexGuard, PoisonError, RwLock, RwLockReadGuard, RwLockWriteGuard, Weak};
 
-/// How many bytes the entries may take by default: half the size of all pages, but at least `LEAST`.
+/// By default, the entries may take half as many bytes as the pages, but at least `LEAST`.
 const FOR_PAGE: u64 = 2048;
 const LEAST: u64 = 1 << 20;
 
-/// About how many bytes a journal entry takes in addition to its names and values: per entry, and per operation.
+/// The approximate size in bytes of a journal entry, and of each operation in it, without the names and values.
 const ENTRY: usize = 8;
 const OPERATION: usize = 8;
 
-/// Once no more entries than this are left to replay, they are replayed while writers wait. That also happens earlier if writers are as
-/// fast as the replay.
+/// Once at most this many entries are left to replay, they are replayed while writers wait. This happens earlier if writers are as fast as
+/// the replay.
 const FEW: u64 = 256;
 
-/// One of the library's stores that have successively held the store's contents.
+/// One of the library's stores that have, one after another, held the store's contents.
 #[derive(Debug)]
 pub(crate) struct Generation {
     number: u64,
-    /// What to add to a commit number in the library's store. It may be negative.
+    /// The offset from the library's numbers to commit numbers, which may be negative.
     shift: u64,
     /// The commit number of the state with which the generation began. Its journal has the entries after that number.
     state: u64,
@@ -105,7 +105,7 @@ impl Seat {
         self.generation.number
     }
 
-    /// Returns the commit number up to which a pass has seen every entry when it takes this seat.
+    /// Returns the commit number up to which a pass that takes this seat has seen every entry.
     pub(crate) fn begin(&self) -> u64 {
         self.generation.begin
     }
@@ -122,29 +122,29 @@ impl Seat {
     }
 }
 
-/// What all of a store's passes know about its generations.
+/// The information about a store's generations that its passes share.
 #[derive(Debug)]
 pub(crate) struct Succession {
     pub(crate) limits: Limits,
     birthplace: Birthplace,
     /// The number of the newest generation.
     newest: AtomicU64,
-    /// Locked for reading by each write in memory, and for writing while no write may take place.
+    /// Locked for reading during each write in memory, and for writing while no write may take place.
     gate: RwLock<()>,
-    /// How many writes found no free page.
+    /// The number of writes that found no free page.
     full_writes: AtomicU64,
-    /// About how many bytes the newest generation's journal takes, and the number of bytes at which the next generation is due.
+    /// The approximate size of the newest generation's journal in bytes, and the size at which the next generation is due.
     journal_bytes: AtomicU64,
     due_bytes: AtomicU64,
     /// The number of bytes of entries after which the next generation is due.
     due_after: AtomicU64,
-    /// The generation before the newest one. It is locked while the store is being carried on.
+    /// The generation before the newest one. Locked while the next generation is being built.
     before: Mutex<Weak<Generation>>,
-    /// How many passes are open.
+    /// The number of open passes.
     passes: AtomicU64,
 }
 
-/// A pass's place among those that a store can have.
+/// One of the places for passes that a store has.
 #[derive(Debug)]
 pub(crate) struct Place(Arc<Succession>);
 
@@ -210,13 +210,13 @@ impl Succession {
         self.gate.write().unwrap_or_else(PoisonError::into_inner)
     }
 
-    /// Returns whether new writes are currently kept waiting.
+    /// Returns `true` if new writes are currently kept waiting.
     #[cfg(test)]
     pub(crate) fn is_closed(&self) -> bool {
         self.gate.try_read().is_err()
     }
 
-    /// Returns how many writes found no free page.
+    /// Returns the number of writes that found no free page.
     pub(crate) fn full_writes(&self) -> u64 {
         self.full_writes.load(Ordering::Relaxed)
     }
@@ -234,8 +234,8 @@ impl Succession {
         self.journal_bytes.fetch_add(bytes as u64, Ordering::Relaxed);
     }
 
-    /// Returns whether the entries since the newest generation began, or since the last failed attempt to create one, take more bytes than
-    /// they should.
+    /// Returns `true` if the next generation is due, because of the size of the entries since the newest one began or since the last failed
+    /// attempt to create one.
     pub(crate) fn is_due(&self) -> bool {
         self.journal_bytes.load(Ordering::Relaxed) > self.due_bytes.load(Ordering::Relaxed)
     }
@@ -246,20 +246,20 @@ impl Succession {
         self.set_journal_bytes(self.journal_bytes.load(Ordering::Relaxed));
     }
 
-    /// Records that the journal takes this many bytes now.
+    /// Records that the journal now takes this many bytes.
     fn set_journal_bytes(&self, bytes: u64) {
         let due = bytes.saturating_add(self.due_after.load(Ordering::Relaxed));
         self.journal_bytes.store(bytes, Ordering::Relaxed);
         self.due_bytes.store(due, Ordering::Relaxed);
     }
 
-    /// Returns whether a pass still has a seat in an earlier generation.
+    /// Returns `true` if a pass still has a seat in an earlier generation.
     pub(crate) fn is_read_before(&self) -> bool {
         lock(&self.before).strong_count() > 0
     }
 }
 
-/// Creates the store's next generation, and replaces the newest one with it.
+/// Builds the store's next generation, and replaces the newest one with it.
 pub(crate) fn carry_on(store: &Store) -> Result<()> {
     let succession = store.succession();
     let mut before = lock(&succession.before);
@@ -280,10 +280,10 @@ pub(crate) fn carry_on(store: &Store) -> Result<()> {
 /// A generation that is being built.
 struct Next {
     pass: Pass,
-    /// The commit number of the state with which the generation begins, and the number of batches that rebuilt that state.
+    /// The commit number of the generation's initial state, and the number of batches that rebuilt that state.
     state: u64,
     batches: u64,
-    /// The commit number of the last entry that it has.
+    /// The commit number of its last entry.
     commit: u64,
 }
 
@@ -319,7 +319,7 @@ impl Next {
     }
 
     /// Replays the entries that the generation lacks, in rounds, until few are left or until a round leaves no fewer than the one before.
-    /// `repeated` is called with the number of entries in each round.
+    /// Calls `repeated` with the number of entries in each round.
     fn catch_up(&mut self, pass: &Pass, mut repeated: impl FnMut(u64)) -> Result<()> {
         let mut before = u64::MAX;
         loop {
@@ -366,7 +366,7 @@ mod tests {
     use super::*;
     use std::thread;
 
-    /// Returns how many entries each round replays if there are `first` entries at the start and `more` arrive during a round.
+    /// Returns the number of entries that each round replays if there are `first` entries at the start and `more` arrive during a round.
     fn rounds(first: u64, more: impl Fn(u64) -> u64) -> Vec<u64> {
         let store = Store::open(Limits::default()).unwrap();
         let pass = store.pass().unwrap();

@@ -10,7 +10,7 @@ use crate::raw;
 /// ```
 ///
 /// # Panics
-/// This function panics if memory runs out.
+/// Panics if memory runs out.
 #[must_use]
 pub fn any_case(text: &str) -> String {
     let pattern = raw::any_case(text).expect("memory runs out");

@@ -1,4 +1,5 @@
-//! Backups. A backup is a file, or a folder with one file for each volume, that is filled with a state and appears once it is complete.
+//! Backups. A backup is a file with a store's state, or a folder with one such file for each volume. It appears at its path once it is
+//! complete.
 
 use super::file::File;
 use super::{path_of, About, Error, Result};
@@ -9,7 +10,8 @@ use std::os::unix::fs::DirBuilderExt;
 use std::path::{Path, PathBuf};
 use std::sync::atomic::{AtomicU32, Ordering};
 
-/// A backup in progress. It is written next to its path, with mode 0600, and is removed if it is dropped before [`finish`](Self::finish).
+/// A backup in progress. It is written next to its path, with mode 0600, and is removed if it is dropped before [`finish`](Self::finish) is
+/// called.
 ///
 /// ```
 /// use bestore_types::saved::{self, About, Backup};
@@ -32,7 +34,7 @@ pub struct Backup {
     files: Vec<Part>,
 }
 
-/// A volume's file, and how many batches it has.
+/// A volume's file, and the number of batches in it.
 #[derive(Debug)]
 struct Part {
     file: File,
@@ -48,7 +50,7 @@ struct Beside {
 
 impl Drop for Beside {
     fn drop(&mut self) {
-        // A finished backup has nothing to remove.
+        // After `finish`, there may be nothing to remove.
         let _ = match self.is_folder {
             true => fs::remove_dir_all(&self.path),
             false => fs::remove_file(&self.path),
@@ -76,14 +78,14 @@ impl Beside {
         }
     }
 
-    /// Gives the finished backup its name, unless something else has that name.
+    /// Makes the finished backup appear at its path, unless something exists there.
     fn publish(&self, path: &Path) -> io::Result<()> {
         if self.is_folder {
-            // By now, only an empty folder could be in its place.
+            // Renaming can replace only an empty folder.
             return fs::rename(&self.path, path);
         }
         match fs::hard_link(&self.path, path) {
-            // Not every file system supports links.
+            // Some file systems don't support hard links.
             Err(error) if error.kind() != ErrorKind::AlreadyExists && !exists(path) => fs::rename(&self.path, path),
             linked => linked,
         }
@@ -100,7 +102,7 @@ fn synchronise(path: &Path) -> Result<()> {
     synchronised.map_err(|error| Error::folder(path, error))
 }
 
-/// Returns a path's folder.
+/// Returns the folder that contains the path.
 fn parent(path: &Path) -> &Path {
     match path.parent() {
         Some(parent) if !parent.as_os_str().is_empty() => parent,
@@ -109,7 +111,7 @@ fn parent(path: &Path) -> &Path {
 }
 
 impl Backup {
-    /// Begins a backup of this many volumes: a file for one volume, otherwise a folder. Nothing may exist at the path yet.
+    /// Begins a backup of this many volumes, which is a file for one volume and otherwise a folder. Nothing may exist at the path yet.
     ///
     /// # Errors
     /// [`Error::Exists`]; [`Error::Folder`] if the backup can't be created there; [`Error::DiskFull`], [`Error::Sqlite`].
@@ -131,7 +133,7 @@ impl Backup {
         Ok(Self { path, beside, files })
     }
 
-    /// Adds the next of the batches that rebuild a volume's snapshot, with that volume's own node numbers.
+    /// Adds the next batch of those that rebuild a volume's snapshot. Batches use that volume's own node numbers.
     ///
     /// # Errors
     /// [`Error::DiskFull`], [`Error::Sqlite`]; [`Error::Store`] if there is no such volume, or if the batch isn't valid.
@@ -144,7 +146,7 @@ impl Backup {
         Ok(())
     }
 
-    /// Completes the backup, recording these numbers for its volumes, and gives it its name once it is on disk.
+    /// Records these numbers for the volumes and completes the backup, which appears at its path once it is on disk.
     ///
     /// # Errors
     /// [`Error::Exists`] if something has appeared at the path in the meantime. [`Error::Folder`], [`Error::DiskFull`], [`Error::Sqlite`].

@@ -6,14 +6,14 @@ use crate::Batch;
 use std::collections::BTreeMap;
 use std::path::{Path, PathBuf};
 
-/// The contents of a volume's file: the batches that, one after another, rebuild its store from an empty one.
+/// The contents of a volume's file: the batches that rebuild its store when applied to an empty one, in order.
 #[derive(Clone, Debug, PartialEq, Eq)]
 pub struct Contents {
-    /// The state's numbers.
+    /// The numbers that the file records about its state.
     pub about: About,
     /// The batches that make up the state. Their new nodes get the next numbers.
     pub state: Vec<Batch>,
-    /// The entries after the state. Each new node has the number that it was given.
+    /// The entries after the state. Each new node has the number that it had in the store.
     pub entries: Vec<Batch>,
 }
 
@@ -46,11 +46,11 @@ fn batch(place: Place, bytes: &[u8]) -> Result<Batch> {
     Batch::from_bytes(bytes).map_err(|error| Error::differs(place, error))
 }
 
-/// Reads a file, or the files of all volumes in a folder, without changing them. This takes memory for all batches.
+/// Reads a file, or the files of all volumes in a folder, without changing them. All batches are read into memory.
 ///
 /// # Errors
-/// [`Error::Foreign`], [`Error::Newer`], [`Error::Held`], [`Error::Damaged`], [`Error::CutOff`], [`Error::Differs`],
-/// [`Error::Sqlite`]; for a folder, these come in [`Error::OfVolume`]. [`Error::Folder`], [`Error::NoFile`].
+/// [`Error::Foreign`], [`Error::Newer`], [`Error::Held`], [`Error::Damaged`], [`Error::CutOff`], [`Error::Differs`], [`Error::Sqlite`]; for
+/// a folder, these are wrapped in [`Error::OfVolume`]. [`Error::Folder`], [`Error::NoFile`].
 pub fn read(path: impl AsRef<Path>) -> Result<Vec<Contents>> {
     read_until(path, &BTreeMap::new())
 }
@@ -59,7 +59,7 @@ pub fn read(path: impl AsRef<Path>) -> Result<Vec<Contents>> {
 /// single file, the volume is 0.
 ///
 /// # Errors
-/// The same as [`read`]. [`Error::NotWithin`] if the file doesn't have the entry. [`Error::NoVolume`] if there is no such volume.
+/// The same errors as [`read`]. [`Error::NotWithin`] if the file doesn't have the entry. [`Error::NoVolume`] if there is no such volume.
 pub fn read_until(path: impl AsRef<Path>, until: &BTreeMap<u32, u64>) -> Result<Vec<Contents>> {
     let path = path.as_ref();
     let is_folder = path.is_dir();

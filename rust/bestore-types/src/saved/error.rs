@@ -75,49 +75,49 @@ pub enum Error {
         /// The file.
         path: PathBuf,
     },
-    /// A part of the file is no longer as it was written.
+    /// Part of the file has changed since it was written.
     Damaged {
         /// The file.
         path: PathBuf,
         /// The first part that is known to be damaged.
         place: Place,
-        /// The entry up to which [`read_until`](super::read_until) can read the file, if it can.
+        /// The last entry that [`read_until`](super::read_until) can read, if any.
         until: Option<u64>,
         /// How the damage was detected.
         why: Box<dyn std::error::Error + Send + Sync>,
     },
-    /// The file ends earlier than it once did, because a frame of its WAL is damaged or the WAL is missing.
+    /// The file ends earlier than it used to, because its WAL is missing or a frame of it is damaged.
     CutOff {
         /// The file.
         path: PathBuf,
-        /// The last entry that it has.
+        /// The last entry in the file.
         last: u64,
-        /// The last entry that it ever had.
+        /// The last entry that the file ever had.
         had: u64,
     },
-    /// The file doesn't have the entry at which reading was to end.
+    /// The file doesn't have the entry at which reading was supposed to end.
     NotWithin {
         /// The file.
         path: PathBuf,
-        /// The requested last entry.
+        /// The entry at which reading was supposed to end.
         until: u64,
         /// The last entry that the state contains.
         first: u64,
         /// The last entry that was read.
         last: u64,
     },
-    /// A last entry was given for a volume that doesn't exist.
+    /// The entry at which to stop reading was given for a volume that doesn't exist.
     NoVolume {
         /// The file or folder.
         path: PathBuf,
         /// The volume that was requested.
         volume: u32,
-        /// How many volumes there are, numbered from 0.
+        /// The number of volumes, which are numbered from 0.
         volumes: u32,
     },
-    /// The file's contents don't match what a store did.
+    /// The file's contents are incomplete, or replaying them has a different outcome.
     Differs {
-        /// Where they differ.
+        /// The first part that is wrong.
         place: Place,
         /// What is wrong at that position.
         why: Box<dyn std::error::Error + Send + Sync>,
@@ -154,9 +154,9 @@ pub enum Error {
     Fewer {
         /// The folder.
         folder: PathBuf,
-        /// How many volumes the folder has.
+        /// The number of volumes in the folder.
         found: u32,
-        /// How many volumes were requested, or `found` if no number was given.
+        /// The number of volumes requested, or `found` if no number was given.
         wanted: u32,
     },
     /// An error from one volume of a shelf.
@@ -175,12 +175,12 @@ pub enum Error {
 }
 
 impl Error {
-    /// Returns the error for a position whose contents weren't written by any store.
+    /// Returns [`Error::Differs`] for this position.
     pub fn differs(place: Place, why: impl Into<Box<dyn std::error::Error + Send + Sync>>) -> Self {
         Error::Differs { place, why: why.into() }
     }
 
-    /// Returns the error for a store's refusal of the file's contents at this position.
+    /// Converts a store's refusal of the file's contents at this position.
     #[must_use]
     pub fn refused(place: Place, error: crate::Error) -> Self {
         match error {
@@ -191,7 +191,7 @@ impl Error {
         }
     }
 
-    /// Returns the error for a file in which the contents of this position are missing.
+    /// Returns the error for a file that lacks the contents of this position.
     pub(super) fn missing(place: Place) -> Self {
         let why = match place {
             Place::State(_) => "the batch is missing",
@@ -229,21 +229,21 @@ impl Error {
         }
     }
 
-    /// Returns the operating system's error about a folder or a backup's file.
+    /// Converts an operating system's error about a folder or a backup's file.
     #[must_use]
     pub fn folder(path: &Path, error: std::io::Error) -> Self {
         let path = path.to_owned();
         Error::Folder { path, error }
     }
 
-    /// Returns the same error, attributed to this volume.
+    /// Attributes the error to this volume.
     #[must_use]
     pub fn of_volume(self, volume: u32) -> Self {
         let error = Box::new(self);
         Error::OfVolume { volume, error }
     }
 
-    /// Returns SQLite's error about this file.
+    /// Converts SQLite's error about this file.
     #[must_use]
     pub fn of_sqlite(path: &Path, error: rusqlite::Error) -> Self {
         let path = path.to_owned();

@@ -13,8 +13,8 @@ use std::os::unix::fs::OpenOptionsExt;
 use std::path::{Path, PathBuf};
 use std::time::Duration;
 
-/// The WAL is reused from its start after 1,000 pages (4.1 MB), so the limit truncates it only after a large commit.
-/// The last two statements take the lock.
+/// SQLite reuses the WAL from its start once it has 1,000 pages (4.1 MB), so the size limit truncates it only after a large commit. The
+/// last two statements take the lock.
 const SETTINGS: &str = "
     PRAGMA journal_mode = WAL;
     PRAGMA synchronous = FULL;
@@ -23,7 +23,7 @@ const SETTINGS: &str = "
     COMMIT;
 ";
 
-/// The greatest number that an entry can have, because SQLite's integers end there.
+/// The highest number that an entry can have: SQLite's largest integer.
 const LAST_NUMBER: u64 = i64::MAX as u64;
 
 /// The numbers that a file records about its state.
@@ -31,22 +31,22 @@ const LAST_NUMBER: u64 = i64::MAX as u64;
 pub struct About {
     /// The number of the last entry that the state contains.
     pub entries: u64,
-    /// The number of the next node after the state.
+    /// The next node number after the state.
     pub next: u64,
 }
 
-/// How many tokens a file keeps before it removes the oldest ones, and how many it removes at a time.
+/// The number of latest tokens that a file always keeps, and the number of older ones removed at a time.
 const MOST_TOKENS: usize = super::TOKENS;
 const TOKENS_AT_ONCE: usize = 1_024;
 
-/// The state is rewritten once the entries take half as many bytes as it does, so that replaying them takes about a fifth of the time to
-/// open the file. It isn't rewritten until they take at least this many.
+/// The state is rewritten once the entries are half its size, so that replaying them takes about a fifth of the time to open the file.
+/// Until they take at least this many bytes, it isn't rewritten.
 const LEAST_DUE: u64 = 512 << 10;
 
-/// About how many bytes a row has in addition to its batch.
+/// The approximate size of a row in bytes, without its batch.
 const ROW_BYTES: u64 = 20;
 
-/// Settings for a file that isn't visible before it is complete. It has no WAL, so that everything is in one file.
+/// Settings for a file that isn't visible until it is complete. It has no WAL, so that everything is in one file.
 const STATE_SETTINGS: &str = "
     PRAGMA auto_vacuum = FULL;
     PRAGMA journal_mode = MEMORY;
@@ -63,7 +63,7 @@ pub struct Row {
 }
 
 impl Row {
-    /// Returns the row for a batch that has created these nodes.
+    /// Returns the row for a batch that created these nodes.
     pub fn new(number: u64, pass: u64, batch: &Batch, nodes: &[u64]) -> crate::Result<Self> {
         Ok(Self {
             number,
@@ -106,7 +106,7 @@ impl Token {
 /// Creates the file, accessible only to the user, if it doesn't exist. SQLite gives the `-wal` file the same mode.
 fn make_private(path: &Path) {
     let made = OpenOptions::new().write(true).create_new(true).mode(0o600).open(path);
-    // If the file couldn't be created, opening it will return the reason.
+    // If the file couldn't be created, the call that opens it will report why.
     drop(made);
 }
 
@@ -114,11 +114,11 @@ fn make_private(path: &Path) {
 pub struct File {
     connection: Connection,
     path: PathBuf,
-    /// Whether the rows have checksums. In the earlier format they have none.
+    /// Whether the rows have checksums, which they lack in the earlier format.
     has_checksums: bool,
     /// The entries whose tokens are in the file, sorted by number.
     with_token: VecDeque<u64>,
-    /// How many bytes the entries take, and at how many bytes the state is rewritten.
+    /// The size of the entries in bytes, and the size at which the state is rewritten.
     entry_bytes: u64,
     due_bytes: u64,
     /// Dropped after the connection.
@@ -129,7 +129,7 @@ impl File {
     /// Opens or creates the file, for exclusive use by this process.
     pub fn open(path: &Path) -> Result<Self> {
         let flags = OpenFlags::SQLITE_OPEN_READ_WRITE | OpenFlags::SQLITE_OPEN_CREATE | OpenFlags::SQLITE_OPEN_NO_MUTEX;
-        // SQLite doesn't treat `:memory:` or an empty name as a file. With a folder before it, every name is that of a file.
+        // SQLite doesn't treat `:memory:` or an empty name as a file. After a folder's name, SQLite takes every name as that of a file.
         let within = Path::new(".").join(path);
         make_private(&within);
         let mut file = Self::connect(&within, path, flags)?;
@@ -137,7 +137,7 @@ impl File {
         Ok(file)
     }
 
-    /// Connects to the file at `place`, which is called `path` in errors.
+    /// Connects to the file at `place`, which errors call `path`.
     fn connect(place: &Path, path: &Path, flags: OpenFlags) -> Result<Self> {
         let opened = Connection::open_with_flags(place, flags);
         Ok(Self {
@@ -162,8 +162,7 @@ impl File {
         }
     }
 
-    /// Creates a file at `place`, to be filled with a state. It is complete after [`end_state`](Self::end_state), and is called `path` in
-    /// errors.
+    /// Creates a file at `place`, to be filled with a state. It is complete after [`end_state`](Self::end_state). Errors call it `path`.
     pub fn begin_state(place: &Path, path: &Path) -> Result<Self> {
         let made = OpenOptions::new().write(true).create_new(true).mode(0o600).open(place);
         made.map_err(|error| Error::folder(place, error))?;
@@ -183,7 +182,7 @@ impl File {
         self.sqlite(added.map(drop))
     }
 
-    /// Ends the state and closes the file.
+    /// Completes the state and closes the file.
     pub fn end_state(self, about: About) -> Result<()> {
         self.sqlite(tables::set_about(&self.connection, about))?;
         self.run("COMMIT")?;
@@ -203,7 +202,7 @@ impl File {
         self.sqlite(self.connection.pragma_query_value(None, name, |row| row.get(0)))
     }
 
-    /// Locks the file and checks whose it is. In an empty file it creates the tables, before the file has a WAL that could lose them.
+    /// Locks the file and checks that it is a store's. In an empty file, first creates the tables, so that they can't be lost with the WAL.
     fn take(&mut self) -> Result<()> {
         self.sqlite(self.connection.busy_timeout(Duration::ZERO))?;
         self.sqlite(self.connection.pragma_update(None, "locking_mode", "EXCLUSIVE"))?;
@@ -215,7 +214,7 @@ impl File {
         self.sqlite(tables::make_tokens(&self.connection, self.has_checksums))
     }
 
-    /// Returns whether the file is new. A file that belongs to another program or is in a newer format is refused.
+    /// Returns `true` if the file is new. Refuses a file that belongs to another program or is in a newer format.
     fn check_format(&mut self) -> Result<bool> {
         let tables = self
             .connection
@@ -237,7 +236,7 @@ impl File {
         }
     }
 
-    /// Returns whether the file is in the earlier format, without checksums.
+    /// Returns `true` if the file is in the earlier format, without checksums.
     pub fn lacks_checksums(&self) -> bool {
         !self.has_checksums
     }
@@ -250,7 +249,7 @@ impl File {
         }
     }
 
-    /// Returns the error for a part of the file that can't be read. The part before it ends with this entry, if known.
+    /// Returns the error for a part of the file that can't be read. `until` is the last entry before it, if known.
     fn unreadable(&self, place: Place, until: Option<u64>, error: rusqlite::Error) -> Error {
         Error::of_reading(&self.path, place, until, error)
     }
@@ -275,8 +274,8 @@ impl File {
         })
     }
 
-    /// Refuses a file whose entries have been read up to `last` if another entry was requested. If none was, refuses it if it once had
-    /// later entries, or if its pages are damaged.
+    /// Checks a file whose entries have been read up to `last`. If reading was supposed to end at another entry, refuses the file. If no
+    /// entry was given, refuses a file that once had later entries, or whose pages are damaged.
     pub fn check_end(&self, until: Option<u64>, last: u64) -> Result<()> {
         match until {
             Some(until) if until != last => Err(Error::NotWithin {
@@ -293,7 +292,7 @@ impl File {
         }
     }
 
-    /// Refuses a file that ends with this entry but once had later ones.
+    /// Refuses a file that ends with this entry but used to have later ones.
     fn check_last(&self, last: u64) -> Result<()> {
         if !self.has_checksums {
             return Ok(());
@@ -324,12 +323,12 @@ impl File {
         }
     }
 
-    /// Returns whether the entries take more than half the bytes of the state, and more than the minimum.
+    /// Returns `true` if the entries are more than half the size of the state, and larger than the minimum.
     pub fn is_due(&self) -> bool {
         self.entry_bytes > self.due_bytes
     }
 
-    /// Measures how many bytes the state and the entries take.
+    /// Measures the sizes of the state and the entries in bytes.
     pub fn measure(&mut self) -> Result<()> {
         let sum = |table: &str| {
             let sql = format!("SELECT coalesce(sum(length(batch) + {ROW_BYTES}), 0) FROM {table}");
@@ -350,7 +349,7 @@ impl File {
         Ok(())
     }
 
-    /// Leaves a refused file unchanged: closing it doesn't remove its WAL.
+    /// Makes sure that closing a refused file leaves it unchanged, including its WAL.
     pub fn leave(&self) {
         // Otherwise SQLite would copy the undamaged part of the WAL into the file and remove the rest.
         let _ = self
@@ -358,7 +357,7 @@ impl File {
             .set_db_config(DbConfig::SQLITE_DBCONFIG_NO_CKPT_ON_CLOSE, true);
     }
 
-    /// Returns the limits for a store with this file, which must not commit more transactions than there are numbers left for entries.
+    /// Returns the limits for this file's store, which must not commit more transactions than there are entry numbers left.
     ///
     /// # Errors
     /// [`Error::TooLarge`] if no number is left and the state is empty.
@@ -389,7 +388,7 @@ impl File {
         self.each(&sql, 0..=u64::MAX, Place::State, take)
     }
 
-    /// Passes each entry after `after` and up to `until` to the closure, sorted by number.
+    /// Passes each entry after `after`, up to and including `until`, to the closure, in ascending order.
     pub fn each_entry(&self, after: u64, until: u64, take: impl FnMut(u64, &[u8]) -> Result<()>) -> Result<()> {
         let sql = format!(
             "SELECT number, pass, batch, {} FROM entry ORDER BY number",
@@ -433,7 +432,7 @@ impl File {
         Ok(())
     }
 
-    /// Returns the number of a row that has a batch, and whether its checksum is correct.
+    /// Returns the number of a row with a batch, and whether its checksum is correct.
     fn check_row(&self, row: &rusqlite::Row<'_>) -> rusqlite::Result<(u64, bool)> {
         let number = row.get::<_, i64>(0)? as u64;
         if !self.has_checksums {
@@ -447,7 +446,7 @@ impl File {
         Ok((number, tables::fits(row, 3, sum)?))
     }
 
-    /// Adds the rows, all in one commit. A single row is a transaction by itself, without statements to begin and end it.
+    /// Adds the rows, all in one commit. A single row needs no statements to begin and end a transaction.
     pub fn append(&mut self, rows: &[Row]) -> Result<()> {
         let added = match rows {
             [row] if row.token.is_none() => self.insert(row),
@@ -474,7 +473,7 @@ impl File {
         Ok(tokens)
     }
 
-    /// Reads the tokens. Returns `None` if a checksum doesn't match. `due` is set to the number of the last token that was read.
+    /// Reads the tokens. Returns `None` if a checksum doesn't match. Sets `due` to the number of the last token that was read.
     fn read_tokens(&self, due: &mut u64) -> rusqlite::Result<Option<Vec<(u64, Token)>>> {
         let sql = format!(
             "SELECT number, token, nodes, {} FROM token ORDER BY number",
@@ -540,21 +539,21 @@ impl File {
         let inserted = rows.iter().try_for_each(|row| self.insert(row));
         let added = inserted.and_then(|()| run(&self.connection, "COMMIT"));
         if added.is_err() && !self.connection.is_autocommit() {
-            // The rows' error matters more than the result of this.
+            // The error from the rows matters more than that of the rollback.
             let _ = run(&self.connection, "ROLLBACK");
         }
         added
     }
 
-    /// Replaces the old state and the entries up to `number` with this state, which contains them. If the file is in the earlier format,
-    /// adds checksums.
+    /// Replaces the old state and the entries up to `number` with this state, which contains those entries. Adds checksums to a file in the
+    /// earlier format.
     pub fn write_state(
         &mut self,
         number: u64,
         next: u64,
         batches: impl Iterator<Item = crate::Result<Batch>>,
     ) -> Result<()> {
-        // If this fails, the next rewrite isn't due immediately.
+        // This way, the next attempt isn't due immediately if this one fails.
         self.due_bytes = self.due_bytes.max(self.entry_bytes) + LEAST_DUE;
         let mut failed = None;
         let batches = batches.map(|batch| batch.and_then(|batch| batch.to_bytes()));

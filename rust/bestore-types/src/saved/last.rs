@@ -1,34 +1,34 @@
 //! The `-last` file, which contains the number of a file's last entry.
 //!
-//! SQLite ignores everything after a damaged frame of the WAL, and doesn't report it. So the number is also kept next to the file, while
-//! the file is open and after a crash. It is written after each commit, but without waiting for it to reach the disk: after a power failure
-//! it may be too small.
+//! SQLite silently ignores everything after a damaged frame of the WAL. So while the file is open and after a crash, its last entry's
+//! number is also kept next to it. The number is written after each commit, but without waiting for it to reach the disk, so it may be too
+//! low after a power failure.
 
 use super::checksum::{checksum, Column};
 use std::fs::{self, OpenOptions};
 use std::os::unix::fs::{FileExt, OpenOptionsExt};
 use std::path::{Path, PathBuf};
 
-/// Keeps the number. Dropping this after the store's file has been closed removes the number's file, unless a WAL is left.
+/// Keeps the number in its file. Drop this after closing the store's file: unless a WAL is left, that removes the number's file.
 #[derive(Debug)]
 pub(super) struct LastEntry {
     file: fs::File,
     path: PathBuf,
     wal: PathBuf,
-    /// The store's file.
+    /// Identifies the store's file.
     id: u64,
 }
 
 impl Drop for LastEntry {
     fn drop(&mut self) {
         if !self.wal.exists() {
-            // If it remains, it does no harm: it only claims fewer entries than the file has.
+            // A leftover file does no harm, because it claims no more entries than the store's file has.
             let _ = fs::remove_file(&self.path);
         }
     }
 }
 
-/// Returns the path of a file next to a store's, named in the way that SQLite names its own. It follows links.
+/// Returns the path of a file next to a store's, named as SQLite names its own. It follows links.
 fn beside(path: &Path, ending: &str) -> PathBuf {
     let mut path = fs::canonicalize(path)
         .unwrap_or_else(|_| path.to_owned())
@@ -50,7 +50,8 @@ impl LastEntry {
         (text == line(id, number)).then_some(number)
     }
 
-    /// Starts with this entry. Returns `None` if the number can't be kept, for example because the disk is full.
+    /// Begins to keep the number, starting with this entry. Returns `None` if the number can't be kept, for example because the disk is
+    /// full.
     pub(super) fn begin(path: &Path, id: u64, number: u64) -> Option<Self> {
         let (path, wal) = (beside(path, "-last"), beside(path, "-wal"));
         let file = OpenOptions::new()
@@ -67,7 +68,7 @@ impl LastEntry {
 
     /// Records that the file now has this entry.
     pub(super) fn set(&self, number: u64) {
-        // If the number can't be written, no harm is done: the file only claims fewer entries.
+        // An error does no harm, because the file then claims fewer entries than there are.
         let _ = self.file.write_all_at(line(self.id, number).as_bytes(), 0);
     }
 }

@@ -1,4 +1,4 @@
-//! The file in which a store is kept, without the store: its format, errors, contents and backups.
+//! The file in which a store is kept: its format, errors, contents and backups. Nothing here opens a store.
 //!
 //! The repository's `docs/KEPT.md` describes the format. The crate `bestore` opens such a file and keeps writes in it.
 
@@ -22,5 +22,5 @@ pub use volumes::{check_volumes, count, files_of, path_of};
 /// The result of a call in this module.
 pub type Result<T> = std::result::Result<T, Error>;
 
-/// A file has the tokens of at least this many of the latest writes that had one.
+/// The minimum number of tokens that a file keeps: those of the latest writes that had one.
 pub const TOKENS: usize = 65_536;

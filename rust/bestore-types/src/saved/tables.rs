@@ -4,7 +4,7 @@ use super::checksum::{checksum, Column};
 use super::About;
 use rusqlite::{Connection, Row};
 
-/// "best" in ASCII, the mark in SQLite's header by which the file is recognised.
+/// "best" in ASCII: the application ID in the SQLite header, which identifies the file.
 pub(super) const APPLICATION: i64 = 0x6265_7374;
 
 /// The format's version, and the one before it, whose rows have no checksums.
@@ -24,7 +24,7 @@ const COLUMNS: &str = "
     ALTER TABLE token ADD COLUMN checksum INTEGER;
 ";
 
-/// Some files were created without this table.
+/// Files from earlier versions lack this table.
 const TOKENS: &str =
     "CREATE TABLE IF NOT EXISTS token (number INTEGER PRIMARY KEY, token TEXT NOT NULL, nodes BLOB NOT NULL";
 
@@ -45,8 +45,8 @@ pub(super) fn make_tokens(connection: &Connection, has_checksums: bool) -> rusql
     connection.execute_batch(&format!("{TOKENS}{column})"))
 }
 
-/// Adds checksums to the rows of the earlier format, within a transaction. The state is empty, and [`set_about`] sets the checksums of
-/// `about`.
+/// Adds checksums to the rows of a file in the earlier format, within a transaction. The state is empty by then, and [`set_about`] sets the
+/// checksums of `about`.
 pub(super) fn add_checksums(connection: &Connection) -> rusqlite::Result<()> {
     connection.execute_batch(&format!("{COLUMNS} PRAGMA user_version = {FORMAT}"))?;
     set_id(connection)?;
@@ -109,7 +109,7 @@ pub(super) fn of_token(number: u64, token: &str, nodes: &[u8]) -> u32 {
     ])
 }
 
-/// Returns whether this column of the row has this checksum.
+/// Returns `true` if this column of the row contains this checksum.
 pub(super) fn fits(row: &Row<'_>, column: usize, sum: u32) -> rusqlite::Result<bool> {
     Ok(row.get::<_, Option<i64>>(column)? == Some(sum.into()))
 }

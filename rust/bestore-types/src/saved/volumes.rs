@@ -1,4 +1,4 @@
-//! The files of several volumes. Each volume has its own file in a common folder.
+//! The files of several volumes, which are in one folder.
 
 use super::{Error, Result};
 use std::collections::BTreeMap;
@@ -11,7 +11,7 @@ pub fn path_of(folder: &Path, volume: u32) -> PathBuf {
     folder.join(format!("{volume}.bestore"))
 }
 
-/// Returns the files of this many volumes at a path: the path itself, or the files within the folder.
+/// Returns the files of this many volumes: those in the folder, or the path itself if it isn't a folder.
 #[must_use]
 pub fn files_of(place: &Path, volumes: u32) -> Vec<PathBuf> {
     match place.is_dir() {
@@ -20,10 +20,10 @@ pub fn files_of(place: &Path, volumes: u32) -> Vec<PathBuf> {
     }
 }
 
-/// Returns an error if `until` has a volume that doesn't exist at the path.
+/// Checks that every volume in `until` exists at the path.
 ///
 /// # Errors
-/// [`Error::NoVolume`] with the first volume that doesn't exist.
+/// [`Error::NoVolume`] with the first volume that doesn't.
 pub fn check_volumes(path: &Path, until: &BTreeMap<u32, u64>, volumes: u32) -> Result<()> {
     match until.range(volumes..).next() {
         Some((&volume, _)) => Err(Error::NoVolume {
@@ -42,7 +42,7 @@ fn volume_of(name: &std::ffi::OsStr) -> Option<u32> {
     (format!("{volume}") == digits).then_some(volume)
 }
 
-/// Returns how many volumes the folder has.
+/// Returns the number of volumes in the folder.
 ///
 /// # Errors
 /// [`Error::Folder`], [`Error::NoFile`].

@@ -7,7 +7,7 @@ use std::ptr::NonNull;
 use std::sync::atomic::{AtomicU64, Ordering};
 use std::sync::Once;
 
-/// How many forks separate this process from the first one.
+/// The number of forks between the first process and this one.
 static FORKS: AtomicU64 = AtomicU64::new(0);
 
 extern "C" fn count_fork() {
@@ -28,7 +28,7 @@ impl Birthplace {
         Self(FORKS.load(Ordering::Relaxed))
     }
 
-    /// Returns whether this is the same process, not a forked child of it.
+    /// Returns `true` in the same process, and `false` in a forked child of it.
     pub(crate) fn is_here(self) -> bool {
         FORKS.load(Ordering::Relaxed) == self.0
     }
@@ -75,7 +75,7 @@ impl CloseHandle for bes_draft {
     const CLOSED: Self = Self::INIT;
 
     unsafe fn close(at: *mut Self) {
-        // Given a closed pass, the call closes only the draft, whatever state the draft's own pass is in.
+        // With a closed pass, this call closes only the draft, whatever state the draft's own pass is in.
         let mut none = bes_pass::INIT;
         // SAFETY: as the trait requires; the pass is used only by this call.
         unsafe { sys::bes_abandon_change(&mut none, at) };

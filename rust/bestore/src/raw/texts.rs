@@ -27,7 +27,7 @@ impl Comparisons {
         self.part(one.plain_name_at, one.plain_value_at)
     }
 
-    /// Returns the value that it compares with, without backslashes; for a pattern, in canonical form.
+    /// Returns the value to compare with: a string without backslashes, or a pattern in its canonical form.
     pub(crate) fn value(&self, one: &bes_compared) -> String {
         self.part(one.plain_value_at, one.plain_end)
     }

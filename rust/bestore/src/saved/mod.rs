@@ -1,6 +1,7 @@
 //! Stores whose writes are kept in a file.
 //!
-//! The store is in memory, and each transaction is written to an SQLite file before its call returns. Opening the file rebuilds the store.
+//! The store is in memory, and each transaction is also written to an SQLite file before its call returns. Opening the file rebuilds the
+//! store.
 //!
 //! ```
 //! use bestore::{saved, Kind};
@@ -27,7 +28,7 @@
 //! If a commit fails, for example because the disk is full, the writes that are waiting for it return [`NotSaved`](crate::Error::NotSaved),
 //! and later writes return [`Stopped`](crate::Error::Stopped). Reads still work.
 //!
-//! The file doesn't grow forever, because its state is rewritten when it is opened and by [`Saved::compact`].
+//! Opening the file and calling [`Saved::compact`] rewrite its state, so that the file doesn't grow forever.
 
 mod queue;
 mod shelf;
@@ -47,7 +48,7 @@ use std::time::Duration;
 /// Opens or creates the file with the default limits. Each write is saved before its call returns.
 ///
 /// # Errors
-/// The same as [`Options::open`].
+/// The same errors as [`Options::open`].
 pub fn open(path: impl AsRef<Path>) -> Result<Saved> {
     Options::new().open(path)
 }
@@ -81,20 +82,20 @@ impl Options {
         Self::default()
     }
 
-    /// Sets how large the in-memory store may grow. Its journal begins with the entries that opening the file adds.
+    /// Sets the limits of the in-memory store. They must leave room for the entries with which opening the file begins its journal.
     pub fn limits(&mut self, limits: Limits) -> &mut Self {
         self.limits = limits;
         self
     }
 
-    /// Saves each write within this time after its call has returned. A crash within that time can lose the write.
+    /// Saves each write within this time after its call returns. A crash within that time can lose the write.
     pub fn every(&mut self, time: Duration) -> &mut Self {
         self.every = Some(time.min(YEAR));
         self
     }
 
-    /// Makes [`load`](Self::load) read a volume only up to this entry of its file, such as the last one before a damaged entry. For a
-    /// single file, the volume is 0. All other calls read all entries.
+    /// Makes [`load`](Self::load) read a volume's file only up to this entry, such as the last one before a damaged entry. For a single
+    /// file, the volume is 0. All other methods read every entry.
     pub fn until(&mut self, volume: u32, entry: u64) -> &mut Self {
         self.until.insert(volume, entry);
         self
@@ -140,12 +141,12 @@ impl Options {
         Ok(Loaded { store, number, tokens })
     }
 
-    /// Rebuilds a file's store, or a folder's volumes, without changing the files: writes to the result aren't kept anywhere. The limits
+    /// Rebuilds a file's store, or a folder's volumes, without changing the files. Writes to the result aren't kept anywhere. The limits
     /// apply to each volume.
     ///
     /// # Errors
-    /// The same as [`open`](Self::open) and [`open_shelf`](Self::open_shelf), except for a full disk. [`Error::NotWithin`] if the file
-    /// doesn't have the entry that was given to [`until`](Self::until). [`Error::NoVolume`] if there is no such volume.
+    /// The same errors as [`open`](Self::open) and [`open_shelf`](Self::open_shelf), except for a full disk. [`Error::NotWithin`] if the
+    /// file doesn't have the entry that was given to [`until`](Self::until). [`Error::NoVolume`] if there is no such volume.
     pub fn load(&self, path: impl AsRef<Path>) -> Result<Shelf> {
         let path = path.as_ref();
         let is_folder = path.is_dir();
@@ -204,7 +205,7 @@ fn load(file: &File, store: &Store, until: u64) -> Result<u64> {
     Ok(last)
 }
 
-/// Applies an entry, and compares its outcome with that in the file.
+/// Applies an entry, and compares its outcome with the one in the file.
 fn repeat(pass: &Pass, number: u64, batch: &Batch) -> Result<()> {
     let place = Place::Entry(number);
     match pass.repeat(batch) {
@@ -248,13 +249,13 @@ impl Saved {
     /// Takes a pass whose writes are saved.
     ///
     /// # Errors
-    /// The same as [`Store::pass`].
+    /// The same errors as [`Store::pass`].
     pub fn pass(&self) -> crate::Result<Pass> {
         Ok(self.store.pass()?.kept_by(self.queue.keeper()))
     }
 
-    /// Takes the tokens that the file had when it was opened, in the order of their writes. A token is saved in the same commit as its
-    /// write. A second call returns no tokens.
+    /// Returns the tokens that the file had when it was opened, in the order of their writes. A token is saved in the same commit as its
+    /// write. Later calls return no tokens.
     pub fn take_tokens(&mut self) -> Vec<Token> {
         std::mem::take(&mut self.tokens)
     }
@@ -278,7 +279,7 @@ impl Saved {
     /// includes. Other writes can continue in the meantime, and are saved after it. This takes memory for the state's batches.
     ///
     /// # Errors
-    /// The same as [`flush`](Self::flush); [`Error::DiskFull`] or [`Error::Sqlite`], which leave the file unchanged.
+    /// The same errors as [`flush`](Self::flush); [`Error::DiskFull`] or [`Error::Sqlite`], which leave the file unchanged.
     pub fn compact(&self) -> Result<()> {
         let copy = self.store.copy_state()?;
         let number = self.queue.number_in_file(copy.number);
@@ -287,15 +288,16 @@ impl Saved {
             .with_file(|file| file.write_state(number, copy.next, copy.batches.into_iter().map(Ok)))
     }
 
-    /// Returns whether [`compact`](Self::compact) would make the file smaller and faster to open: whether the entries since the state take
-    /// more than half the bytes of the state, and at least 512 KiB. After a failed `compact`, another 512 KiB must have been written.
+    /// Returns `true` if it is time to call [`compact`](Self::compact), to make the file smaller and faster to open. This is the case if
+    /// the entries since the state take more than half as many bytes as the state, and at least 512 KiB. After a failed call, another 512
+    /// KiB must have been written.
     #[must_use]
     pub fn is_due(&self) -> bool {
         self.queue.is_due()
     }
 
-    /// Returns the number that the entry with this commit number has in the file. Unlike commit numbers, numbers in the file continue when
-    /// the file is opened again.
+    /// Converts a commit number to the entry's number in the file. Unlike commit numbers, numbers in the file continue when the file is
+    /// opened again.
     #[must_use]
     pub fn number_in_file(&self, commit: u64) -> u64 {
         self.queue.number_in_file(commit)
@@ -304,7 +306,7 @@ impl Saved {
     /// Saves everything that has been written, and closes the file. Passes that are still open can only read.
     ///
     /// # Errors
-    /// The same as [`flush`](Self::flush).
+    /// The same errors as [`flush`](Self::flush).
     pub fn close(mut self) -> Result<()> {
         self.store.check()?;
         self.queue.close()

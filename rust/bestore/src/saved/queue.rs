@@ -1,4 +1,5 @@
-//! The queue of writes to be saved. They are saved by one of the waiting writers or, if writes are saved within a given time, by a thread.
+//! The queue of writes to be saved. One of the waiting writers saves them or, if writes are saved within a given time, a separate thread
+//! does.
 
 use super::{Error, Result};
 use crate::pass::{Keeper, MakeWrite};
@@ -11,7 +12,7 @@ use std::sync::{Arc, Condvar, Mutex, MutexGuard, PoisonError};
 use std::thread::{self, JoinHandle};
 use std::time::{Duration, Instant};
 
-/// How many bytes can be waiting to be saved before the next write has to wait too.
+/// The number of bytes that can wait to be saved before further writes must wait too.
 const WAITING: usize = 16 << 20;
 
 fn lock<T>(mutex: &Mutex<T>) -> MutexGuard<'_, T> {
@@ -22,7 +23,7 @@ fn wait<'a, T>(condition: &Condvar, guard: MutexGuard<'a, T>) -> MutexGuard<'a, 
     condition.wait(guard).unwrap_or_else(PoisonError::into_inner)
 }
 
-/// What has been written and what has been saved, as numbers in the file.
+/// The entries that have been written and those that have been saved, as numbers in the file.
 #[derive(Debug)]
 struct Line {
     waiting: Vec<Row>,
@@ -40,7 +41,7 @@ struct Line {
 }
 
 impl Line {
-    /// Takes the waiting rows in order to save them now.
+    /// Takes the waiting rows, to save them now.
     fn take_rows(&mut self) -> Vec<Row> {
         self.due = None;
         self.is_urgent = false;
@@ -70,7 +71,7 @@ struct Shared {
     /// Whether the file's state should be rewritten.
     is_due: AtomicBool,
     every: Option<Duration>,
-    /// What to add to a commit number in the store to get the number in the file.
+    /// The offset from commit numbers in the store to numbers in the file.
     shift: i64,
 }
 
@@ -119,7 +120,7 @@ impl Shared {
         line
     }
 
-    /// Waits until there are writes to save. Returns `None` at the end.
+    /// Waits until there are writes to save. Returns `None` when the queue is closing.
     fn next_work(&self) -> Option<MutexGuard<'_, Line>> {
         let mut line = lock(&self.line);
         loop {
@@ -137,7 +138,7 @@ impl Shared {
         }
     }
 
-    /// Saves waiting rows in a loop, until the end or until a commit fails.
+    /// Saves waiting rows in a loop, until the queue is closing or a commit fails.
     fn save(&self) {
         while let Some(line) = self.next_work() {
             if self.save_rows(line).failed.is_some() {
@@ -158,7 +159,7 @@ impl Shared {
     }
 }
 
-/// A commit in progress. If it panics, no thread goes on waiting for it.
+/// A commit in progress. If it panics, no thread keeps waiting for it.
 struct Saving<'a>(&'a Shared);
 
 impl Drop for Saving<'_> {

@@ -20,9 +20,9 @@ impl Options {
     /// the folder and any missing volumes. A new volume gets the indices that the others have. The options apply to each volume.
     ///
     /// # Errors
-    /// The same as [`open`](Self::open), in [`Error::OfVolume`]. [`Error::Folder`] if the folder can't be read or created. [`Error::Fewer`]
-    /// if the folder has more volumes than `volumes`, or if it has none and `volumes` isn't given. [`Error::NoFile`] if a volume is missing
-    /// but a later one exists.
+    /// The same errors as [`open`](Self::open), wrapped in [`Error::OfVolume`]. [`Error::Folder`] if the folder can't be read or created.
+    /// [`Error::Fewer`] if the folder has more volumes than `volumes`, or if it has none and `volumes` isn't given. [`Error::NoFile`] if a
+    /// volume is missing but a later one exists.
     pub fn open_shelf(&self, folder: impl AsRef<Path>, volumes: Option<u32>) -> Result<SavedShelf> {
         let folder = folder.as_ref();
         if !(1..=MOST_VOLUMES).contains(&volumes.unwrap_or(1)) {
@@ -60,7 +60,7 @@ impl SavedShelf {
     /// Creates a shelf of these volumes. A volume that has never had a node gets the indices that all others have.
     ///
     /// # Errors
-    /// The same as [`Shelf::of_volumes`], and the errors of a write.
+    /// The same errors as [`Shelf::of_volumes`], and those of a write.
     pub fn of_volumes(volumes: Vec<Saved>) -> Result<Self> {
         let shelf = Shelf::of_volumes(volumes.iter().map(|saved| saved.store.clone()).collect())?;
         let saved = Self { shelf, volumes };
@@ -80,7 +80,7 @@ impl SavedShelf {
         &self.shelf
     }
 
-    /// Takes the tokens of each volume, like [`Saved::take_tokens`].
+    /// Returns the tokens of each volume, like [`Saved::take_tokens`].
     pub fn take_tokens(&mut self) -> Vec<Vec<super::Token>> {
         self.volumes.iter_mut().map(Saved::take_tokens).collect()
     }
@@ -88,7 +88,7 @@ impl SavedShelf {
     /// Takes a pass whose writes are saved.
     ///
     /// # Errors
-    /// The same as [`Shelf::pass`].
+    /// The same errors as [`Shelf::pass`].
     pub fn pass(&self) -> crate::Result<ShelfPass> {
         self.shelf.pass_of(self.volumes.iter().map(Saved::pass))
     }
@@ -101,7 +101,7 @@ impl SavedShelf {
         outcome
     }
 
-    /// Returns a volume's error, with the volume's number if there are several.
+    /// Attributes an error to a volume, if there are several volumes.
     fn error(&self, volume: u32, error: Error) -> Error {
         match self.volumes.len() {
             1 => error,
@@ -112,7 +112,7 @@ impl SavedShelf {
     /// Waits until everything written before the call is in the files.
     ///
     /// # Errors
-    /// The same as [`Saved::flush`], for the first volume that can't be saved. All others are saved.
+    /// The same errors as [`Saved::flush`], for the first volume that can't be saved. All others are saved.
     pub fn flush(&self) -> Result<()> {
         self.each(Saved::flush)
     }
@@ -120,21 +120,21 @@ impl SavedShelf {
     /// Writes the current snapshots to the files, one after another, like [`Saved::compact`].
     ///
     /// # Errors
-    /// The same as `Saved::compact`, for the first volume that can't be written. All others are written.
+    /// The same errors as `Saved::compact`, for the first volume that can't be written. All others are written.
     pub fn compact(&self) -> Result<()> {
         self.each(Saved::compact)
     }
 
-    /// Returns whether any volume needs compacting, according to [`Saved::is_due`].
+    /// Returns `true` if [`Saved::is_due`] does for any volume.
     #[must_use]
     pub fn is_due(&self) -> bool {
         self.volumes.iter().any(Saved::is_due)
     }
 
-    /// Compacts the volumes for which it [is due](Self::is_due).
+    /// Calls [`Saved::compact`] on each volume for which [`Saved::is_due`] returns `true`.
     ///
     /// # Errors
-    /// The same as [`compact`](Self::compact).
+    /// The same errors as [`compact`](Self::compact).
     pub fn compact_if_due(&self) -> Result<()> {
         self.each(|volume| match volume.is_due() {
             true => volume.compact(),
@@ -145,7 +145,7 @@ impl SavedShelf {
     /// Saves everything that has been written, and closes the files. Passes that are still open can only read.
     ///
     /// # Errors
-    /// The same as [`flush`](Self::flush).
+    /// The same errors as [`flush`](Self::flush).
     pub fn close(self) -> Result<()> {
         let outcome = self.flush();
         let closed = self.volumes.into_iter().map(Saved::close);

@@ -3,8 +3,8 @@
 use super::{ShelfPass, ShelfSnapshot};
 use crate::{Change, Error, Node, Result, Value};
 
-/// A change to a shelf in progress. Through it, the closure of [`ShelfPass::change`] reads the volumes and collects operations. All
-/// operations are in one volume: the one that was asked for, or that of the first operation.
+/// A change to a shelf in progress. The closure of [`ShelfPass::change`] uses it to read the volumes and collect operations. All operations
+/// are in one volume: the one that was requested, or that of the first operation.
 ///
 /// [`get`](Self::get) reads the snapshot with the operations so far applied. [`snapshot`](Self::snapshot) returns the snapshot without
 /// them.
@@ -23,7 +23,7 @@ impl<'a> ShelfChange<'a> {
         self.snapshot
     }
 
-    /// Returns the volume that will be written to, if it has been determined.
+    /// Returns the volume that will be written to, if that is decided already.
     #[must_use]
     pub fn volume(&self) -> Option<u32> {
         self.volume
@@ -56,10 +56,10 @@ impl<'a> ShelfChange<'a> {
         Ok((self.in_volume(volume)?, number))
     }
 
-    /// Returns an attribute as it is after the operations so far, or `None` if the node or the attribute doesn't exist then.
+    /// Returns an attribute with the operations so far applied, or `None` if the node or the attribute doesn't exist then.
     ///
     /// # Errors
-    /// The same as [`ShelfSnapshot::get`].
+    /// The same errors as [`ShelfSnapshot::get`].
     pub fn get(&self, node: u64, name: &str) -> Result<Option<Value>> {
         let Node { volume, number } = node.into();
         match &self.change {
@@ -77,11 +77,11 @@ impl<'a> ShelfChange<'a> {
         self
     }
 
-    /// Creates a node and returns the number that it will have. If no volume was asked for and this is the first operation, the node goes
+    /// Creates a node and returns the number that it will have. If no volume was requested and this is the first operation, the node goes
     /// to the volume with the most free pages.
     ///
     /// # Errors
-    /// [`Error::NoVolume`] if the volume that was asked for doesn't exist. Otherwise the same as [`ShelfSnapshot::roomiest`].
+    /// [`Error::NoVolume`] if the requested volume doesn't exist. Otherwise the same errors as [`ShelfSnapshot::roomiest`].
     pub fn new_node(&mut self) -> Result<u64> {
         let volume = self.volume.map_or_else(|| self.snapshot.roomiest(), Ok)?;
         let number = self.in_volume(volume)?.new_node();
@@ -101,7 +101,7 @@ impl<'a> ShelfChange<'a> {
     /// Sets the attribute.
     ///
     /// # Errors
-    /// The same as [`remove_node`](Self::remove_node); [`Error::KindMismatch`], as in [`Change::set`].
+    /// The same errors as [`remove_node`](Self::remove_node); [`Error::KindMismatch`], as in [`Change::set`].
     pub fn set(&mut self, node: u64, name: &str, value: impl Into<Value>) -> Result<&mut Self> {
         let (change, number) = self.of_node(node)?;
         change.set(number, name, value)?;
@@ -111,14 +111,14 @@ impl<'a> ShelfChange<'a> {
     /// Removes the attribute.
     ///
     /// # Errors
-    /// The same as [`remove_node`](Self::remove_node).
+    /// The same errors as [`remove_node`](Self::remove_node).
     pub fn unset(&mut self, node: u64, name: &str) -> Result<&mut Self> {
         let (change, number) = self.of_node(node)?;
         change.unset(number, name);
         Ok(self)
     }
 
-    /// Runs the closure on newer and newer snapshots until its operations have been written on top of the one that it read.
+    /// Runs the closure on successively newer snapshots until its operations have been written on top of the snapshot that it read.
     pub(super) fn run<T>(
         pass: &mut ShelfPass,
         volume: Option<u32>,

@@ -23,7 +23,7 @@ pub struct ShelfLive {
     text: String,
     /// The query in each volume that has been read so far.
     volumes: Vec<Live>,
-    /// What a refresh had found before it failed in a later volume.
+    /// The changes that a refresh found before it failed in a later volume.
     pending: Updates,
 }
 
@@ -31,7 +31,7 @@ impl ShelfLive {
     /// Parses the query.
     ///
     /// # Errors
-    /// The same as [`Live::new`].
+    /// The same errors as [`Live::new`].
     pub fn new(text: &str) -> Result<Self> {
         Ok(Self {
             text: text.into(),
@@ -43,16 +43,15 @@ impl ShelfLive {
     /// Runs the whole query in each volume, and compares the result with that of the last refresh. Always use snapshots of the same shelf.
     ///
     /// # Errors
-    /// The same as [`ShelfSnapshot::query`]. The next successful refresh also returns the changes that this one has found.
+    /// The same errors as [`ShelfSnapshot::query`]. The next successful refresh also returns the changes that this one found.
     pub fn refresh(&mut self, snapshot: &ShelfSnapshot<'_>) -> Result<Updates> {
         self.refresh_by(snapshot, Live::refresh)
     }
 
-    /// Returns the same as [`refresh`](Self::refresh), but uses [`Live::refresh_changed`] in each volume; see there for when that is
-    /// faster.
+    /// Like [`refresh`](Self::refresh), but uses [`Live::refresh_changed`] in each volume; its documentation says when this is faster.
     ///
     /// # Errors
-    /// The same as [`Live::refresh_changed`]. The next successful refresh also returns the changes that this one has found.
+    /// The same errors as [`Live::refresh_changed`]. The next successful refresh also returns the changes that this one found.
     pub fn refresh_changed(&mut self, snapshot: &ShelfSnapshot<'_>) -> Result<Updates> {
         self.refresh_by(snapshot, Live::refresh_changed)
     }

@@ -27,11 +27,11 @@
 //!
 //! # What is promised
 //!
-//! Each volume by itself keeps a store's promises: its writes are serializable in the order of its journal, and reads see one snapshot of
-//! it. Across volumes there is no order:
+//! Each volume on its own makes the promises of a store: its writes are serializable in the order of its journal, and reads see a single
+//! snapshot of it. There is no order across volumes.
 //!
 //! A [`ShelfSnapshot`] has a snapshot of each volume. The volumes are pinned one after another, so it may contain a later write to one
-//!   volume and lack an earlier write to another. It contains everything that its pass has written or seen.
+//! volume and lack an earlier write to another. It contains everything that its pass has written or seen.
 
 mod change;
 mod live;
@@ -48,7 +48,7 @@ use crate::{Error, Limits, Pass, Result, Store, MOST_VOLUMES};
 use bestore_types::raw::fits;
 use std::sync::{Arc, Mutex};
 
-/// A group of stores that a single query can search. Clones share the same shelf, and each thread can take its pass from a clone.
+/// A group of stores that a single query can search. Clones share the same shelf; each thread can take its pass from a clone.
 #[derive(Clone, Debug)]
 pub struct Shelf {
     volumes: Vec<Store>,
@@ -91,10 +91,10 @@ impl Shelf {
         &self.volumes
     }
 
-    /// Carries on each volume that [is due](Store::is_due), one after another, like [`Store::carry_on`].
+    /// Calls [`Store::carry_on`] on each volume for which [`Store::is_due`] returns `true`, one after another.
     ///
     /// # Errors
-    /// The same as `Store::carry_on`, for the first volume that can't be carried on. All others are carried on.
+    /// The same errors as `Store::carry_on`, for the first volume on which it fails. It is still called on all others.
     pub fn carry_on_if_due(&self) -> Result<()> {
         let mut outcome = Ok(());
         for (volume, store) in (0..).zip(&self.volumes) {
@@ -105,19 +105,19 @@ impl Shelf {
         outcome
     }
 
-    /// Returns whether any volume is due to be carried on, like [`Store::is_due`].
+    /// Returns `true` if [`Store::is_due`] does for any volume.
     #[must_use]
     pub fn is_due(&self) -> bool {
         self.volumes.iter().any(Store::is_due)
     }
 
-    /// Returns whether a pass still holds old memory in any volume, like [`Store::is_read_before`].
+    /// Returns `true` if [`Store::is_read_before`] does for any volume.
     #[must_use]
     pub fn is_read_before(&self) -> bool {
         self.volumes.iter().any(Store::is_read_before)
     }
 
-    /// Returns a volume's error, with the volume's number if there are several.
+    /// Attributes an error to a volume, if there are several volumes.
     fn error(&self, volume: u32, error: Error) -> Error {
         match self.volumes.len() {
             1 => error,
@@ -128,12 +128,12 @@ impl Shelf {
     /// Takes a pass from each volume.
     ///
     /// # Errors
-    /// The same as [`Store::pass`]. After an error, no pass has been taken.
+    /// The same errors as [`Store::pass`]. After an error, no pass has been taken.
     pub fn pass(&self) -> Result<ShelfPass> {
         self.pass_of(self.volumes.iter().map(Store::pass))
     }
 
-    /// Creates the shelf's pass from these passes of its volumes.
+    /// Creates a pass of the shelf from passes of its volumes.
     pub(crate) fn pass_of(&self, passes: impl Iterator<Item = Result<Pass>>) -> Result<ShelfPass> {
         let passes = (0..).zip(passes);
         let passes = passes.map(|(volume, pass)| pass.map_err(|error| self.error(volume, error)));

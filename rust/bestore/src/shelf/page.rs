@@ -13,17 +13,17 @@ impl<'a> ShelfSnapshot<'a> {
     /// another.
     ///
     /// # Errors
-    /// The same as [`Snapshot::ordered`].
+    /// The same errors as [`Snapshot::ordered`].
     pub fn ordered(&self, text: &str, order: Order) -> Result<Ordered<'_>> {
         Ok(Ordered::of_shelf(self, Prepared::new(text)?, order))
     }
 
-    /// Returns a page over all volumes, like [`Snapshot::page`]. Nodes with equal values are sorted by their integers. The cost is about
-    /// that of one page from each volume.
+    /// Returns a page over all volumes, like [`Snapshot::page`]. Nodes with equal values are sorted by their integers. This costs about as
+    /// much as one page from each volume.
     ///
     /// # Errors
-    /// The same as [`Snapshot::page`], with the volume. [`Error::NoOrder`] for the first volume that lacks the index, or whose index has a
-    /// different kind from the first volume's.
+    /// The same errors as [`Snapshot::page`], with the volume. [`Error::NoOrder`] for the first volume that lacks the index, or whose index
+    /// has a different kind from the first volume's.
     pub fn page(&self, prepared: &Prepared, order: &Order, after: Option<&Cursor>, most: usize) -> Result<Page> {
         if let [only] = self.volumes() {
             return only.page(prepared, order, after, most);
@@ -45,7 +45,7 @@ impl<'a> ShelfSnapshot<'a> {
         })
     }
 
-    /// Returns an error unless all volumes have the index and it has the same kind in each.
+    /// Checks that every volume has the index, and that it has the same kind in each.
     fn check_kinds(&self, order: &Order) -> Result<()> {
         let mut first = None;
         for (volume, snapshot) in (0..).zip(self.volumes()) {
@@ -59,10 +59,10 @@ impl<'a> ShelfSnapshot<'a> {
         Ok(())
     }
 
-    /// Returns the first `most` nodes that the query finds in all volumes, in ascending order from this one on.
+    /// Returns the first `most` nodes that the query finds in all volumes, in ascending order, starting at this node.
     ///
     /// # Errors
-    /// The same as [`Snapshot::first`].
+    /// The same errors as [`Snapshot::first`].
     pub fn first(&self, text: &str, from: u64, most: usize) -> Result<Vec<u64>> {
         self.first_prepared(&Prepared::new(text)?, from, most)
     }
@@ -70,7 +70,7 @@ impl<'a> ShelfSnapshot<'a> {
     /// Like [`first`](Self::first), for a prepared query.
     ///
     /// # Errors
-    /// The same as `first`.
+    /// The same errors as `first`.
     pub fn first_prepared(&self, prepared: &Prepared, from: u64, most: usize) -> Result<Vec<u64>> {
         let from = Node::from(from);
         self.some(most, |volume, snapshot, most| match volume.cmp(&from.volume) {
@@ -80,10 +80,10 @@ impl<'a> ShelfSnapshot<'a> {
         })
     }
 
-    /// Returns any `most` of the nodes that the query finds in all volumes, or all of them if there are fewer, in no particular order.
+    /// Returns up to `most` of the nodes that the query finds in all volumes, chosen arbitrarily and in no particular order.
     ///
     /// # Errors
-    /// The same as [`Snapshot::any`].
+    /// The same errors as [`Snapshot::any`].
     pub fn any(&self, text: &str, most: usize) -> Result<Vec<u64>> {
         self.any_prepared(&Prepared::new(text)?, most)
     }
@@ -91,7 +91,7 @@ impl<'a> ShelfSnapshot<'a> {
     /// Like [`any`](Self::any), for a prepared query.
     ///
     /// # Errors
-    /// The same as `any`.
+    /// The same errors as `any`.
     pub fn any_prepared(&self, prepared: &Prepared, most: usize) -> Result<Vec<u64>> {
         self.some(most, |_, snapshot, most| snapshot.any_prepared(prepared, most))
     }
@@ -117,7 +117,7 @@ struct Merge<'s, 'a> {
     shelf: &'s ShelfSnapshot<'a>,
     prepared: &'s Prepared,
     volumes: Vec<Ahead>,
-    /// How many nodes to request from a volume at a time.
+    /// The number of nodes to request from a volume at a time.
     most: usize,
     /// The position of the last node taken.
     last: Cursor,
@@ -155,7 +155,7 @@ impl<'s, 'a> Merge<'s, 'a> {
         Ok(merge)
     }
 
-    /// Reads the next page from a volume if the whole last page has been taken and the volume has more nodes.
+    /// Reads the next page from a volume if all nodes of the last page have been taken and the volume has more.
     fn read_on(&mut self, volume: usize) -> Result<()> {
         let ahead = &mut self.volumes[volume];
         if !ahead.nodes.is_empty() {
@@ -213,13 +213,13 @@ fn keyed_in(volume: u32, number: u64, value: Value) -> Option<Keyed> {
     Some(Keyed { key, value, node })
 }
 
-/// Returns the position in a volume that corresponds to a cursor of the shelf. In ascending order, among the nodes that have the cursor's
-/// value, those in lower volumes come before it, and those in higher volumes after it.
+/// Returns the position in a volume that corresponds to a cursor of the shelf. In ascending order, among the nodes with the cursor's value,
+/// those in lower volumes come before it, and those in higher volumes after it.
 fn of_volume(after: &Cursor, volume: u32) -> Cursor {
     match after.node().map(Node::from) {
         None => after.clone(),
         Some(last) => after.with_node(match volume.cmp(&last.volume) {
-            // No node has the greatest number or 0, so these positions are after and before all nodes that have the value.
+            // No node has the highest number or number 0, so these positions are after or before all nodes with the value.
             Ordering::Less => u64::MAX,
             Ordering::Equal => last.number,
             Ordering::Greater => 0,

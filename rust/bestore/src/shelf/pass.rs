@@ -8,7 +8,7 @@ use std::sync::{Arc, Mutex};
 use std::thread;
 use std::time::{Duration, Instant};
 
-/// How often [`ShelfPass::reach`] checks.
+/// The interval at which [`ShelfPass::reach`] checks the volumes.
 const LOOK: Duration = Duration::from_millis(2);
 
 /// A transaction committed to a shelf.
@@ -24,7 +24,7 @@ pub struct ShelfWritten {
 
 /// A shelf's pass: a pass of each volume, used by one thread at a time.
 ///
-/// If there are several volumes, [`Error::volume`] returns the one that an error comes from.
+/// If there are several volumes, [`Error::volume`] returns the one in which an error occurred.
 #[derive(Debug)]
 pub struct ShelfPass {
     volumes: Vec<Pass>,
@@ -66,7 +66,7 @@ impl ShelfPass {
         self.volumes.iter_mut().for_each(|pass| pass.set_retry(retry));
     }
 
-    /// Returns how a change waits.
+    /// Returns how a change waits between its attempts.
     pub(super) fn waits(&self) -> Waits {
         Waits::of(&self.volumes[0])
     }
@@ -86,7 +86,7 @@ impl ShelfPass {
         ShelfSnapshot::pin(&mut self.volumes, &self.indexing)
     }
 
-    /// Holds a snapshot of each volume, like [`Pass::hold`], until [`release`](Self::release). Returns its [numbers].
+    /// Holds a snapshot of each volume, like [`Pass::hold`], until [`release`](Self::release). Returns the snapshots' [numbers].
     ///
     /// [numbers]: ShelfSnapshot::numbers
     ///
@@ -104,7 +104,7 @@ impl ShelfPass {
     /// Releases old memory in each volume, like [`Pass::follow`].
     ///
     /// # Errors
-    /// The same as that call.
+    /// The same errors as [`Pass::follow`].
     pub fn follow(&mut self) -> Result<bool> {
         let mut has_followed = false;
         for pass in &mut self.volumes {
@@ -113,13 +113,13 @@ impl ShelfPass {
         Ok(has_followed)
     }
 
-    /// Writes either all of the batch's operations or none, in the volume of the nodes to which they refer. If they don't refer to any
-    /// node, the batch goes to the volume with the most free pages.
+    /// Writes either all of the batch's operations or none, in the volume of the nodes to which they refer. If they refer to no node, the
+    /// batch goes to the volume with the most free pages.
     ///
     /// # Errors
     /// [`Error::OtherVolume`] with the first operation that refers to a node in another volume. [`Error::NoNode`] if the volume doesn't
     /// exist. [`Error::PartialIndex`] if an operation creates or removes an index and there are several volumes; use
-    /// [`make_index`](Self::make_index) instead. Otherwise the same as [`Pass::apply`].
+    /// [`make_index`](Self::make_index) instead. Otherwise the same errors as [`Pass::apply`].
     pub fn apply(&self, batch: &Batch) -> Result<ShelfWritten> {
         batch.check_no_index(self.volumes.len())?;
         let (volume, within) = batch.to_volume(None)?;
@@ -130,10 +130,10 @@ impl ShelfPass {
         }
     }
 
-    /// Writes like [`apply`](Self::apply), but in this volume. The batch may create an index in this volume alone.
+    /// Writes like [`apply`](Self::apply), but to this volume. The batch may create an index in only this volume.
     ///
     /// # Errors
-    /// [`Error::NoVolume`]; otherwise the same as `apply`.
+    /// [`Error::NoVolume`]; otherwise the same errors as `apply`.
     pub fn apply_in(&self, volume: u32, batch: &Batch) -> Result<ShelfWritten> {
         self.write(volume, None, &self.within(volume, batch)?)
     }
@@ -142,7 +142,7 @@ impl ShelfPass {
     /// other volumes may have changed.
     ///
     /// # Errors
-    /// [`Error::Conflict`] if the journal's length differs; otherwise the same as `apply_in`.
+    /// [`Error::Conflict`] if the journal's length differs; otherwise the same errors as `apply_in`.
     pub fn apply_in_if(&self, volume: u32, expected: u64, batch: &Batch) -> Result<ShelfWritten> {
         self.write(volume, Some(expected), &self.within(volume, batch)?)
     }
@@ -176,7 +176,7 @@ impl ShelfPass {
     /// nothing else has been written there since. Data that the closure read from other volumes may have changed.
     ///
     /// # Errors
-    /// The closure's errors; [`Error::Conflict`] once the retries set by [`Retry::conflict`] are used up; otherwise the same as
+    /// The closure's errors; [`Error::Conflict`] once the retries set by [`Retry::conflict`] are used up; otherwise the same errors as
     /// [`apply`](Self::apply).
     pub fn change<T>(&mut self, mut change: impl FnMut(&mut ShelfChange<'_>) -> Result<T>) -> Result<T> {
         ShelfChange::run(self, None, &mut change)
@@ -185,7 +185,7 @@ impl ShelfPass {
     /// Like [`change`](Self::change), but writes to this volume.
     ///
     /// # Errors
-    /// [`Error::NoVolume`]; otherwise the same as [`change`](Self::change).
+    /// [`Error::NoVolume`]; otherwise the same errors as [`change`](Self::change).
     pub fn change_in<T>(
         &mut self,
         volume: u32,
@@ -195,10 +195,11 @@ impl ShelfPass {
         ShelfChange::run(self, Some(volume), &mut change)
     }
 
-    /// Creates a node in the volume with the most free pages. This call and the next three write like [`apply`](Self::apply).
+    /// Creates a node in the volume with the most free pages. This method and the next three each [`apply`](Self::apply) a batch with a
+    /// single operation.
     ///
     /// # Errors
-    /// The same as `apply`.
+    /// The same errors as `apply`.
     pub fn new_node(&self) -> Result<u64> {
         Ok(self.apply(Batch::new().new_node())?.nodes[0])
     }
@@ -206,7 +207,7 @@ impl ShelfPass {
     /// Removes the node and all its attributes.
     ///
     /// # Errors
-    /// The same as [`apply`](Self::apply).
+    /// The same errors as [`apply`](Self::apply).
     pub fn remove_node(&self, node: u64) -> Result<()> {
         self.apply(Batch::new().remove_node(node)).map(drop)
     }
@@ -214,7 +215,7 @@ impl ShelfPass {
     /// Sets the attribute.
     ///
     /// # Errors
-    /// The same as [`apply`](Self::apply).
+    /// The same errors as [`apply`](Self::apply).
     pub fn set(&self, node: u64, name: &str, value: impl Into<Value>) -> Result<()> {
         self.apply(Batch::new().set(node, name, value)).map(drop)
     }
@@ -222,7 +223,7 @@ impl ShelfPass {
     /// Removes the attribute.
     ///
     /// # Errors
-    /// The same as [`apply`](Self::apply).
+    /// The same errors as [`apply`](Self::apply).
     pub fn unset(&self, node: u64, name: &str) -> Result<()> {
         self.apply(Batch::new().unset(node, name)).map(drop)
     }
@@ -230,16 +231,15 @@ impl ShelfPass {
     /// Creates an index with this name for values of this kind in each volume, like [`ShelfSnapshot::make_index`] on a new snapshot.
     ///
     /// # Errors
-    /// The same as that call.
+    /// The same errors as [`ShelfSnapshot::make_index`].
     pub fn make_index(&mut self, name: &str, kind: Kind) -> Result<()> {
         self.pin()?.make_index(name, kind)
     }
 
-    /// Adds to the index of this name the attributes that it lacks, by setting them to the same values again, like [`Pass::reindex`] in
-    /// each volume. Returns how many were set.
+    /// Fills the index of this name in each volume, like [`Pass::reindex`]. Returns the number of attributes set.
     ///
     /// # Errors
-    /// [`Error::NoIndex`] if a volume lacks the index. Otherwise the same as `Pass::reindex`.
+    /// [`Error::NoIndex`] if a volume lacks the index. Otherwise the same errors as `Pass::reindex`.
     pub fn reindex(&mut self, name: &str) -> Result<u64> {
         let indices = self.pin()?.indices()?;
         if !indices.iter().any(|(index, _)| index == name) {
@@ -257,7 +257,7 @@ impl ShelfPass {
     /// Removes the index from each volume that has it, like [`ShelfSnapshot::remove_index`].
     ///
     /// # Errors
-    /// The same as that call.
+    /// The same errors as [`ShelfSnapshot::remove_index`].
     pub fn remove_index(&mut self, name: &str) -> Result<()> {
         self.pin()?.remove_index(name)
     }
@@ -265,28 +265,28 @@ impl ShelfPass {
     /// Returns each volume's usage.
     ///
     /// # Errors
-    /// The same as [`Pass::status`].
+    /// The same errors as [`Pass::status`].
     pub fn status(&self) -> Result<Vec<Status>> {
         let all = (0..).zip(&self.volumes);
         let all = all.map(|(volume, pass)| pass.status().map_err(|error| self.error(volume, error)));
         all.collect()
     }
 
-    /// Returns the volume with the most free pages; of several such volumes, the first. If the shelf has more than one volume, this reads
-    /// each volume's status.
+    /// Returns the volume with the most free pages, or the first of them if there are several. If the shelf has more than one volume, this
+    /// reads each volume's status.
     ///
     /// # Errors
-    /// The same as [`Pass::status`].
+    /// The same errors as [`Pass::status`].
     pub fn roomiest(&self) -> Result<u32> {
         roomiest(self.volumes.iter())
     }
 
-    /// Waits, for at most this time, until each volume's journal has at least this many entries. Volumes for which no number is given
-    /// aren't waited for. Returns whether the entries arrived in time; snapshots that the pass pins afterwards include them. This reads
-    /// each volume's status every 2 milliseconds.
+    /// Waits, for at most this time, until each volume's journal has at least as many entries as `numbers` says. Doesn't wait for volumes
+    /// without a number. Returns `true` if the entries arrived in time. Snapshots that the pass pins afterwards then include them. This
+    /// reads each volume's status every 2 milliseconds.
     ///
     /// # Errors
-    /// [`Error::NoVolume`] if there are more numbers than volumes; otherwise the same as [`Pass::status`].
+    /// [`Error::NoVolume`] if there are more numbers than volumes; otherwise the same errors as [`Pass::status`].
     pub fn reach(&self, numbers: &[u64], within: Duration) -> Result<bool> {
         if numbers.len() > self.volumes.len() {
             return self.volume(self.volumes.len() as u32).map(|_| false);
@@ -304,8 +304,8 @@ impl ShelfPass {
         }
     }
 
-    /// Creates, in each volume that has never had a node, the indices that all other volumes have. Because such a volume has no attributes
-    /// yet, the new indices are complete.
+    /// In each volume that has never had a node, creates the indices that all other volumes have. Such a volume has no attributes yet, so
+    /// the new indices are complete.
     #[cfg(feature = "saved")]
     pub(crate) fn index_new_volumes(&mut self) -> Result<()> {
         let mut new = Vec::new();

@@ -5,10 +5,10 @@ use bestore_types::raw::extend;
 use std::collections::BTreeMap;
 use std::sync::{Mutex, PoisonError};
 
-/// A snapshot of each volume. The volumes are pinned one after another, so the shelf's snapshot may include a later write to one volume but
+/// A snapshot of each volume. The volumes are pinned one after another, so the shelf's snapshot may include a later write to one volume and
 /// lack an earlier write to another.
 ///
-/// If there are several volumes, [`Error::volume`] returns the one that an error comes from.
+/// If there are several volumes, [`Error::volume`] returns the one in which an error occurred.
 #[derive(Debug)]
 pub struct ShelfSnapshot<'a> {
     volumes: Vec<Snapshot<'a>>,
@@ -21,7 +21,7 @@ impl<'a> ShelfSnapshot<'a> {
         Ok(Self { volumes, indexing })
     }
 
-    /// Returns the total number of entries that the snapshot contains from all volumes' journals.
+    /// Returns the total number of journal entries that the snapshot contains, over all volumes.
     #[must_use]
     pub fn number(&self) -> u64 {
         self.numbers().sum()
@@ -50,7 +50,7 @@ impl<'a> ShelfSnapshot<'a> {
         (0..).zip(&self.volumes)
     }
 
-    /// Returns a volume's error, with the volume's number if there are several.
+    /// Attributes an error to a volume, if there are several volumes.
     pub(super) fn error(&self, volume: u32, error: Error) -> Error {
         match self.volumes.len() {
             1 => error,
@@ -76,7 +76,7 @@ impl<'a> ShelfSnapshot<'a> {
     /// Returns the nodes that the query finds in all volumes, in ascending order. The text is parsed once.
     ///
     /// # Errors
-    /// The same as [`Snapshot::query`]. If some volumes can't answer the query, the error names the first of them.
+    /// The same errors as [`Snapshot::query`]. If some volumes can't answer the query, the error names the first of them.
     pub fn query(&self, text: &str) -> Result<Vec<u64>> {
         if let [only] = &self.volumes[..] {
             return only.query(text);
@@ -84,7 +84,7 @@ impl<'a> ShelfSnapshot<'a> {
         let prepared = Prepared::new(text)?;
         self.found(|snapshot| {
             let found = snapshot.query_prepared(&prepared);
-            // The prepared query's error has an offset that is wrong for this text.
+            // The offset in the prepared query's error is wrong for this text.
             found.or_else(|_| snapshot.query(text))
         })
     }
@@ -92,36 +92,37 @@ impl<'a> ShelfSnapshot<'a> {
     /// Returns the nodes that the prepared query finds in all volumes, in ascending order.
     ///
     /// # Errors
-    /// The same as [`query`](Self::query).
+    /// The same errors as [`query`](Self::query).
     pub fn query_prepared(&self, prepared: &Prepared) -> Result<Vec<u64>> {
         self.found(|snapshot| snapshot.query_prepared(prepared))
     }
 
-    /// Returns how many nodes the query finds in all volumes. This costs as much as running the query, except for the list.
+    /// Returns the number of nodes that the query finds in all volumes. This costs as much as running the query, except for creating the
+    /// list.
     ///
     /// # Errors
-    /// The same as [`query`](Self::query).
+    /// The same errors as [`query`](Self::query).
     pub fn count(&self, text: &str) -> Result<u64> {
         let prepared = Prepared::new(text)?;
         self.sum(|snapshot| {
             let counted = snapshot.count_prepared(&prepared);
-            // The prepared query's error has an offset that is wrong for this text.
+            // The offset in the prepared query's error is wrong for this text.
             counted.or_else(|_| snapshot.count(text))
         })
     }
 
-    /// Returns how many nodes the prepared query finds in all volumes.
+    /// Returns the number of nodes that the prepared query finds in all volumes.
     ///
     /// # Errors
-    /// The same as [`query`](Self::query).
+    /// The same errors as [`query`](Self::query).
     pub fn count_prepared(&self, prepared: &Prepared) -> Result<u64> {
         self.sum(|snapshot| snapshot.count_prepared(prepared))
     }
 
-    /// Returns how many entries the index of this name has in all volumes, each a value and a node.
+    /// Returns the number of entries in the index of this name in all volumes, each of which is a value and a node.
     ///
     /// # Errors
-    /// The same as [`Snapshot::pairs`].
+    /// The same errors as [`Snapshot::pairs`].
     pub fn pairs(&self, name: &str) -> Result<u64> {
         self.sum(|snapshot| snapshot.pairs(name))
     }
@@ -134,10 +135,10 @@ impl<'a> ShelfSnapshot<'a> {
         counts.sum()
     }
 
-    /// Returns the comparisons in a query that are never true, given the indices that every volume has and that have the same kind in each.
+    /// Returns the comparisons in a query that are never true, given the indices that every volume has with the same kind.
     ///
     /// # Errors
-    /// The same as [`Snapshot::hints`].
+    /// The same errors as [`Snapshot::hints`].
     pub fn hints(&self, text: &str) -> Result<Vec<Hint>> {
         let indices: BTreeMap<_, _> = self.indices()?.into_iter().collect();
         hints(text, |name| indices.get(name).copied())
@@ -147,7 +148,7 @@ impl<'a> ShelfSnapshot<'a> {
     /// have the same indices.
     ///
     /// # Errors
-    /// The same as [`query`](Self::query).
+    /// The same errors as [`query`](Self::query).
     pub fn explain(&self, text: &str) -> Result<String> {
         let explained = self.each().map(|(volume, snapshot)| {
             let text = snapshot.explain(text);
@@ -157,7 +158,7 @@ impl<'a> ShelfSnapshot<'a> {
         Ok(explained.into_iter().next().unwrap_or_default())
     }
 
-    /// Returns all nodes from this one on, in ascending order. Pass 0 to get all nodes.
+    /// Returns all nodes in ascending order, starting at this one. Pass 0 to get all nodes.
     pub fn nodes_from(&self, from: u64) -> ShelfNodes<'_> {
         let Node { volume, number } = from.into();
         ShelfNodes {
@@ -167,10 +168,10 @@ impl<'a> ShelfSnapshot<'a> {
         }
     }
 
-    /// Returns whether the node exists.
+    /// Returns `true` if the node exists.
     ///
     /// # Errors
-    /// The same as [`Snapshot::contains`].
+    /// The same errors as [`Snapshot::contains`].
     pub fn contains(&self, node: u64) -> Result<bool> {
         self.place(node)
             .map_or(Ok(false), |(snapshot, number)| snapshot.contains(number))
@@ -179,11 +180,11 @@ impl<'a> ShelfSnapshot<'a> {
     /// Returns an attribute, or `None` if the node or the attribute doesn't exist.
     ///
     /// # Errors
-    /// The same as [`Snapshot::get`].
+    /// The same errors as [`Snapshot::get`].
     pub fn get(&self, node: u64, name: &str) -> Result<Option<Value>> {
         match self.place(node) {
             Some((snapshot, number)) => snapshot.get(number, name),
-            // The first volume has no node 0, so only the name is checked.
+            // The first volume has no node 0, so this checks only the name.
             None => self.volumes[0].get(0, name),
         }
     }
@@ -191,7 +192,7 @@ impl<'a> ShelfSnapshot<'a> {
     /// Returns a node's attributes, sorted by name.
     ///
     /// # Errors
-    /// The same as [`Snapshot::attributes`].
+    /// The same errors as [`Snapshot::attributes`].
     pub fn attributes(&self, node: u64) -> Result<Vec<(String, Value)>> {
         let (snapshot, number) = self.place(node).ok_or(Error::NoNode)?;
         snapshot.attributes(number)
@@ -218,7 +219,7 @@ impl<'a> ShelfSnapshot<'a> {
     /// Returns the indices that every volume has with the same kind, sorted by name.
     ///
     /// # Errors
-    /// The same as [`Snapshot::indices`].
+    /// The same errors as [`Snapshot::indices`].
     pub fn indices(&self) -> Result<Vec<(String, Kind)>> {
         if let [only] = &self.volumes[..] {
             return only.indices();
@@ -228,10 +229,10 @@ impl<'a> ShelfSnapshot<'a> {
         Ok(common.collect())
     }
 
-    /// Returns the indices that some volumes lack or have with a different kind, along with the volumes that have them.
+    /// Returns the indices that some volumes lack or have with a different kind, each with the volumes that have it.
     ///
     /// # Errors
-    /// The same as [`Snapshot::indices`].
+    /// The same errors as [`Snapshot::indices`].
     pub fn partial_indices(&self) -> Result<BTreeMap<String, Vec<u32>>> {
         let indices = self.all_indices()?.into_iter();
         let partial = indices.filter(|(_, volumes)| self.common_kind(volumes).is_none());
@@ -240,13 +241,13 @@ impl<'a> ShelfSnapshot<'a> {
             .collect())
     }
 
-    /// Creates an index with this name for values of this kind in each volume that has none, one volume after another. Until it is done, no
-    /// other call on the shelf creates or removes indices in all volumes.
+    /// Creates an index with this name for values of this kind in each volume that has none, one volume after another. Meanwhile, no other
+    /// call on the shelf can create or remove indices in all volumes.
     ///
     /// # Errors
     /// [`Error::IndexExists`] if every volume has the index, or if in this snapshot a volume has it with another kind; in that case the
-    /// error names the volume, and nothing has been written. Otherwise the same as [`Pass::apply`], with the volume that refused. The
-    /// volumes before it have the index by then; repeat the call to create it in the others.
+    /// error names the volume, and nothing has been written. Otherwise the same errors as [`Pass::apply`], with the volume that refused. By
+    /// then, the volumes before it have the index. Repeat the call to create it in the others.
     pub fn make_index(&self, name: &str, kind: Kind) -> Result<()> {
         for (volume, snapshot) in self.each() {
             let differs = |(index, found): &(String, Kind)| index == name && *found != kind;
@@ -261,13 +262,13 @@ impl<'a> ShelfSnapshot<'a> {
     /// Removes the index with this name from each volume that has it, one volume after another.
     ///
     /// # Errors
-    /// [`Error::NoIndex`] if no volume has the index; otherwise the same as [`make_index`](Self::make_index).
+    /// [`Error::NoIndex`] if no volume has the index; otherwise the same errors as [`make_index`](Self::make_index).
     pub fn remove_index(&self, name: &str) -> Result<()> {
         let batch = Batch::new().remove_index(name).clone();
         self.write_each(&batch, Error::NoIndex, |error| matches!(error, Error::NoIndex))
     }
 
-    /// Writes the batch in each volume, and ignores errors for which `is_done` returns true. If every volume fails with such an error,
+    /// Writes the batch to each volume, and ignores errors for which `is_done` returns `true`. If every volume fails with such an error,
     /// returns `all`.
     fn write_each(&self, batch: &Batch, all: Error, is_done: impl Fn(&Error) -> bool) -> Result<()> {
         let _turn = self.indexing.lock().unwrap_or_else(PoisonError::into_inner);
@@ -282,11 +283,11 @@ impl<'a> ShelfSnapshot<'a> {
         outcome
     }
 
-    /// Returns the volume with the most free pages; of several such volumes, the first. If the shelf has more than one volume, this reads
-    /// each volume's status.
+    /// Returns the volume with the most free pages, or the first of them if there are several. If the shelf has more than one volume, this
+    /// reads each volume's status.
     ///
     /// # Errors
-    /// The same as [`Pass::status`].
+    /// The same errors as [`Pass::status`].
     pub fn roomiest(&self) -> Result<u32> {
         roomiest(self.volumes.iter().map(Snapshot::pass))
     }
@@ -294,7 +295,7 @@ impl<'a> ShelfSnapshot<'a> {
     /// Returns each volume's usage.
     ///
     /// # Errors
-    /// The same as [`Pass::status`].
+    /// The same errors as [`Pass::status`].
     pub fn status(&self) -> Result<Vec<Status>> {
         let all = self.each().map(|(volume, snapshot)| {
             let status = snapshot.pass().status();
@@ -303,17 +304,17 @@ impl<'a> ShelfSnapshot<'a> {
         all.collect()
     }
 
-    /// Returns the number that this volume's next node will have if it is created on this snapshot.
+    /// Returns the number that this volume's next node will have if it is created on top of this snapshot.
     ///
     /// # Errors
-    /// The same as [`Snapshot::next_node`]; [`Error::NoVolume`].
+    /// The same errors as [`Snapshot::next_node`]; [`Error::NoVolume`].
     pub fn next_node(&self, volume: u32) -> Result<u64> {
         let number = self.volume(volume)?.next_node()?;
         Ok(Node { volume, number }.into())
     }
 }
 
-/// Returns a volume's item.
+/// Returns the item for a volume.
 pub(super) fn at<T>(volumes: &[T], volume: u32) -> Result<&T> {
     volumes.get(volume as usize).ok_or(Error::NoVolume {
         volume,
@@ -321,7 +322,7 @@ pub(super) fn at<T>(volumes: &[T], volume: u32) -> Result<&T> {
     })
 }
 
-/// Returns the first volume among those with the most free pages.
+/// Returns the first of the volumes with the most free pages.
 pub(super) fn roomiest<'p>(passes: impl ExactSizeIterator<Item = &'p Pass>) -> Result<u32> {
     if passes.len() == 1 {
         return Ok(0);
