@@ -250,7 +250,7 @@ mod tests {
             .collect()
     }
 
-    /// Returns the bytes for which words such as `00ff`, `61*63` and `-` stand.
+    /// Returns the bytes represented by words such as `00ff`, `61*63` and `-`.
     fn bytes_of(words: &str) -> Vec<u8> {
         words.split_whitespace().flat_map(word_bytes).collect()
     }
