@@ -59,7 +59,7 @@ impl fmt::Display for Order {
 /// A position in a query's ordered result: the position of a [`Page`](crate::Page)'s last node. The next page begins just after it, even in
 /// a later snapshot, whatever was written in between.
 ///
-/// A cursor is displayed as a short string that [`str::parse`] reads, so you can store it or send it elsewhere.
+/// A cursor is formatted as a short string that [`str::parse`] accepts, so you can store it or send it elsewhere.
 #[derive(Clone, Debug, PartialEq, Eq, Hash)]
 pub struct Cursor {
     order: Order,
@@ -139,7 +139,7 @@ impl Cursor {
         Some((at.value.kind(), encode_key(&at.value, at.node)))
     }
 
-    /// Returns the cursor after the node with this key in an index of this kind, or the beginning if there is no kind or the key isn't
+    /// Returns the cursor after the node with this key in an index of this kind. Returns the beginning if there is no kind or the key isn't
     /// valid.
     #[must_use]
     pub fn of_key(order: Order, check: u32, kind: Option<Kind>, key: &[u8]) -> Self {

@@ -11,7 +11,7 @@ pub type Result<T> = std::result::Result<T, Error>;
 #[non_exhaustive]
 #[derive(Debug)]
 pub enum Error {
-    /// Another pass was writing on every try.
+    /// Another pass was writing at every attempt.
     Busy {
         /// That pass's number.
         pass: u64,
