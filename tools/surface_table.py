@@ -63,6 +63,11 @@ class Kind:
     def is_number(self) -> bool:
         return self.sign is not None
 
+    @property
+    def c_type(self) -> str:
+        """The type of an integer in C."""
+        return f"{'' if self.sign else 'u'}int{self.bits}_t"
+
 
 @dataclass(frozen=True)
 class Fault:
@@ -136,6 +141,10 @@ class Surface:
     def numbers(self) -> list[Kind]:
         """The kinds of integers."""
         return [it for it in self.kinds if it.is_number]
+
+    def flag_of(self, kind: Kind) -> str:
+        """Returns the name of the first kind with the same integers. A comparison's flag for it is right for this kind too."""
+        return next(it.tool for it in self.numbers if it.c_type == kind.c_type)
 
     @property
     def all_faults(self) -> list[Fault | ServerFault]:

@@ -85,7 +85,7 @@ def c_bits(surface: Surface) -> str:
 
 
 def c_never_true(surface: Surface) -> str:
-    return lines(f"    case {it.c}:\n        return comparison->is_never_{it.tool};" for it in surface.numbers)
+    return lines(f"    case {it.c}:\n        return comparison->is_never_{surface.flag_of(it)};" for it in surface.numbers)
 
 
 def c_setters(prefix: str, first: str, call: str, last: str) -> Callable[[Surface], str]:
@@ -93,7 +93,7 @@ def c_setters(prefix: str, first: str, call: str, last: str) -> Callable[[Surfac
     that they make, and the call's last arguments."""
     def setter(it: Kind) -> str:
         number = "value" if not it.sign else "(uint64_t)value" if it.bits == 64 else "(uint64_t)(int64_t)value"
-        return (f"static inline uint32_t {prefix}{it.tool}({first}, uint64_t node, const char *name, {it.tool}_t value)\n{{\n"
+        return (f"static inline uint32_t {prefix}{it.tool}({first}, uint64_t node, const char *name, {it.c_type} value)\n{{\n"
                 f"    return {call}, BES_SET, node, name, {it.c}, {number}, NULL, 0{last});\n}}\n")
     return lambda surface: "\n".join(map(setter, surface.numbers))
 
@@ -179,7 +179,7 @@ def rust_widths(surface: Surface) -> str:
 
 def rust_never_true(surface: Surface) -> str:
     others = " | ".join(f"Kind::{it.rust}" for it in surface.kinds if not it.is_number)
-    arms = [f"        Kind::{it.rust} => one.is_never_{it.tool}," for it in surface.numbers]
+    arms = [f"        Kind::{it.rust} => one.is_never_{surface.flag_of(it)}," for it in surface.numbers]
     return lines([*arms, f"        {others} => false,"])
 
 
