@@ -80,6 +80,7 @@ class Fault:
     what: str
     advice: str = ""
     python: str = ""
+    rust_about: str = ""
     bases: str = ""
     protocol: Optional[str] = None
     script: Optional[str] = None
@@ -145,6 +146,11 @@ class Surface:
     def flag_of(self, kind: Kind) -> str:
         """Returns the name of the first kind with the same integers. A comparison's flag for it is right for this kind too."""
         return next(it.tool for it in self.numbers if it.c_type == kind.c_type)
+
+    @property
+    def plain_faults(self) -> list[Fault]:
+        """The errors whose variants in Rust have no fields."""
+        return [it for it in self.faults if it.rust_about]
 
     @property
     def all_faults(self) -> list[Fault | ServerFault]:

@@ -156,6 +156,18 @@ def rust_meanings(surface: Surface) -> str:
     return lines(map(row, surface.faults))
 
 
+def rust_errors(surface: Surface) -> str:
+    return lines(f"    /// {it.rust_about}\n    {it.name}," for it in surface.plain_faults)
+
+
+def rust_error_numbers(surface: Surface) -> str:
+    return lines(f"            Error::{it.name} => sys::{it.constant}," for it in surface.plain_faults)
+
+
+def rust_refused(surface: Surface) -> str:
+    return lines(f"            sys::{it.constant} => Error::{it.name}," for it in surface.plain_faults)
+
+
 def rust_kinds(surface: Surface) -> str:
     def row(it: Kind) -> str:
         traits = f"{str(it.indexable).lower()}, {str(it.is_number).lower()}"
@@ -403,6 +415,9 @@ REGIONS: dict[tuple[str, str], Callable[[Surface], str]] = {
     ("rust/bestore-types/src/kind.rs", "least values"): rust_least,
     ("rust/bestore-types/src/kind.rs", "widths"): rust_widths,
     ("rust/bestore/src/hints.rs", "never true"): rust_never_true,
+    ("rust/bestore-types/src/error.rs", "errors"): rust_errors,
+    ("rust/bestore-types/src/error.rs", "numbers of errors"): rust_error_numbers,
+    ("rust/bestore/src/refused.rs", "errors"): rust_refused,
     ("rust/bestore-client/src/wire/value.rs", "names of kinds"): rust_kind_names,
     ("rust/bestore-client/src/wire/value.rs", "list of kinds"): rust_kind_list,
     ("rust/bestore-client/src/wire/error_name.rs", "errors"): rust_error_names,
