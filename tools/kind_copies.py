@@ -9,6 +9,7 @@ from surface_table import Kind
 
 MOST_LINES = 60
 LONGEST = 132
+WIDTH = 100
 DOCUMENTED = re.compile(r"\s*(?:///|#\[)")
 CONTINUED = re.compile(r"\s*[{})\]]")
 COMMENT = re.compile(r"\s*(?://|--|\*|/\*|\.\\\")")
@@ -85,6 +86,8 @@ class Names:
         self.last, self.last_variant = last.number, variant_of(last)
         self.has_numbers, self.is_wider = suffix in (".rt", ".antt"), like.c_type != new.c_type
         self.renames = dict(zip(spellings(like), spellings(new)))
+        # What is left of a width in a copy that has the new type and bounds.
+        self.width = re.compile(rf"{like.bits}|!= {like.bits // 8}\b|\b{like.bits // 8} bytes")
         self.numbers: dict[str, int] = {}
         for kind in kinds:
             for name in spellings(kind) if kind.is_number else [variant_of(kind), kind.code, kind.c, kind.python]:
@@ -92,7 +95,7 @@ class Names:
             if with_lower:
                 self.numbers.setdefault(variant_of(kind).lower(), kind.number)
                 self.renames.setdefault(variant_of(like).lower(), variant_of(new).lower())
-        before, names = r"(?<!\w)", set(self.numbers)
+        before = r"(?<!\w)"
         if suffix == ".rs":
             self.numbers.update({f"::{kind.rust}": kind.number for kind in kinds if not kind.is_number})
             before = r"(?:(?<!\w)|(?=::))"
@@ -129,13 +132,12 @@ class Names:
 
     def widened(self, text: str) -> str:
         """Returns a text with the new kind's Rust type and its bounds."""
-        old, new = self.like, self.new
-        pairs = [(old.shown, new.shown), (f"w{old.bits}", f"w{new.bits}"), (f"2 ^ {old.bits}", f"2 ^ {new.bits}"),
-                 (str(2 ** old.bits - 1), str(2 ** new.bits - 1)), (f"2 ^ {old.bits - 1}", f"2 ^ {new.bits - 1}"),
-                 (f"1 << {old.bits}", f"1 << {new.bits}"), (f"1 << {old.bits - 1}", f"1 << {new.bits - 1}"),
-                 (str(2 ** (old.bits - 1)), str(2 ** (new.bits - 1))), (str(2 ** (old.bits - 1) - 1), str(2 ** (new.bits - 1) - 1))]
-        known = dict(pairs)
-        return re.sub("|".join(rf"(?<!\w){re.escape(old)}(?!\w)" for old in known), lambda found: known[found[0]], text)
+        def bounds(kind: Kind) -> list[str]:
+            bits = kind.bits
+            powers = [form.format(power) for form in ("2 ^ {}", "1 << {}") for power in (bits, bits - 1)]
+            return [kind.shown, f"w{bits}", *powers, *(str(it) for it in (2**bits - 1, 2**(bits - 1), 2**(bits - 1) - 1))]
+        known = dict(zip(bounds(self.like), bounds(self.new)))
+        return re.sub(rf"(?<!\w)(?:{one_of(known)})(?!\w)", lambda found: known[found[0]], text)
 
 
 class Source:
@@ -274,7 +276,7 @@ class Source:
     def copied(self, span: Span) -> list[str]:
         """Returns a run's copy, with a blank line between items."""
         text = self.names.renamed(self.text(span))
-        self.widths += self.names.is_wider and bool(re.search(r"32|64|\b[48]\b", text))
+        self.widths += self.names.is_wider and (self.is_table or bool(self.names.width.search(text)))
         if re.search(r"^    ///.*\n    \w+\(\w+\),$", self.text(span)):
             text = re.sub(r"///.*", f"/// {self.names.new.rust_about}", text, count=1)
         text = re.sub(r'aliases = \["\w+", ', "aliases = [", text)
@@ -328,7 +330,13 @@ class Source:
         """Returns the line with one more alternative of a pattern, after that of the copied kind, or before it if it is the last."""
         element = self.names.renamed(line[slice(*parts[at])].partition("=>")[0].strip())
         end = parts[at if at + 1 < len(parts) else at - 1][1]
-        return f"{line[:end].rstrip()} | {element} {line[end:]}"
+        line = f"{line[:end].rstrip()} | {element} {line[end:]}"
+        margin, (pattern, arrow, body) = " " * (len(line) - len(line.lstrip())), line.partition(" => ")
+        if self.suffix != ".rt" or len(line) <= WIDTH or not arrow:
+            return line
+        if body.endswith(","):
+            return f"{pattern} => {{\n{margin}    {body[:-1]}\n{margin}}}"
+        return pattern.replace(" | ", f"\n{margin}| ") + arrow + body
 
     def with_element(self, line: str, parts: list[tuple[int, int]], others: list[int], at: int) -> str:
         """Returns the line with a copy of a list's element after those of the kinds that follow."""
