@@ -47,7 +47,7 @@ class Span(NamedTuple):
 
 @dataclass
 class Group:
-    """What stands between two brackets or quotes of a line, and where its separators are."""
+    """What is between two brackets or quotes of a line, and where its separators are."""
 
     start: int
     end: int = -1
@@ -208,7 +208,7 @@ class Source:
         return whole if self.names.is_like(self.text(whole)) else None
 
     def key(self, span: Span) -> str:
-        """Returns what tells a block from its neighbours: an arm's pattern, a clause's left side, an item's or a field's name."""
+        """Returns what distinguishes a block from its neighbours: an arm's pattern, a clause's left side, an item's or a field's name."""
         line = next(line for line in self.lines[span.start:] if not DOCUMENTED.match(line))
         if self.suffix == ".antt":
             parts = re.split(r" =(?: |$)| then | : ", line)
