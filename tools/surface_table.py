@@ -63,6 +63,11 @@ class Kind:
     def is_number(self) -> bool:
         return self.sign is not None
 
+    @property
+    def c_type(self) -> str:
+        """The type of an integer in C."""
+        return f"{'' if self.sign else 'u'}int{self.bits}_t"
+
 
 @dataclass(frozen=True)
 class Fault:
@@ -75,6 +80,7 @@ class Fault:
     what: str
     advice: str = ""
     python: str = ""
+    rust_about: str = ""
     bases: str = ""
     protocol: Optional[str] = None
     script: Optional[str] = None
@@ -136,6 +142,15 @@ class Surface:
     def numbers(self) -> list[Kind]:
         """The kinds of integers."""
         return [it for it in self.kinds if it.is_number]
+
+    def flag_of(self, kind: Kind) -> str:
+        """Returns the name of the first kind with the same integers. A comparison's flag for it is right for this kind too."""
+        return next(it.tool for it in self.numbers if it.c_type == kind.c_type)
+
+    @property
+    def plain_faults(self) -> list[Fault]:
+        """The errors whose variants in Rust have no fields."""
+        return [it for it in self.faults if it.rust_about]
 
     @property
     def all_faults(self) -> list[Fault | ServerFault]:

@@ -11,11 +11,7 @@ pub type Result<T> = std::result::Result<T, Error>;
 #[non_exhaustive]
 #[derive(Debug)]
 pub enum Error {
-    /// Another pass was writing at every attempt.
-    Busy {
-        /// That pass's number.
-        pass: u64,
-    },
+    // surface.toml: errors
     /// The node doesn't exist.
     NoNode,
     /// The node has no attribute with this name.
@@ -26,6 +22,28 @@ pub enum Error {
     IndexExists,
     /// There is no index with this name.
     NoIndex,
+    /// There are already 32 indices.
+    TooManyIndices,
+    /// An index can't have this kind.
+    NotIndexable,
+    /// The journal has the maximum number of entries that was set when the store was opened.
+    CommitsSpent,
+    /// Out of memory.
+    OutOfMemory,
+    /// One of the store's limits is out of range.
+    BadLimits,
+    /// Every pass of the store is in use.
+    NoPass,
+    /// Another pass or another clone of the store is open.
+    InUse,
+    /// A page must have at least one node.
+    NoRoom,
+    // surface.toml: end
+    /// Another pass was writing at every attempt.
+    Busy {
+        /// That pass's number.
+        pass: u64,
+    },
     /// There is no index on the name by which nodes are to be ordered.
     NoOrder {
         /// The name.
@@ -35,16 +53,6 @@ pub enum Error {
     },
     /// No page can continue from the cursor.
     BadCursor(CursorFault),
-    /// A page must have at least one node.
-    NoRoom,
-    /// There are already 32 indices.
-    TooManyIndices,
-    /// An index can't have this kind.
-    NotIndexable,
-    /// The journal has the maximum number of entries that was set when the store was opened.
-    CommitsSpent,
-    /// Out of memory.
-    OutOfMemory,
     /// No page is free.
     Full {
         /// The oldest snapshot whose pages are kept because a pass may still read it.
@@ -67,12 +75,6 @@ pub enum Error {
         /// The operation's index in the batch, counting from 0.
         operation: Option<u64>,
     },
-    /// One of the store's limits is out of range.
-    BadLimits,
-    /// Every pass of the store is in use.
-    NoPass,
-    /// Another pass or another clone of the store is open.
-    InUse,
     /// The witness belongs to a pass of another store.
     OtherStore,
     /// A batch is empty or has more than 64 operations.
@@ -193,26 +195,29 @@ impl Error {
     #[must_use]
     pub fn code(&self) -> Option<u32> {
         Some(match self {
-            Error::Busy { .. } => sys::BES_BUSY,
+            // surface.toml: numbers of errors
             Error::NoNode => sys::BES_NO_NODE,
             Error::NoAttribute => sys::BES_NO_ATTRIBUTE,
             Error::TooManyAttributes => sys::BES_TOO_MANY_ATTRS,
             Error::IndexExists => sys::BES_INDEX_EXISTS,
-            Error::NoIndex | Error::NoOrder { .. } => sys::BES_NO_INDEX,
-            Error::BadCursor(_) => sys::BES_BAD_CURSOR,
-            Error::NoRoom => sys::BES_NO_ROOM,
+            Error::NoIndex => sys::BES_NO_INDEX,
             Error::TooManyIndices => sys::BES_TOO_MANY_INDICES,
             Error::NotIndexable => sys::BES_NOT_INDEXABLE,
             Error::CommitsSpent => sys::BES_COMMITS_SPENT,
             Error::OutOfMemory => sys::BES_NO_MEMORY,
+            Error::BadLimits => sys::BES_BAD_LIMITS,
+            Error::NoPass => sys::BES_NO_PASS,
+            Error::InUse => sys::BES_IN_USE,
+            Error::NoRoom => sys::BES_NO_ROOM,
+            // surface.toml: end
+            Error::Busy { .. } => sys::BES_BUSY,
+            Error::NoOrder { .. } => sys::BES_NO_INDEX,
+            Error::BadCursor(_) => sys::BES_BAD_CURSOR,
             Error::Full { .. } => sys::BES_FULL,
             Error::Query(error) => error.fault.code(),
             Error::NameLength { .. } => sys::BES_NAME_LENGTH,
             Error::DataLength { .. } => sys::BES_DATA_LENGTH,
             Error::HasNul { .. } => sys::BES_HAS_NUL,
-            Error::BadLimits => sys::BES_BAD_LIMITS,
-            Error::NoPass => sys::BES_NO_PASS,
-            Error::InUse => sys::BES_IN_USE,
             Error::BadCount { .. } => sys::BES_BAD_COUNT,
             Error::Conflict { .. } => sys::BES_CONFLICT,
             Error::Unexpected { code, .. } => *code,

@@ -73,7 +73,7 @@ impl From<Refused> for Error {
     fn from(refused: Refused) -> Self {
         let operation = None;
         match refused.code {
-            sys::BES_BUSY => Error::Busy { pass: refused.carried },
+            // surface.toml: errors
             sys::BES_NO_NODE => Error::NoNode,
             sys::BES_NO_ATTRIBUTE => Error::NoAttribute,
             sys::BES_TOO_MANY_ATTRS => Error::TooManyAttributes,
@@ -83,17 +83,19 @@ impl From<Refused> for Error {
             sys::BES_NOT_INDEXABLE => Error::NotIndexable,
             sys::BES_COMMITS_SPENT => Error::CommitsSpent,
             sys::BES_NO_MEMORY => Error::OutOfMemory,
+            sys::BES_BAD_LIMITS => Error::BadLimits,
+            sys::BES_NO_PASS => Error::NoPass,
+            sys::BES_IN_USE => Error::InUse,
+            sys::BES_NO_ROOM => Error::NoRoom,
+            // surface.toml: end
+            sys::BES_BUSY => Error::Busy { pass: refused.carried },
             sys::BES_FULL => Error::Full {
                 oldest: refused.carried,
             },
             sys::BES_NAME_LENGTH => Error::NameLength { operation },
             sys::BES_DATA_LENGTH => Error::DataLength { operation },
             sys::BES_HAS_NUL => Error::HasNul { operation },
-            sys::BES_BAD_LIMITS => Error::BadLimits,
-            sys::BES_NO_PASS => Error::NoPass,
-            sys::BES_IN_USE => Error::InUse,
             sys::BES_BAD_CURSOR => Error::BadCursor(CursorFault::Text),
-            sys::BES_NO_ROOM => Error::NoRoom,
             FORKED => Error::Forked,
             code => Error::Unexpected {
                 code,
