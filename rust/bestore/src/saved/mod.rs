@@ -288,7 +288,7 @@ impl Saved {
     }
 
     /// Returns whether [`compact`](Self::compact) would make the file smaller and faster to open: whether the entries since the state take
-    /// more than half the bytes of the state, and at least 512 KiB. After a failed `compact`, another 512 KiB must have been written.
+    /// more than half the bytes of the state, and at least 256 KiB. After a failed `compact`, another 256 KiB must have been written.
     #[must_use]
     pub fn is_due(&self) -> bool {
         self.queue.is_due()
