@@ -1,4 +1,4 @@
-//! Tests how large a file gets, and how much is read when it is opened, after few writes and after many.
+//! Tests how much is read when a file is opened, after few writes and after many.
 #![cfg(feature = "saved")]
 
 mod common;
@@ -7,13 +7,9 @@ use bestore::saved::Saved;
 use bestore::{Batch, Pass};
 use bestore_types::saved;
 use common::Folder;
-use std::fs;
 
 /// The number of pages in a store.
 const PAGES: u64 = 8192;
-
-/// How many bytes a file and its WAL may take in addition to twice the bytes that the file takes after a rewrite.
-const EXTRA: u64 = 1 << 20;
 
 /// The number of nodes that each batch creates.
 const AT_ONCE: u64 = 16;
@@ -27,12 +23,6 @@ impl Folder {
         let contents = saved::read(self.file()).unwrap();
         let count = |batches: &[Batch]| batches.iter().map(Batch::len).sum();
         (count(&contents[0].state), count(&contents[0].entries))
-    }
-
-    /// The lengths of the file and of its WAL.
-    fn lengths(&self) -> (u64, u64) {
-        let length = |name| fs::metadata(self.0.join(name)).map_or(0, |found| found.len());
-        (length("test.bestore"), length("test.bestore-wal"))
     }
 }
 
@@ -55,8 +45,8 @@ fn fill(folder: &Folder, nodes: u64) {
     saved.close().unwrap();
 }
 
-/// Performs small writes until the state is due to be rewritten, and calls `look` after each commit.
-fn write_until_due(saved: &Saved, pass: &Pass, nodes: u64, mut look: impl FnMut()) {
+/// Performs small writes until the state is due to be rewritten.
+fn write_until_due(saved: &Saved, pass: &Pass, nodes: u64) {
     let mut count = 0;
     while !saved.is_due() {
         for _ in 0..SAVED {
@@ -64,7 +54,6 @@ fn write_until_due(saved: &Saved, pass: &Pass, nodes: u64, mut look: impl FnMut(
             pass.set(count % nodes + 1, "count", count as i64).unwrap();
         }
         saved.flush().unwrap();
-        look();
     }
 }
 
@@ -74,7 +63,7 @@ fn operations_after(folder: &Folder, nodes: u64, times: u64) -> (usize, usize) {
     let saved = folder.open_lazily(PAGES);
     let pass = saved.pass().unwrap();
     for time in 1..=times {
-        write_until_due(&saved, &pass, nodes, || ());
+        write_until_due(&saved, &pass, nodes);
         if time < times {
             saved.compact().unwrap();
         }
@@ -100,28 +89,5 @@ fn opening_reads_as_much_after_many_writes_as_after_few() {
         );
         // The state's operations are written out again, so each takes longer than an entry's.
         assert!(many.1 < 12_000 || 10 * many.1 < 3 * all.0, "{all:?}, {many:?}");
-    }
-}
-
-#[test]
-fn the_file_and_its_wal_stay_within_twice_the_state() {
-    for nodes in [AT_ONCE, 12_000] {
-        let folder = Folder::in_memory(&format!("lengths-{nodes}"));
-        fill(&folder, nodes);
-        let (state, wal) = folder.lengths();
-        assert_eq!(wal, 0);
-        let saved = folder.open_lazily(PAGES);
-        let pass = saved.pass().unwrap();
-        let mut most = 0;
-        for _ in 0..4 {
-            write_until_due(&saved, &pass, nodes, || {
-                let (file, wal) = folder.lengths();
-                most = most.max(file + wal);
-            });
-            saved.compact().unwrap();
-            let (file, wal) = folder.lengths();
-            assert!(file <= state + state / 8 && wal == 0, "{state}, {file}, {wal}");
-        }
-        assert!(most <= 2 * state + EXTRA, "{state}, {most}");
     }
 }
