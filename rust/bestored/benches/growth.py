@@ -6,27 +6,29 @@ usage: growth.py FOLDER [WRITES]    the folder with bestored, such as rust/targe
 
 The program creates a store of 60,000 nodes in five volumes, in a new folder. One client sends many small writes at a time, and a
 second client sends its writes one by one. The second client's slowest reply shows how long the server pauses when it rewrites its
-states. After 10,000 writes, and again after all writes, the program kills the server and restarts it. Then it has the states
-rewritten, makes another 10,000 writes, and restarts the server once more, to compare that start with the first. PYTHONPATH must
-name the folder that contains the bestore package.
+states. The second client also measures the files after each write. After 10,000 writes, and again after all writes, the program
+kills the server and restarts it. Then it has the states rewritten, makes another 10,000 writes, and restarts the server once more,
+to compare that start with the first. PYTHONPATH must name the folder that contains the bestore package.
 
-The program exits with 1 if the files became more than twice as long as the state, or if the memory became more than twice the size
-of the pages. Each limit allows another 20 MB per volume, for its WAL and for waiting entries. The program also exits with 1 if the
-last start takes over a fifth more processor time than the first, or if the one before it takes more than twice as much.
+The program exits with 1 if the databases and their WALs ever became longer than twice the databases right after a rewrite, when the
+WALs are empty, plus 1 MB per volume. It exits with 1 if the memory became larger than twice the pages plus 20 MB per volume, for the
+server itself and for waiting entries. It also exits with 1 if the last start takes over a fifth more processor time than the first,
+or if the one before it takes more than twice as much.
 """
 from __future__ import annotations
 
 import json
 import multiprocessing
+import multiprocessing.connection
+import multiprocessing.synchronize
 import os
 import socket
 import subprocess
 import sys
 import tempfile
 import time
-from multiprocessing.sharedctypes import Synchronized
 from pathlib import Path
-from typing import Any, Dict, List, NamedTuple, cast
+from typing import Any, Dict, List, NamedTuple, Tuple
 
 import bestore
 from filled import NODES, VOLUMES, fill, node
@@ -37,18 +39,26 @@ FIRST = 10_000
 """How many writes to make before the server is restarted for the first time."""
 AT_ONCE = 500
 """How many writes to send before reading their replies."""
-LEAST = 20 << 20
 MOST_GROWTH = 2.0
+EXTRA_IN_FILES = 1 << 20
+"""How many more bytes a volume's files may take: 256 KiB of entries before a small state is rewritten, 512 KiB of WAL, and what is
+written until the rewrite begins."""
+EXTRA_IN_MEMORY = 20 << 20
 MOST_SLOWER = 1.2
 MOST_FULL = 2.0
 TICK = os.sysconf("SC_CLK_TCK")
 
 
-class Size(NamedTuple):
-    """The size of the files and of the memory, in bytes: at one moment, or the maximum."""
+class Files(NamedTuple):
+    """The lengths of the databases, of their WALs, and of both together, in bytes: at one moment, or the maximum of each."""
 
-    files: int
-    memory: int
+    databases: int
+    wals: int
+    both: int
+
+    def __str__(self) -> str:
+        databases, wals, both = (f"{length / (1 << 20):.1f} MB" for length in self)
+        return f"{both} ({databases} of databases, {wals} of WALs)"
 
 
 class Start(NamedTuple):
@@ -62,11 +72,23 @@ class Start(NamedTuple):
         return f"{self.seconds:.2f} s ({self.busy:.2f} s of a processor) and {self.batches} batches"
 
 
-class Watched(NamedTuple):
-    """The values that the second client shares with this process."""
+class Most(NamedTuple):
+    """The second client's slowest reply, in seconds, and the maximum lengths of the files."""
 
-    is_over: Synchronized[int]
-    longest: Synchronized[float]
+    seconds: float
+    files: Files
+
+
+def files_in(folder: Path) -> Files:
+    """Measures the files of all volumes in a server's folder."""
+    def length(name: str) -> int:
+        try:
+            return (folder / name).stat().st_size
+        except FileNotFoundError:
+            return 0
+    databases = sum(length(f"{volume}.bestore") for volume in range(VOLUMES))
+    wals = sum(length(f"{volume}.bestore-wal") for volume in range(VOLUMES))
+    return Files(databases, wals, databases + wals)
 
 
 class Server:
@@ -104,11 +126,11 @@ class Server:
         fields = Path(f"/proc/{self._process.pid}/stat").read_text().rsplit(")", 1)[1].split()
         return (int(fields[11]) + int(fields[12])) / TICK
 
-    def end(self) -> int:
-        """Shuts the server down, and returns the size of its files in bytes."""
+    def end(self) -> Files:
+        """Shuts the server down, and measures its files."""
         self._process.terminate()
         self._process.wait()
-        return sum(path.stat().st_size for path in self.folder.iterdir())
+        return files_in(self.folder)
 
     @property
     def memory(self) -> int:
@@ -136,46 +158,49 @@ class Lines:
         return replies[-1]["ok"]
 
 
-def watch(path: str, watched: Watched) -> None:
-    """Makes one write after another, and reports how long the slowest took."""
+def watch(path: str, folder: Path, is_over: multiprocessing.synchronize.Event, found: multiprocessing.connection.Connection) -> None:
+    """Makes one write after another, and sends what it has measured to `found`."""
+    longest, most = 0.0, Files(0, 0, 0)
     with bestore.connect(path) as store:
-        while not watched.is_over.value:
+        while not is_over.is_set():
             begin = time.perf_counter()
             store.set(node(1), "watched", 1)
-            watched.longest.value = max(watched.longest.value, time.perf_counter() - begin)
+            longest = max(longest, time.perf_counter() - begin)
+            most = Files(*map(max, most, files_in(folder)))
             time.sleep(0.002)
+    found.send(Most(longest, most))
 
 
-def write(server: Server, count: int) -> Size:
-    """Makes this many small writes, waits until they are in the files, and returns the maximum sizes of the files and of the
-    memory."""
+def write(server: Server, count: int) -> int:
+    """Makes this many small writes, waits until they are in the files, and returns the maximum size of the memory."""
     lines = Lines(server.path)
-    sizes: List[Size] = []
+    sizes: List[int] = []
     for first in range(0, count, AT_ONCE):
         lines.ask(*(
             {"batch": {"operations": [["set", node(number % NODES), "count", number]]}} for number in range(first, first + AT_ONCE)))
         if first % 50_000 == 0:
-            files = lines.ask({"info": {}})["files"]
-            sizes.append(Size(files["bytes"] + files["wal_bytes"], server.memory))
+            sizes.append(server.memory)
     lines.ask({"flush": {}})
-    return Size(max(size.files for size in sizes), max(size.memory for size in sizes))
+    return max(sizes)
 
 
-def write_for_long(server: Server, count: int) -> Size:
-    """Makes the writes while a second client also writes. Prints the figures, and returns the maximum sizes."""
-    number: Any = multiprocessing.Value
-    watched = Watched(cast("Synchronized[int]", number("b", 0)), cast("Synchronized[float]", number("d", 0)))
-    watching = multiprocessing.Process(target=watch, args=(server.path, watched))
+def write_for_long(server: Server, count: int) -> Tuple[int, Files]:
+    """Makes the writes while a second client also writes. Prints the figures, and returns the maximum size of the memory and of
+    the files."""
+    is_over, (found, sent) = multiprocessing.Event(), multiprocessing.Pipe(duplex=False)
+    watching = multiprocessing.Process(target=watch, args=(server.path, server.folder, is_over, sent))
     watching.start()
+    sent.close()
     before, begin = server.memory, time.perf_counter()
-    most = write(server, count)
+    memory = write(server, count)
     seconds = time.perf_counter() - begin
-    watched.is_over.value = 1
-    watching.join(60)
-    print(f"{count} writes in {seconds:.0f} s; the longest of the other client took {watched.longest.value * 1000:.0f} ms")
-    print(f"memory: {before >> 20} MB before, {most.memory >> 20} MB at most, {server.memory >> 20} MB after; the pages take "
+    is_over.set()
+    most: Most = found.recv()
+    watching.join()
+    print(f"{count} writes in {seconds:.0f} s; the longest of the other client took {most.seconds * 1000:.0f} ms")
+    print(f"memory: {before >> 20} MB before, {memory >> 20} MB at most, {server.memory >> 20} MB after; the pages take "
           f"{VOLUMES * PAGES >> 8} MB")
-    return most
+    return memory, most.files
 
 
 def main() -> None:
@@ -188,25 +213,26 @@ def main() -> None:
         with Server(program, folder) as server:
             fill(server.path)
             Lines(server.path).ask({"compact": {}})
-            least = server.end()
+            state = server.end()
         with Server(program, folder) as server:
             of_state = server.start
             write(server, FIRST)
         with Server(program, folder) as server:
             first = server.start
-            most = write_for_long(server, count)
+            memory, files = write_for_long(server, count)
         with Server(program, folder) as server:
             many = server.start
             Lines(server.path).ask({"compact": {}})
             write(server, FIRST)
         with Server(program, folder) as server:
             last = server.start
-    print(f"files: {least >> 20} MB with the state, {most.files >> 20} MB at most")
+    print(f"files: {state.both / (1 << 20):.1f} MB with the state; at most {files}")
     print(f"a start: {of_state} with the state, {first} after {FIRST} writes, {many} after {count} more, and {last} with the state of "
           f"that time and {FIRST} writes")
-    bounds = Size(int(MOST_GROWTH * least) + LEAST * VOLUMES, int(MOST_GROWTH * (VOLUMES * PAGES << 12)) + LEAST * VOLUMES)
+    is_longer = files.both > MOST_GROWTH * state.both + EXTRA_IN_FILES * VOLUMES
+    is_larger = memory > MOST_GROWTH * (VOLUMES * PAGES << 12) + EXTRA_IN_MEMORY * VOLUMES
     is_slower = last.busy > MOST_SLOWER * first.busy or many.busy > MOST_FULL * first.busy
-    if most.files > bounds.files or most.memory > bounds.memory or is_slower:
+    if is_longer or is_larger or is_slower:
         raise SystemExit(1)
 
 

@@ -18,6 +18,9 @@ REST = 0.02
 """How many seconds a client waits before it retries."""
 REPEATING = 60.0
 """How many seconds a client keeps sending a batch."""
+FIRST_REPLY = 0.5
+"""How many seconds a client waits for a server's first reply if there is another server to turn to. A server that is paused accepts
+connections, but doesn't reply."""
 LATE_MOST = 4
 """How many connections a client keeps while their replies are late."""
 NOT_WRITTEN = {"Conflict", "NotLeader", "Stopped", "Busy", "Full"}
@@ -85,9 +88,11 @@ class Client(threading.Thread):
 
     def connect(self) -> Connection:
         """Returns the current connection, or a new one to the first address that accepts it."""
+        first = self.patience if len(self._places) == 1 else min(self.patience, FIRST_REPLY)
         while self._connection is None and not self.setting.over.is_set():
             try:
-                self._connection = Connection(self._places[0], self.patience)
+                self._connection = Connection(self._places[0], first)
+                self._connection.wait(self.patience)
             except (Gone, Late, Refused):
                 self.turn_places()
                 self.setting.over.wait(REST)

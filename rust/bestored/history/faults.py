@@ -11,8 +11,6 @@ from servers import FileServers, LogServers, Server
 
 SOON = 10.0
 """The number of seconds within which writes must continue."""
-LEASE = 10.0
-"""How many seconds a leader is silent before a follower takes over."""
 HANGS = 15.0
 """How many seconds a database hangs."""
 PAUSED = 30.0
@@ -136,7 +134,7 @@ OF_FILE: List[Fault] = [
 OF_LOG: List[Fault] = [
     KILL_LEADER,
     Fault("the leader is ended by SIGTERM", SOON, _end_leader),
-    Fault(f"the leader is paused for {PAUSED:.0f} s", LEASE + SOON, _pause_leader),
+    Fault(f"the leader is paused for {PAUSED:.0f} s", SOON, _pause_leader),
     Fault("a follower is killed", SOON, _kill_follower),
     Fault("a follower is paused for up to 5 s", SOON, _pause_follower),
     RESTART_DATABASE,

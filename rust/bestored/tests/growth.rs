@@ -13,7 +13,7 @@ const NODES: u64 = 64;
 /// How many times to write each node: 32 MB in total.
 const ROUNDS: u64 = 2_000;
 
-/// The file's maximum size: a state of a few KiB, up to 512 KiB of entries before the state is rewritten, and the entries that are
+/// The file's maximum size: a state of a few KiB, up to 256 KiB of entries before the state is rewritten, and the entries that are
 /// written in the meantime.
 const MOST_BYTES: u64 = 6 << 20;
 

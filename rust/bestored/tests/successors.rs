@@ -1,12 +1,17 @@
 //! Tests what one leader of a log hands over to the next, and how a paused leader is replaced.
 
 use crate::common::postgres::Database;
-use crate::common::wait_until;
+use crate::common::{wait_until, wait_within};
 use crate::log::{database, Member, OF_LEADER, SOON};
 use crate::repeats::make;
 use bestore::Batch;
 use bestore_client::wire::{Command, Nothing, Numbers, Token, Write, Written};
 use bestore_client::ErrorName;
+use std::thread;
+use std::time::Duration;
+
+/// How soon clients write to another server after a leader was paused.
+const REPLACED: Duration = Duration::from_secs(9);
 
 /// Starts a leader, writes an entry, and starts a follower. Returns all three once the follower has the entry.
 fn leader_and_follower(database: &Database) -> (Member, Written, Member) {
@@ -51,15 +56,46 @@ fn a_leader_that_is_paused_is_replaced() {
     let database = present!(database());
     let (paused, _, following) = leader_and_follower(&database);
     paused.server.signal("STOP");
-    wait_until("the other one leads", || following.leads());
+    let mut second = None;
+    wait_within(REPLACED, "a client writes to the other one", || {
+        second = make(&mut following.client(), "b").ok();
+        second.is_some()
+    });
     assert!(following
         .said()
-        .contains("has been silent for 9 seconds; ending its session"));
-    let second = make(&mut following.client(), "b").unwrap();
-    assert_eq!(second.nodes, [2]);
+        .contains("has been silent for 7 seconds; ending its session"));
+    assert_eq!(second.unwrap().nodes, [2]);
     paused.server.signal("CONT");
     assert!(paused.end().contains("leads"));
     assert_eq!(make(&mut following.client(), "c").unwrap().nodes, [3]);
+}
+
+/// Waits until a session in the database waits for this event, in a statement that contains this text.
+fn wait_for_event(database: &Database, event: &str, statement: &str) {
+    let sql = format!(
+        "SELECT count(*) FROM pg_stat_activity WHERE datname = current_database() AND pid <> pg_backend_pid()
+            AND '{event}' IN (wait_event, wait_event_type) AND position('{statement}' IN query) > 0"
+    );
+    wait_until(statement, || database.sql(&sql) != "0");
+}
+
+#[test]
+fn a_leader_that_is_paused_while_it_writes_the_state_is_replaced() {
+    let database = present!(database());
+    let (paused, _, following) = leader_and_follower(&database);
+    let mut client = paused.client();
+    thread::scope(|scope| {
+        // The state's last statement waits while this session has the log's row. Then the leader's transaction keeps the row.
+        scope.spawn(|| database.sql("BEGIN; SELECT FROM bestore_log FOR UPDATE; SELECT pg_sleep(3); COMMIT"));
+        wait_for_event(&database, "PgSleep", "pg_sleep");
+        client.send(Command::Compact(Nothing {})).unwrap();
+        wait_for_event(&database, "Lock", "UPDATE bestore_log SET entries");
+        paused.server.stop();
+    });
+    wait_within(SOON, "the other one leads", || following.leads());
+    assert_eq!(make(&mut following.client(), "b").unwrap().nodes, [2]);
+    paused.server.signal("CONT");
+    assert!(paused.end().contains("leads"));
 }
 
 /// Returns the identifier of a server's run.

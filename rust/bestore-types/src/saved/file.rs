@@ -13,12 +13,14 @@ use std::os::unix::fs::OpenOptionsExt;
 use std::path::{Path, PathBuf};
 use std::time::Duration;
 
-/// SQLite reuses the WAL from its start once it has 1,000 pages (4.1 MB), so the size limit truncates it only after a large commit. The
-/// last two statements take the lock.
+/// The WAL is reused from its start after 120 pages (0.5 MB), so the limit truncates it only after a large commit. SQLite's default of
+/// 1,000 pages would be larger than many stores. Each reuse costs three calls of `fsync` besides those of the commits.
+/// The last two statements take the lock.
 const SETTINGS: &str = "
     PRAGMA journal_mode = WAL;
     PRAGMA synchronous = FULL;
-    PRAGMA journal_size_limit = 8388608;
+    PRAGMA wal_autocheckpoint = 120;
+    PRAGMA journal_size_limit = 524288;
     BEGIN IMMEDIATE;
     COMMIT;
 ";
@@ -40,8 +42,9 @@ const MOST_TOKENS: usize = super::TOKENS;
 const TOKENS_AT_ONCE: usize = 1_024;
 
 /// The state is rewritten once the entries are half its size, so that replaying them takes about a fifth of the time to open the file.
-/// Until they take at least this many bytes, it isn't rewritten.
-const LEAST_DUE: u64 = 512 << 10;
+/// It isn't rewritten until they take at least this many bytes, which is about 4,000 small writes. With the WAL, the entries of a small
+/// state then take less than 1 MiB.
+const LEAST_DUE: u64 = 256 << 10;
 
 /// The approximate size of a row in bytes, without its batch.
 const ROW_BYTES: u64 = 20;
@@ -545,8 +548,8 @@ impl File {
         added
     }
 
-    /// Replaces the old state and the entries up to `number` with this state, which contains those entries. Adds checksums to a file in the
-    /// earlier format.
+    /// Replaces the old state and the entries up to `number` with this state, which contains them, and empties the WAL. If the file is
+    /// in the earlier format, adds checksums.
     pub fn write_state(
         &mut self,
         number: u64,
@@ -555,6 +558,8 @@ impl File {
     ) -> Result<()> {
         // This way, the next attempt isn't due immediately if this one fails.
         self.due_bytes = self.due_bytes.max(self.entry_bytes) + LEAST_DUE;
+        // The new state then overwrites the WAL's earlier contents instead of following them.
+        self.checkpoint("PASSIVE");
         let mut failed = None;
         let batches = batches.map(|batch| batch.and_then(|batch| batch.to_bytes()));
         let batches = batches.map_while(|bytes| bytes.map_err(|error| failed = Some(error)).ok());
@@ -567,7 +572,14 @@ impl File {
         let committed = transaction.commit();
         committed.map_err(|error| Error::of_sqlite(&self.path, error))?;
         self.has_checksums = true;
+        self.checkpoint("TRUNCATE");
         self.measure()
+    }
+
+    /// Copies the WAL into the database. With `TRUNCATE`, the WAL is then empty. If this fails, for example because the disk is full,
+    /// nothing is lost: the WAL stays, and is copied later.
+    fn checkpoint(&self, mode: &str) {
+        let _ = self.connection.execute_batch(&format!("PRAGMA wal_checkpoint({mode})"));
     }
 }
 

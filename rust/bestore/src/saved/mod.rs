@@ -289,7 +289,7 @@ impl Saved {
     }
 
     /// Returns `true` if it is time to call [`compact`](Self::compact), to make the file smaller and faster to open. This is the case if
-    /// the entries since the state take more than half as many bytes as the state, and at least 512 KiB. After a failed call, another 512
+    /// the entries since the state take more than half as many bytes as the state, and at least 256 KiB. After a failed call, another 256
     /// KiB must have been written.
     #[must_use]
     pub fn is_due(&self) -> bool {

@@ -18,7 +18,7 @@ use tokio_postgres::{AsyncMessage, Client, Config, NoTls, Row as SqlRow, Socket,
 const FORMAT: i32 = 1;
 
 /// How long a call may take. PostgreSQL cancels a statement slightly sooner.
-const LIMIT: Duration = Duration::from_secs(7);
+const LIMIT: Duration = Duration::from_secs(6);
 
 /// The maximum number of entries to read at a time.
 pub const ENTRIES: usize = 500;
@@ -27,9 +27,11 @@ pub const ENTRIES: usize = 500;
 const SPARE: u64 = 10_000;
 
 /// The settings of a session. If the leader's machine disappears, PostgreSQL gives up on it after about 11 seconds, so that another
-/// server can lead. A confirmed write is on PostgreSQL's disk, whatever the database's defaults are.
+/// server can lead. A leader that is paused within a transaction keeps its locks for no more than 5 seconds. A confirmed write is on
+/// PostgreSQL's disk, whatever the database's defaults are.
 const SETTINGS: &str = "
-    SET statement_timeout = '6s';
+    SET statement_timeout = '5s';
+    SET idle_in_transaction_session_timeout = '5s';
     SET tcp_keepalives_idle = 5;
     SET tcp_keepalives_interval = 2;
     SET tcp_keepalives_count = 3;

@@ -19,11 +19,14 @@ use std::time::{Duration, Instant};
 const LOOK: Duration = Duration::from_millis(100);
 
 /// How often a leader with nothing to write checks whether it still leads.
-const LEADING: Duration = Duration::from_secs(1);
+const LEADING: Duration = Duration::from_millis(500);
 
-/// How many seconds a leader may be silent before a follower takes over. When a leader is paused, some server leads again within
-/// 10 seconds. A database call that begins one second after the leader's last report ends before this time is up.
-const LEASE: f64 = 9.0;
+/// How many seconds a leader may be silent before a follower takes over. When a leader is paused, clients can write again within 9
+/// seconds. A database call that begins half a second after the leader's last report ends before this time is up.
+const LEASE: f64 = 7.0;
+
+/// How long to wait for PostgreSQL to end a session and release its lock.
+const ENDING: Duration = Duration::from_millis(20);
 
 /// How long a follower waits for the leader to come back after the connection to the database has broken.
 const GRACE: Duration = Duration::from_secs(3);
@@ -209,6 +212,7 @@ impl Member {
                 "bestored: {} leads, but has been silent for {LEASE} seconds; ending its session",
                 head.leader
             );
+            tokio::time::sleep(ENDING).await;
         }
         self.database.try_lock().await
     }
