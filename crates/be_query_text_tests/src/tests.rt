@@ -2,7 +2,7 @@
 //! byte range, name, operator, operator in the text, form and value of each. `escapes` and `cases`
 //! show the text that goes into a query. `never` shows, for each kind of integer, whether the first
 //! comparison is false for every value.
-use be_query::{Cmp, parse};
+use be_query::parse;
 use be_query_text::{
     Compared, Form, any_case, comparisons, encoded_comparisons, escaped, is_never_true,
 };
@@ -11,16 +11,16 @@ use be_value::{Kind, Refusal};
 use std::alloc::Global;
 use std::test::Fail;
 
-const COMPARED: &str = r#"compares a=1||!(b<2) => 0-3 a == == number 1 / 7-10 b >= < number 2
+const COMPARED: &str = r#"compares a=1||!(b<2) => 0-3 a Eq Eq number 1 / 7-10 b Ge Lt number 2
 compares !(c='x*'&&d) => Syntax(11)
-compares !c='x*' => 1-7 c != == pattern x*
-compares ö == [ä] && \(x != "a\"b" => 0-10 ö == == pattern [ä] / 14-27 (x != != text a"b
-compares  !!a<=\5  => 3-8 a <= <= number 5
-compares ((a>9223372036854775807)) => 2-23 a > > number 9223372036854775807
-compares "a b"=='\*' => 0-11 a b == == text *
-compares a='"'||b="'" => 0-5 a == == text " / 7-12 b == == text '
-compares a>=-0 => 0-5 a >= >= number -0
-compares b=18446744073709551616 => 0-22 b == == text 18446744073709551616
+compares !c='x*' => 1-7 c Ne Eq pattern x*
+compares ö == [ä] && \(x != "a\"b" => 0-10 ö Eq Eq pattern [ä] / 14-27 (x Ne Ne text a"b
+compares  !!a<=\5  => 3-8 a Le Le number 5
+compares ((a>9223372036854775807)) => 2-23 a Gt Gt number 9223372036854775807
+compares "a b"=='\*' => 0-11 a b Eq Eq text *
+compares a='"'||b="'" => 0-5 a Eq Eq text " / 7-12 b Eq Eq text '
+compares a>=-0 => 0-5 a Ge Ge number -0
+compares b=18446744073709551616 => 0-22 b Eq Eq text 18446744073709551616
 compares a= => Syntax(2)
 compares a=1 & b=2 => Syntax(4)
 compares a=[ => BadPattern(2)
@@ -97,26 +97,15 @@ fn line_of(alloc: Global, one: &Compared) -> Result<String, Refusal> {
         Form::Pattern => "pattern",
     };
     Ok(format!(in alloc;
-        "{}-{} {} {} {} {} {}\n",
+        "{}-{} {} {:?} {:?} {} {}\n",
         place.name.at,
         place.value.end,
         one.name.as_str(),
-        sign_of(one.op),
-        sign_of(place.op),
+        one.op,
+        place.op,
         form,
         one.words
     )?)
-}
-
-fn sign_of(op: Cmp) -> &'static str {
-    match op {
-        Cmp::Eq => "==",
-        Cmp::Ne => "!=",
-        Cmp::Lt => "<",
-        Cmp::Le => "<=",
-        Cmp::Gt => ">",
-        Cmp::Ge => ">=",
-    }
 }
 
 /// Whether the first comparison is never true, for each kind of integer.
