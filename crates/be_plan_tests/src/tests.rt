@@ -137,7 +137,7 @@ fn found_text(alloc: Global, nodes: &[u64], asked: &str) -> Result<String, Refus
 fn found(alloc: Global, volume: &Volume, query: &Query, cover: &Cover) -> Result<String, Refusal> {
     match nodes_by(alloc, volume, query, cover)? {
         Some((nodes, counts)) => found_text(alloc, &nodes, counts.asked.as_str()),
-        None => Ok(String::from_str(alloc, "not the nodes of a scan")?),
+        None => Ok(String::from_str(alloc, "not covered")?),
     }
 }
 
