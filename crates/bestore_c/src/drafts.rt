@@ -1,55 +1,42 @@
 //! Changes that are held by C: reading through a change, and taking a change out of its handle.
-ghost use Rattle.std.specs.Prelude.{◌≡◌, ◌⊎◌, ℕ, None, Some};
-ghost use Rattle.be_store.specs.Passes.{HasRead};
+ghost use Rattle.std.specs.Prelude.{◌≡◌, ◌⊎◌, ℕ, IfErr, IfOk, None, Some};
+ghost use Rattle.be_session.specs.Fault.{fault_code};
 ghost use Rattle.bestore_c.specs.Calls.{Shown};
-ghost use Rattle.bestore_c.specs.Drafts.{ShowsChanged};
 
 use crate::handle::{Attribute, DraftHandle};
 use crate::owned_draft::OwnedDraft;
 use crate::places::put;
 use crate::reading::NO_ATTRIBUTE;
 use be_change::Change;
-use be_session::{Session, encoded};
-use be_store::{Name, Value};
+use be_session::{Fault, encoded};
+use be_store::Value;
 use std::alloc::Global;
 use std::mem;
 
-/// Writes a value, with as many of its bytes as fit, or returns the code for a missing attribute.
-fn show(found: Option<Value>, reported: &mut Attribute, bytes: &mut [u8]) -> u32
-    ensures shown { (n : ℕ) → Shown (Some n) found reported.new bytes.old bytes.new result }
-    ensures kept { (result ≡ 0) ⊎ ((reported.new ≡ reported.old) × (bytes.new ≡ bytes.old)) }
-{
-    let Some(value) = found else {
-        return NO_ATTRIBUTE;
-    };
-    let (code, number, data) = encoded(&value);
-    *reported = Attribute {
-        code,
-        length: data.len() as u64,
-        number,
-    };
-    put(bytes, data);
-    0
-}
-
-/// Reads an attribute as the change's operations leave it, and writes its value.
-pub(crate) fn read_changed(
-    session: &mut Session,
-    change: &Change,
-    node: u64,
-    name: &Name,
+/// Writes the value that was read, with as many of its bytes as fit, or returns the code for a
+/// missing attribute or of the error.
+pub(crate) fn report_value(
+    answer: Result<Option<Value>, Fault>,
     reported: &mut Attribute,
     bytes: &mut [u8],
 ) -> u32
-    ensures store { (session.new.store ≡ session.old.store)
-        × (session.new.spare ≡ session.old.spare) }
-    ensures read { HasRead session.old.knows session.new.knows }
-    ensures shown { ShowsChanged change.now session.old.knows node name.now reported.new bytes.old
-        bytes.new result }
+    ensures found { IfOk answer (λ found. (n : ℕ) → Shown (Some n) found reported.new bytes.old
+        bytes.new result) }
+    ensures refused { IfErr answer (λ e. result ≡ fault_code e) }
     ensures kept { (result ≡ 0) ⊎ ((reported.new ≡ reported.old) × (bytes.new ≡ bytes.old)) }
 {
-    match session.changed(change, node, name) {
-        Ok(found) => show(found, reported, bytes),
+    match answer {
+        Ok(Some(value)) => {
+            let (code, number, data) = encoded(&value);
+            *reported = Attribute {
+                code,
+                length: data.len() as u64,
+                number,
+            };
+            put(bytes, data);
+            0
+        }
+        Ok(None) => NO_ATTRIBUTE,
         Err(fault) => fault.code(),
     }
 }

@@ -1,22 +1,15 @@
 //! What a pass does while it holds the lock. be_paged applies lists of operations to the open
 //! write.
-ghost use Rattle.std.specs.Prelude.{◌≡◌, ◌≤◌, ◌<◌, ◌+◌, ◌^◌, ℕ, false, length, IfErr, IfOk};
+ghost use Rattle.std.specs.Prelude.{◌≡◌, ◌≤◌, false, length, IfOk};
 ghost use Rattle.be_table.specs.declared.pass.Knowledge.{Knowledge};
-ghost use Rattle.be_paged.specs.Changes.{Applies};
-ghost use Rattle.be_paged_reading.specs.Version.{IsVersion};
-ghost use Rattle.be_volume.specs.Volume.{State};
-ghost use Rattle.be_table.specs.Reading.{open_of, page_state_among, word_of_page};
-ghost use Rattle.be_table.specs.Reading.{page_state_in_work};
-ghost use Rattle.be_table.specs.Reading.{words_of};
 ghost use Rattle.be_table.specs.Works.{TakesLock};
 ghost use Rattle.be_table_tests.specs.Resting.{IsResting, StaysSeat};
 
-use arrayvec::ArrayVec;
 use be_paged::apply;
 use be_table::{Seat, VersionTable, Writing};
 use be_test_tools::again;
 use be_value::Refusal;
-use be_volume::{Done, Op};
+use be_volume::Op;
 
 /// Reserves memory for this many operations. If memory runs out at the first call, a second one
 /// follows.
@@ -30,25 +23,6 @@ fn make_room(writing: &mut Writing<'_>, count: usize) -> Result<(), Refusal>
     again!(writing.reserve(count))
 }
 
-/// Applies a list of operations to a version in an open write.
-fn apply_to(
-    writing: &mut Writing<'_>,
-    page: u64,
-    ops: &[Op],
-) -> Result<(u64, ArrayVec<Done, 64>), Refusal>
-    ghost volume: { State }
-    requires version { IsVersion (page_state_among writing.old.knows.places)
-        (word_of_page writing.old.knows.words) page volume }
-    requires count { (1 ≤ length ops.now) × (length ops.now ≤ 64) }
-    requires fits { volume.next + 64 < 2 ^ 64 }
-    requires open { writing.old.knows.published ≡ false }
-    ensures ok { IfOk result (λ r. Applies open_of page_state_in_work words_of page r.0 volume
-        ops.now r.1.items writing.old writing.new) }
-    ensures err { IfErr result (λ e. open_of writing.new ≡ open_of writing.old) }
-{
-    apply(writing, page, ops)
-}
-
 /// Applies a list of operations to the current version, and publishes the result. Returns the
 /// journal's length.
 fn write(writing: &mut Writing<'_>, ops: &[Op]) -> Result<u64, Refusal>
@@ -59,7 +33,7 @@ fn write(writing: &mut Writing<'_>, ops: &[Op]) -> Result<u64, Refusal>
         × (writing.new.knows.phase ≡ writing.old.knows.phase) }
 {
     let (_, old) = writing.current();
-    let (page, dones) = apply_to(writing, old, ops)?;
+    let (page, dones) = apply(writing, old, ops)?;
     make_room(writing, ops.len())?;
     Ok(writing.publish(page, ops, dones.as_slice()))
 }

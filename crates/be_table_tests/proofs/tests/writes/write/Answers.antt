@@ -13,8 +13,8 @@ use Rattle.be_table.specs.Versions.{EncodesVolume}
 use Rattle.be_table.proofs.Keeping.{begun_version, keeps_exactly}
 use Rattle.be_table_tests.proofs.tests.writes.write.Goals as goal
 
-pub apply_to-requires : goal.apply_to-requires
-apply_to-requires c =
+pub apply-requires : goal.apply-requires
+apply-requires c =
     let t = c.requires.begun.1 in let k = c.args.writing.now.knows in (
       begun_version k t.begun c.current-old.result.1 (replay (entries k.seen))
           (subst (λ p. EncodesVolume (reach_at k.seen (length k.seen)) (word_of_page k.words) p (replay (entries k.seen))) (sym c.current-old.ensures.version.1) t.encoded),
@@ -31,7 +31,7 @@ pub publish-requires-clause-filled : goal.publish-requires-clause-filled
 publish-requires-clause-filled c =
     let t = c.requires.begun.1 in let ok = c.in_ok-page.ensures.ok in let old = c.args.writing.now in
     let first = subst (λ p. EncodesVolume (reach_at old.knows.seen (length old.knows.seen)) (word_of_page old.knows.words) p (replay (entries old.knows.seen))) (sym c.current-old.ensures.version.1) t.encoded in
-    λ q e. (keeps_exactly old c.apply_to.new.writing c.current-old.result.1 c.in_ok-page.page _ ok.made t.begun first ok.version ok.swaps q).1 (ap (λ (k : Knowledge). page_state_among k.places q) (sym c.make_room.ensures.knows) ∙ e)
+    λ q e. (keeps_exactly old c.apply.new.room c.current-old.result.1 c.in_ok-page.page _ ok.made t.begun first ok.version ok.swaps q).1 (ap (λ (k : Knowledge). page_state_among k.places q) (sym c.make_room.ensures.knows) ∙ e)
 
 pub publish-requires-clause-volume : goal.publish-requires-clause-volume
 publish-requires-clause-volume c =
@@ -47,4 +47,4 @@ publish-requires-clause-exact c =
     let t = c.requires.begun.1 in let ok = c.in_ok-page.ensures.ok in let old = c.args.writing.now in
     let first = subst (λ p. EncodesVolume (reach_at old.knows.seen (length old.knows.seen)) (word_of_page old.knows.words) p (replay (entries old.knows.seen))) (sym c.current-old.ensures.version.1) t.encoded in
     subst (λ (k : Knowledge). (q : ℕ) → times q (reach (word_of_page k.words) c.in_ok-page.page) ≡ bit (is_kept (page_state_among k.places q))) (sym c.make_room.ensures.knows)
-    (λ q. (keeps_exactly old c.apply_to.new.writing c.current-old.result.1 c.in_ok-page.page _ ok.made t.begun first ok.version ok.swaps q).0)
+    (λ q. (keeps_exactly old c.apply.new.room c.current-old.result.1 c.in_ok-page.page _ ok.made t.begun first ok.version ok.swaps q).0)
