@@ -121,9 +121,6 @@ begun_long true strict low high xs long =
     (all_reverse (λ x. 8 ≤ length x.key) ys (recursion_from_All (λ (x : Pair). 8 ≤ length x.key) ys (All-filter (λ (x : Pair). is_until high strict x.key) (λ (x : Pair). 8 ≤ length x.key) xs long)))
 
 -- what comparing a key with the end of a way shows
-pub not_below : (low key : List ℕ) → not (is_lt (key_cmp key low)) ≡ is_from low false key
-not_below low key = elim (key_cmp key low) as (λ o. not (is_lt o) ≡ is_ge o) [ Less ↦ refl | Equal ↦ refl | Greater ↦ refl ]
-
 pub not_past : (high : Option (List ℕ)) (key : List ℕ) → not (is_past high key) ≡ is_until high false key
 not_past None key = refl
 not_past (Some high) key = elim (key_cmp key high) as (λ o. not (is_gt o) ≡ is_le o) [ Less ↦ refl | Equal ↦ refl | Greater ↦ refl ]
