@@ -238,13 +238,7 @@ pub(crate) fn is_above<L: Look>(look: &mut L, page: u64, at: usize, key: &[u8], 
 /// first words decide. If they are equal, the second words are compared next. `cmp_at` compares
 /// keys that are shorter than a word.
 #[inline(always)]
-pub(crate) fn order_at<L: Look>(
-    look: &mut L,
-    page: u64,
-    at: usize,
-    key: &[u8],
-    first: u64,
-) -> Ordering
+pub fn order_at<L: Look>(look: &mut L, page: u64, at: usize, key: &[u8], first: u64) -> Ordering
     requires readable { IsTrue (is_readable (L.page_state look.old page)) }
     requires in_page { at + 42 ≤ 512 }
     requires item { IsItem (L.words look.old page) at }
