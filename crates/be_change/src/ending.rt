@@ -64,7 +64,16 @@ impl Change {
         let checks_kinds = kinds.are_checked();
         match pass.pinned() {
             Some(number) => at_pin(alloc, store, pass, number, checks_kinds, false),
-            None => at_new_pin(alloc, store, pass, checks_kinds),
+            None => {
+                let number = store.pin(pass);
+                match at_pin(alloc, store, pass, number, checks_kinds, true) {
+                    Ok(change) => Ok(change),
+                    Err(refusal) => {
+                        store.unpin(pass);
+                        Err(refusal)
+                    }
+                }
+            }
         }
     }
 
@@ -138,31 +147,6 @@ fn at_pin(
     let first = store.next(pass);
     let indices = store.indices(alloc, pass)?;
     Ok(Change::new(alloc, number, first, indices, checks_kinds, pins))
-}
-
-/// Creates a change on the current snapshot, and pins the pass to it.
-fn at_new_pin(
-    alloc: Global,
-    store: &Store,
-    pass: &mut Pass,
-    checks_kinds: bool,
-) -> Result<Change, Refusal>
-    requires pass { IsPassOf store.now pass.old }
-    requires unpinned { pinned_number pass.old.knows.phase ≡ None }
-    ensures pass { IsPassOf store.now pass.new }
-    ensures ok { IfOk result (λ change. Begins change checks_kinds pass.old.knows
-        pass.new.knows) }
-    ensures err { IfErr result (λ e. (e ≡ OutOfMemory)
-        × IsNotBegun pass.old.knows pass.new.knows) }
-{
-    let number = store.pin(pass);
-    match at_pin(alloc, store, pass, number, checks_kinds, true) {
-        Ok(change) => Ok(change),
-        Err(refusal) => {
-            store.unpin(pass);
-            Err(refusal)
-        }
-    }
 }
 
 /// Writes what the change has collected, if anything. Leaves the pin in place.

@@ -28,12 +28,17 @@ fn moves_keep_the_sum(rt: HostRuntime) -> Result<(), Fail> {
 /// A change reads its own last operation on an attribute or its node, and otherwise the snapshot.
 #[test]
 fn reads_its_own_operations(rt: HostRuntime) -> Result<(), Fail> {
-    let reads = again!(own_reads(rt.alloc()));
-    let last = (Some(5), None, Some(1));
-    assert_eq!(rt;
-        reads,
-        Ok(((Some(1), Some(3), None), (None, Some(5)), last))
-    );
+    let (reads, new) = again!(own_reads(rt.alloc()))?;
+    let expected = [
+        (Some(1), Some(2)),
+        (Some(2), Some(3)),
+        (Some(3), None),
+        (None, Some(5)),
+        (None, Some(1)),
+        (Some(1), None),
+    ];
+    assert_eq!(rt; reads.as_slice(), expected.as_slice());
+    assert_eq!(rt; new, Some(5));
     Ok(())
 }
 

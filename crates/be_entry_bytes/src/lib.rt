@@ -16,5 +16,6 @@ mod reading;
 mod writing;
 
 pub use laws::{entry_is_read, entry_is_short};
+pub use ranges::outcomes_can_be;
 pub use reading::{read_entry, read_head, read_step, read_steps, skip_entry};
 pub use writing::{most_bytes, write_entry};

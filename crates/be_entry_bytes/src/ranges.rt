@@ -38,7 +38,7 @@ fn done_can_be(done: &Done)
 }
 
 /// Each outcome is one that the program can make.
-pub(crate) fn outcomes_can_be(dones: &[Done])
+pub fn outcomes_can_be(dones: &[Done])
     ensures { All spec.CanBeDone dones.now }
 {
     for done in dones {

@@ -21,7 +21,8 @@ use Rattle.be_volume.specs.declared.ops.Op.{Op}
 use Rattle.be_volume.specs.declared.ops.Op.TheVariants.{New, Drop, Set, Unset, MkIndex, RmIndex}
 use Rattle.be_journal.specs.declared.entries.Entry.{Entry}
 use Rattle.be_journal.specs.Text.{done_text, entry_line, hex, hex_digit, op_text, quoted, value_text}
-use Rattle.be_journal_text.specs.History.{CanBeDone, CanBeOp, HasBytes, CanBeEntry}
+use Rattle.be_entry_bytes.specs.Encoding.{CanBeDone}
+use Rattle.be_journal_text.specs.History.{CanBeOp, HasBytes, CanBeEntry}
 use Rattle.be_journal_text.specs.Parts.{IsLinePart}
 use Rattle.be_journal_text.proofs.Cuts.{after, before, after_by, after_line, after_number, by_part, done_in, outcomes_part, first_line, ops_part, without_last_two}
 use Rattle.be_journal_text.proofs.NumberLemmas.{decimal_digits, word_of_decimal}

@@ -13,7 +13,8 @@ use Rattle.be_volume.specs.declared.ops.Done.{Done}
 use Rattle.be_volume.specs.declared.ops.Done.TheVariants.{Node, Unit as Nothing}
 use Rattle.be_volume.specs.declared.ops.Op.{Op}
 use Rattle.be_volume.specs.declared.ops.Op.TheVariants.{New, Drop, Set, Unset, MkIndex, RmIndex}
-use Rattle.be_journal_text.specs.History.{CanBeJournal, CanBeDone, CanBeOp, CanBeEntry, entry_of}
+use Rattle.be_entry_bytes.specs.Encoding.{CanBeDone}
+use Rattle.be_journal_text.specs.History.{CanBeJournal, CanBeOp, CanBeEntry, entry_of}
 use Rattle.be_journal_text.specs.Parts.{IsLinePart}
 use Rattle.be_journal_text.proofs.LineLemmas.{body, body_line, body_part}
 

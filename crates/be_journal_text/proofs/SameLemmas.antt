@@ -8,7 +8,8 @@ use Rattle.be_journal.specs.declared.entries.Entry.{Entry}
 use Rattle.be_script_language.specs.Request.{asked, write}
 use Rattle.be_volume.specs.declared.ops.Done.{Done}
 use Rattle.be_volume.specs.declared.ops.Op.{Op}
-use Rattle.be_journal_text.specs.History.{CanBeDone, CanBeOp, CanBeEntry, entry_of}
+use Rattle.be_entry_bytes.specs.Encoding.{CanBeDone}
+use Rattle.be_journal_text.specs.History.{CanBeOp, CanBeEntry, entry_of}
 use Rattle.be_journal_text.specs.Parts.{IsLinePart}
 use Rattle.be_journal_text.proofs.Cuts.{after, before, after_line, by_part, done_in, outcomes_part, first_line, ops_part}
 use Rattle.be_journal_text.proofs.LineLemmas.{by_read, done_part, done_read, outcomes_read, first_joined, line_after, line_first, op_part, ops_read, rest_joined}

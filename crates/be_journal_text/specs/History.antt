@@ -2,6 +2,7 @@
 use Rattle.std.specs.Prelude.{ℕ, ◌<◌, ◌^◌, ⊤, All, List, length, nat_le, nat_eq, ◌&&◌}
 use Rattle.std.specs.Prelude.{if◌then◌else◌, Some, None}
 use Rattle.std.specs.declared.option.Option.{Option}
+use Rattle.be_entry_bytes.specs.Encoding.{CanBeDone}
 use Rattle.be_journal.specs.Journal.{IsEntry}
 use Rattle.be_journal.specs.declared.entries.Entry.{Entry}
 use Rattle.be_value.specs.declared.values.Value.{Value}
@@ -9,7 +10,6 @@ use Rattle.be_value.specs.declared.values.Value.TheVariants.{Cstr, Long, Llng, M
 use Rattle.be_value.specs.declared.values.Value.TheVariants.{Ullg}
 use Rattle.be_volume.specs.Sound.{IsOperation}
 use Rattle.be_volume.specs.declared.ops.Done.{Done}
-use Rattle.be_volume.specs.declared.ops.Done.TheVariants.{Node, Unit as Nothing}
 use Rattle.be_volume.specs.declared.ops.Op.{Op}
 use Rattle.be_volume.specs.declared.ops.Op.TheVariants.{New, Drop, Set, Unset, MkIndex, RmIndex}
 
@@ -35,11 +35,6 @@ HasNumber (RmIndex name) = ⊤
 -- an operation that the program can make: its names, values and numbers are in range
 abbrev pub CanBeOp : Op → Type 0
 CanBeOp op = IsOperation op × HasNumber op
-
--- an outcome that the program can make
-abbrev pub CanBeDone : Done → Type 0
-CanBeDone (Node node) = node < 2 ^ 64
-CanBeDone Nothing = ⊤
 
 -- an entry that the program can make: 1 to 64 operations, an outcome for each, and a pass's number
 pub record CanBeEntry (entry : Entry) : Type 0 where

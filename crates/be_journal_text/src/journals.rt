@@ -12,7 +12,8 @@ ghost use Rattle.be_journal_text.specs.Parts as spec;
 
 use crate::lists::{read_ops, read_outcomes};
 use crate::parts::{skip, split_around, without_last_two};
-use crate::ranges::{ops_can_be, outcomes_can_be};
+use crate::ranges::ops_can_be;
+use be_entry_bytes::outcomes_can_be;
 use be_journal::{Entry, Items, entry_line};
 use be_value::word_of;
 use be_volume::{Done, Op};

@@ -8,6 +8,7 @@ ghost use Rattle.std.specs.Option.{option_map};
 ghost use Rattle.std.specs.Prelude.{◌≡◌, List, All, Some, IfOk, codes};
 ghost use Rattle.be_volume.specs.declared.ops.Done.{Done as AnyDone};
 ghost use Rattle.be_volume.specs.declared.ops.Op.{Op as AnyOp};
+ghost use Rattle.be_entry_bytes.specs.Encoding.{CanBeDone};
 ghost use Rattle.be_journal.specs.Text.{op_text, done_text};
 ghost use Rattle.be_journal_text.specs.History as history;
 ghost use Rattle.be_journal_text.specs.Parts as spec;
@@ -34,7 +35,7 @@ fn read_op(alloc: Global, text: &[u8]) -> Result<Option<Op>, AllocError>
 
 /// The outcome that a text encodes: a node if a number follows `node `, otherwise no value.
 fn read_done(text: &[u8]) -> Done
-    ensures { (done : AnyDone) → history.CanBeDone done → text.now ≡ done_text done → result
+    ensures { (done : AnyDone) → CanBeDone done → text.now ≡ done_text done → result
         ≡ done }
 {
     match word_of(skip(5, text)) {
@@ -68,7 +69,7 @@ pub fn read_ops(alloc: Global, text: &[u8]) -> Result<Option<Vec<Op>>, AllocErro
 
 /// The outcomes in a text that separates them with `; `.
 pub fn read_outcomes(alloc: Global, text: &[u8]) -> Result<Option<Vec<Done>>, AllocError>
-    ensures { IfOk result (λ read. (dones : List AnyDone) → All history.CanBeDone dones → text.now
+    ensures { IfOk result (λ read. (dones : List AnyDone) → All CanBeDone dones → text.now
         ≡ join_by done_text (codes "; ") dones →
         option_map (λ v. v.items) read ≡ Some dones) }
 {

@@ -4,7 +4,7 @@ ghost use Rattle.std.specs.Prelude.{◌<◌, ◌^◌, All};
 ghost use Rattle.be_journal_text.specs.History as history;
 
 use be_value::Value;
-use be_volume::{Done, Op};
+use be_volume::Op;
 
 /// Bytes are below 256.
 fn are_bytes(bytes: &[u8])
@@ -48,25 +48,5 @@ pub fn ops_can_be(ops: &[Op])
 {
     for op in ops {
         op_can_be(op);
-    }
-}
-
-fn done_can_be(done: &Done)
-    ensures { history.CanBeDone done.now }
-{
-    match done {
-        Done::Node(node) => {
-            let _node = *node;
-        }
-        Done::Unit => {}
-    }
-}
-
-/// The borrowed outcomes are ones that the program can make.
-pub fn outcomes_can_be(dones: &[Done])
-    ensures { All history.CanBeDone dones.now }
-{
-    for done in dones {
-        done_can_be(done);
     }
 }

@@ -105,9 +105,8 @@ impl<L: Look> OrderedSource for OrderedPages<L> {
         most: usize,
         found: &mut Vec<u64>,
     ) -> Result<bool, Refusal> {
-        let way = way_of(keys.keys.low, keys.keys.high, keys.descending, keys.cursor);
         self.reader
-            .numbers_in_order(keys.keys.name, way, most, found)?;
+            .numbers_in_order(keys.keys.name, way_of(keys), most, found)?;
         Ok(true)
     }
 
@@ -118,9 +117,8 @@ impl<L: Look> OrderedSource for OrderedPages<L> {
         most: usize,
         found: &mut Vec<u64>,
     ) -> Result<bool, Refusal> {
-        let way = way_of(keys.keys.low, keys.keys.high, keys.descending, keys.cursor);
         self.reader
-            .passing_in_order(keys.keys.name, way, test, most, found)
+            .passing_in_order(keys.keys.name, way_of(keys), test, most, found)
     }
 
     fn about(&mut self, keys: KeyRange<'_>) -> u64 {

@@ -6,7 +6,8 @@ ghost use Rattle.be_volume.specs.Maps.{name_cmp};
 ghost use Rattle.be_order.specs.Ordered.{cursor_bytes};
 ghost use Rattle.be_paged_order.specs.Ways.{IsWayOf, is_up_to};
 
-use arrayvec::ArrayVec;
+use be_order::OrderedKeys;
+use be_plan::KeyRange;
 use be_tree_reading::Way;
 
 /// Returns `true` if the first key is equal to the second or comes after it.
@@ -70,23 +71,19 @@ fn way_down<'a>(low: &'a [u8], high: Option<&'a [u8]>, cursor: &'a [u8]) -> Way<
 
 /// Returns the way over those keys of a range that come after the cursor, up or down. Without a
 /// cursor, it covers the whole range.
-pub(crate) fn way_of<'a>(
-    low: &'a [u8],
-    high: Option<&'a [u8]>,
-    descending: bool,
-    cursor: &'a Option<ArrayVec<u8, 264>>,
-) -> Way<'a>
-    ensures { IsWayOf low.now (option_copied high.entry) descending (cursor_bytes cursor.now)
-        result }
+pub(crate) fn way_of(keys: OrderedKeys<'_>) -> Way<'_>
+    ensures { IsWayOf keys.entry.keys.low.now (option_copied keys.entry.keys.high)
+        keys.entry.descending (cursor_bytes keys.entry.cursor.now) result }
 {
-    match cursor {
-        Some(cursor) if descending => way_down(low, high, cursor.as_slice()),
+    let KeyRange { low, high, .. } = keys.keys;
+    match keys.cursor {
+        Some(cursor) if keys.descending => way_down(low, high, cursor.as_slice()),
         Some(cursor) => way_up(low, high, cursor.as_slice()),
         None => Way {
             low,
             high,
             strict: false,
-            back: descending,
+            back: keys.descending,
         },
     }
 }

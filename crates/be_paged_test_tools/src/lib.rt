@@ -9,6 +9,7 @@ mod both;
 mod files;
 mod forms;
 mod random;
+mod rows;
 mod same;
 mod writing;
 
@@ -17,4 +18,5 @@ pub use both::Both;
 pub use files::{NODES, filled};
 pub use forms::Forms;
 pub use random::Random;
+pub use rows::check_rows;
 pub use writing::{accepts, apply_pages};

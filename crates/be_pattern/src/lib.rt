@@ -15,4 +15,5 @@ mod printing;
 mod token;
 
 pub use pattern::Pattern;
+pub use printing::push_marked;
 pub use token::Token;

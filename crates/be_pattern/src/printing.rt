@@ -131,7 +131,7 @@ fn is_special_in_set(c: char) -> bool
 }
 
 /// Appends a character, preceded by a backslash if the flag is set.
-fn push_marked(text: &mut String, c: char, backslash: bool) -> Result<(), AllocError>
+pub fn push_marked(text: &mut String, c: char, backslash: bool) -> Result<(), AllocError>
     ensures { IfOk result (λ _. string_bytes text.new ≡ string_bytes text.old
         ++ encode_utf8_all (marked backslash c)) }
 {

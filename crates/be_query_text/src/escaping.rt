@@ -1,11 +1,11 @@
 //! Escapes a string so that it can be a name or a value in a query.
 ghost use Rattle.std.specs.Prelude.{◌≡◌, ◌++◌, ◌||◌, false, IfOk, encode_utf8_all, string_bytes};
-ghost use Rattle.be_pattern.specs.Canonical.{marked};
 ghost use Rattle.be_query.specs.Lexing.{is_quote, is_separator, is_sign};
 ghost use Rattle.be_value.specs.Name.{has_nul};
 ghost use Rattle.be_query_text.specs.Encoded.{Encodes, escaped_char, is_special};
 
 use be_pattern::matching::split_first_char;
+use be_pattern::push_marked;
 use std::alloc::{AllocError, Global};
 
 /// Returns the string with a backslash before each character that has a special meaning in a query
@@ -29,18 +29,6 @@ pub(crate) fn push_escaped(text: &mut String, c: char) -> Result<(), AllocError>
         ++ encode_utf8_all (escaped_char c)) }
 {
     push_marked(text, c, is_special(c))
-}
-
-/// Appends a character, preceded by a backslash if `backslash` is `true`.
-fn push_marked(text: &mut String, c: char, backslash: bool) -> Result<(), AllocError>
-    ensures { IfOk result (λ _. string_bytes text.new ≡ string_bytes text.old
-        ++ encode_utf8_all (marked backslash c)) }
-{
-    if !backslash {
-        return text.push(c);
-    }
-    text.push('\\')?;
-    text.push(c)
 }
 
 /// Returns `true` if the character has a special meaning in a query or a pattern.

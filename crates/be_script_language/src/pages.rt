@@ -132,11 +132,12 @@ fn pair_of(
     }
 }
 
+/// The place after which a page begins, if there is one, with the text after it. There is `None` if
+/// the line is bad.
+type Start<'a> = Option<(Result<Option<(Value, u64)>, Refusal>, &'a [char])>;
+
 /// Reads `KIND VALUE NODE`, and returns the value and node with the text after them.
-fn pair_part(
-    alloc: Global,
-    text: &[char],
-) -> Result<Option<(Result<Option<(Value, u64)>, Refusal>, &[char])>, AllocError>
+fn pair_part(alloc: Global, text: &[char]) -> Result<Start<'_>, AllocError>
     ensures { IfOk result (λ pair. option_map (λ p. (p.0, p.1.now)) pair
         ≡ spec.pair_in text.now) }
 {
@@ -157,10 +158,7 @@ fn pair_part(
 
 /// If `after` comes first, reads `after KIND VALUE NODE`. Returns the value and node, if there are
 /// any, with the text left to read.
-fn after_part(
-    alloc: Global,
-    text: &[char],
-) -> Result<Option<(Result<Option<(Value, u64)>, Refusal>, &[char])>, AllocError>
+fn after_part(alloc: Global, text: &[char]) -> Result<Start<'_>, AllocError>
     ensures { IfOk result (λ after. option_map (λ p. (p.0, p.1.now)) after
         ≡ spec.after_in text.now) }
 {

@@ -1,7 +1,8 @@
 -- What a race returns and writes: its passes after serving the scripts, and the text.
 use Rattle.std.specs.Prelude.{◌≡◌, ◌⊎◌, ℕ, ◌+◌, ◌<◌, List, [], ◌∷◌, ◌++◌, None, false, length, map}
-use Rattle.std.specs.Prelude.{slice_index_or, take, codes}
+use Rattle.std.specs.Prelude.{Vec, slice_index_or, take, codes}
 use Rattle.std.specs.Fmt.{decimal}
+use Rattle.std.specs.Global.{Global}
 use Rattle.std.specs.Io.KnownBytes.{Keeps}
 use Rattle.std.specs.declared.option.Option.{Option}
 use Rattle.be_volume.specs.Volume.{empty}
@@ -17,6 +18,7 @@ use Rattle.be_table.specs.Works.{knows_of}
 use Rattle.be_table.specs.declared.limits.Limits.{Limits as StoreLimits}
 use Rattle.be_table.specs.declared.pass.Knowledge.{Knowledge}
 use Rattle.be_store.specs.Passes.{IsPassOf}
+use Rattle.be_script_runner.specs.Gates.{AreAllReported}
 use Rattle.be_script_runner.specs.Output.{IsOutputTo}
 use Rattle.be_script_runner.specs.Lines.{IsServedBy}
 use Rattle.be_script_runner.specs.Order.{AreInOneOrder, AreServedBy}
@@ -100,6 +102,16 @@ abbrev pub AreServed : Opened → List (List ℕ) → List SeatFacts → List (L
 AreServed store scripts passes texts = HaveServed store 0 scripts passes
     × AreRepliesOf store.limits 0 scripts passes texts
     × AreServedBy store.limits 0 scripts (map knows_of passes) texts
+
+-- the bytes of each of these texts
+abbrev pub bytes_of : List (Vec ℕ Global) → List (List ℕ)
+bytes_of texts = map (λ (text : Vec ℕ Global). text.items) texts
+
+-- `AreServed`, and the gate was called for each line of each script
+abbrev pub AreServedThrough : Opened → (ℕ → ℕ → Type 0) → (ℕ → ℕ → Type 0) → List (List ℕ)
+    → List SeatFacts → List (List ℕ) → Type 0
+AreServedThrough store begun ended scripts passes texts = AreServed store scripts passes texts
+    × AreAllReported begun ended scripts
 
 -- a pass's line and its replies
 abbrev pub pass_line : ℕ → List ℕ

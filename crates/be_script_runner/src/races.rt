@@ -18,8 +18,9 @@ ghost use Rattle.std.specs.List.{list_any};
 ghost use Rattle.be_journal.specs.Journal.{IsLegal};
 ghost use Rattle.be_journal.specs.Text.{result_text};
 ghost use Rattle.be_script_runner.specs.Gates.{AreAllReported, AreReported, line_count};
-ghost use Rattle.be_script_runner.specs.Race.{IsOutcome, AreFirstTexts, AreServed, IsNew, IsRace};
-ghost use Rattle.be_script_runner.specs.Race.{RaceLeaves, pass_line, replies_text};
+ghost use Rattle.be_script_runner.specs.Race.{IsOutcome, AreFirstTexts, AreServedThrough, IsNew};
+ghost use Rattle.be_script_runner.specs.Race.{IsRace, RaceLeaves, bytes_of, pass_line};
+ghost use Rattle.be_script_runner.specs.Race.{replies_text};
 ghost use Rattle.be_script_runner.specs.Run.{Wrote, IsFrontOf, IsLate};
 ghost use Rattle.be_store.specs.Passes.{IsPassOf};
 ghost use Rattle.std.specs.String.{string_bytes};
@@ -161,10 +162,8 @@ fn serve_in<'s, E, R: Threads, G: Gate + Sync>(
     gate: &'s G,
 ) -> Result<(Vec<Pass>, Vec<Vec<u8>>), RunFault>
     requires { AreNew store.now 0 passes.items × (length passes.items ≡ length scripts.now.items) }
-    ensures served { IfOk result (λ r. AreServed store.now (map (λ s. s.items) scripts.now.items)
-        r.0.items (map (λ s. s.items) r.1.items)) }
-    ensures reported { OnOk result (AreAllReported (G.begun gate.now) (G.ended gate.now)
-        (map (λ s. s.items) scripts.now.items)) }
+    ensures served { IfOk result (λ r. AreServedThrough store.now (G.begun gate.now)
+        (G.ended gate.now) (bytes_of scripts.now.items) r.0.items (bytes_of r.1.items)) }
     ensures fault { IfErr result (λ e. e ≡ RunFault.Memory) }
 {
     let threads = start(scope, alloc, store, passes, scripts, gate)?;
@@ -185,10 +184,8 @@ fn serve_at_once<R: Threads + Wait, G: Gate + Sync>(
     gate: &G,
 ) -> Result<(Vec<Pass>, Vec<Vec<u8>>), RunFault>
     requires { AreNew store.now 0 passes.items × (length passes.items ≡ length scripts.now.items) }
-    ensures served { IfOk result (λ r. AreServed store.now (map (λ s. s.items) scripts.now.items)
-        r.0.items (map (λ s. s.items) r.1.items)) }
-    ensures reported { OnOk result (AreAllReported (G.begun gate.now) (G.ended gate.now)
-        (map (λ s. s.items) scripts.now.items)) }
+    ensures served { IfOk result (λ r. AreServedThrough store.now (G.begun gate.now)
+        (G.ended gate.now) (bytes_of scripts.now.items) r.0.items (bytes_of r.1.items)) }
     ensures fault { IfErr result (λ e. e ≡ RunFault.Memory) }
 {
     thread::scope(
@@ -197,11 +194,9 @@ fn serve_at_once<R: Threads + Wait, G: Gate + Sync>(
         move |scope| -> Result<(Vec<Pass>, Vec<Vec<u8>>), RunFault>
             requires { AreNew store.now 0 passes.items
                 × (length passes.items ≡ length scripts.now.items) }
-            ensures served { IfOk result (λ r. AreServed store.entry.now
-                (map (λ s. s.items) scripts.entry.now.items) r.0.items
-                (map (λ s. s.items) r.1.items)) }
-            ensures reported { OnOk result (AreAllReported (G.begun gate.entry.now)
-                (G.ended gate.entry.now) (map (λ s. s.items) scripts.entry.now.items)) }
+            ensures served { IfOk result (λ r. AreServedThrough store.entry.now
+                (G.begun gate.entry.now) (G.ended gate.entry.now)
+                (bytes_of scripts.entry.now.items) r.0.items (bytes_of r.1.items)) }
             ensures fault { IfErr result (λ e. e ≡ RunFault.Memory) }
         { serve_in(scope, rt, alloc, store, passes, scripts, gate) },
     )

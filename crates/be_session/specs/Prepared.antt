@@ -2,7 +2,14 @@
 use Rattle.std.specs.Prelude.{◌≡◌, ℕ, List, [], None, refl}
 use Rattle.std.specs.Coded.{Coded, code_by, coded_ℕ, coded_list, coded×}
 use Rattle.be_query.specs.Grammar.{Formula}
-use Rattle.be_store.specs.Live.{LiveQuery, coded_live}
+use Rattle.be_store.specs.Live.{LiveQuery, Refreshes, coded_live}
+use Rattle.be_store.specs.Passes.{IsPinnedTo, volume_pinned}
+use Rattle.be_store.specs.declared.answers.Updates.{Updates}
+use Rattle.be_table.specs.Seats.{pinned_number}
+use Rattle.be_table.specs.declared.pass.Knowledge.{Knowledge}
+use Rattle.be_volume.specs.Query.{scan}
+use Rattle.be_session.specs.Sitting.{IsUnrefreshed}
+use Rattle.be_session.specs.declared.faults.Fault.{Fault}
 
 -- The query with its answer at the last refresh, the nodes that the refresh added and removed, and
 -- the nodes that it found when it was last run.
@@ -28,3 +35,25 @@ IsUnasked query p = (p.live ≡ record { query = query; last = []; table = None 
 -- The same query after it found these nodes when it was last run.
 abbrev pub with_found : PreparedQuery → List ℕ → PreparedQuery
 with_found p nodes = record p { found = nodes }
+
+-- The pass that knows this refreshed a live query at its pin. These nodes were added to the answer
+-- and removed from it.
+abbrev pub RefreshesAtPin : Knowledge → LiveQuery → LiveQuery → Updates → Type 0
+RefreshesAtPin a old new updates = ((n : ℕ) × IsPinnedTo a n)
+    × Refreshes (volume_pinned a) old new updates.created.items updates.removed.items
+
+-- The reason why the pass that knows this couldn't refresh a live query, which is unchanged.
+abbrev pub StaysUnrefreshed : Knowledge → LiveQuery → LiveQuery → Fault → Type 0
+StaysUnrefreshed a old new e = (new ≡ old)
+    × IsUnrefreshed (pinned_number a.phase) (scan (volume_pinned a) old.query) e
+
+-- The pass that knows this refreshed a prepared query at its pin. The query keeps which nodes were
+-- added to the answer and removed from it.
+abbrev pub KeepsRefresh : Knowledge → PreparedQuery → PreparedQuery → Type 0
+KeepsRefresh a old new = ((n : ℕ) × IsPinnedTo a n)
+    × Refreshes (volume_pinned a) old.live new.live new.came new.went
+
+-- The reason why the pass that knows this couldn't refresh a prepared query, which is unchanged.
+abbrev pub KeepsUnrefreshed : Knowledge → PreparedQuery → PreparedQuery → Fault → Type 0
+KeepsUnrefreshed a old new e = (new ≡ old)
+    × IsUnrefreshed (pinned_number a.phase) (scan (volume_pinned a) old.live.query) e

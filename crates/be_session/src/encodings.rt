@@ -3,7 +3,7 @@
 ghost use Rattle.std.specs.Prelude.{◌≡◌, ◌++◌, IfOk, IfErr, IfSome, length, map};
 ghost use Rattle.be_value.specs.declared.refusals.Refusal.TheVariants.{OutOfMemory};
 ghost use Rattle.be_session.specs.Operations.{AreEncoded, IsMeantBy, ArePartsWithin, ReportNodes};
-ghost use Rattle.be_session.specs.Operations.{ReportsNode, both_parts, makes, sets};
+ghost use Rattle.be_session.specs.Operations.{ReportsNode, both_parts, makes, part, sets};
 ghost use Rattle.be_session.specs.declared.faults.Fault.TheVariants.{Refused};
 
 use crate::meanings::encoded_operation;
@@ -35,6 +35,40 @@ fn append(bytes: &mut Vec<u8>, more: &[u8]) -> Result<(u32, u32), Fault>
     Ok((at, length))
 }
 
+/// Encodes an operation with this number, this node, this name, and a value with this type code,
+/// number and bytes. Appends the name and the bytes. The only error is `OutOfMemory`.
+fn encode_parts(
+    bytes: &mut Vec<u8>,
+    kind: u32,
+    node: u64,
+    name: &[u8],
+    value: (u32, u64, &[u8]),
+) -> Result<Operation, Fault>
+    ensures more { IfOk result (λ o. bytes.new.items ≡ bytes.old.items
+        ++ both_parts o bytes.new.items) }
+    ensures within { IfOk result (λ o. ArePartsWithin o (length bytes.new.items)) }
+    ensures numbers { IfOk result (λ o. (o.kind ≡ kind) × (o.node ≡ node)
+        × (o.code ≡ value.entry.0) × (o.number ≡ value.entry.1)) }
+    ensures name { IfOk result (λ o. part bytes.new.items o.name_at o.name_length ≡ name.now) }
+    ensures value { IfOk result (λ o. part bytes.new.items o.value_at o.value_length
+        ≡ value.entry.2.now) }
+    ensures err { IfErr result (λ e. e ≡ Refused OutOfMemory) }
+{
+    let (code, number, data) = value;
+    let (name_at, name_length) = append(bytes, name)?;
+    let (value_at, value_length) = append(bytes, data)?;
+    Ok(Operation {
+        kind,
+        code,
+        node,
+        number,
+        name_at,
+        name_length,
+        value_at,
+        value_length,
+    })
+}
+
 /// Encodes the operation that sets an attribute of a node, and appends its name and value to the
 /// bytes. The only error is `OutOfMemory`.
 fn encode_attribute(
@@ -49,19 +83,8 @@ fn encode_attribute(
         × IsMeantBy o bytes.new.items (sets node (name.now, value.now))) }
     ensures err { IfErr result (λ e. e ≡ Refused OutOfMemory) }
 {
-    let (code, number, data) = encoded(value);
-    let (name_at, name_length) = append(bytes, name.as_str().as_bytes())?;
-    let (value_at, value_length) = append(bytes, data)?;
-    Ok(Operation {
-        kind: 2,
-        code,
-        node,
-        number,
-        name_at,
-        name_length,
-        value_at,
-        value_length,
-    })
+    let name = name.as_str().as_bytes();
+    encode_parts(bytes, 2, node, name, encoded(value))
 }
 
 /// Encodes the operation that creates an index, and appends its name to the bytes. The only error
@@ -131,19 +154,8 @@ fn encode(bytes: &mut Vec<u8>, op: &Op) -> Result<Operation, Fault>
         × IsMeantBy o bytes.new.items op.now) }
     ensures err { IfErr result (λ e. e ≡ Refused OutOfMemory) }
 {
-    let (kind, node, name, (code, number, data)) = encoded_operation(op);
-    let (name_at, name_length) = append(bytes, name)?;
-    let (value_at, value_length) = append(bytes, data)?;
-    Ok(Operation {
-        kind,
-        code,
-        node,
-        number,
-        name_at,
-        name_length,
-        value_at,
-        value_length,
-    })
+    let (kind, node, name, value) = encoded_operation(op);
+    encode_parts(bytes, kind, node, name, value)
 }
 
 /// Encodes operations in list order. The only error is `OutOfMemory`.

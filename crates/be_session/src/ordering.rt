@@ -5,11 +5,12 @@ ghost use Rattle.be_order.specs.Ordered.{cursor_bytes, page, page_with};
 ghost use Rattle.be_paged_reading.specs.Cells.{name_in};
 ghost use Rattle.be_session.specs.Meaning.{IsNoName};
 ghost use Rattle.be_session.specs.Ordering.{AreUnread, IsNoPage, IsPageRead};
-ghost use Rattle.be_session.specs.Sitting.{IsUnanswered, IsUnread, IsUnrefreshed};
+ghost use Rattle.be_session.specs.Prepared.{RefreshesAtPin, StaysUnrefreshed};
+ghost use Rattle.be_session.specs.Sitting.{IsUnanswered, IsUnread};
 ghost use Rattle.be_session.specs.declared.faults.Fault.{Fault as AnyFault};
 ghost use Rattle.be_session.specs.declared.faults.Fault.TheVariants.{Refused};
 ghost use Rattle.be_store.specs.History.{Learns, LocksAtMostOnce};
-ghost use Rattle.be_store.specs.Live.{IsLiveOf, Refreshes};
+ghost use Rattle.be_store.specs.Live.{IsLiveOf};
 ghost use Rattle.be_store.specs.Passes.{HasRead, IsPinnedTo, volume_pinned};
 ghost use Rattle.be_table.specs.Seats.{pinned_number};
 ghost use Rattle.be_value.specs.declared.refusals.Refusal.TheVariants.{NoSuchIndex};
@@ -232,12 +233,8 @@ impl Session {
         ensures moves { LocksAtMostOnce self.old.knows self.new.knows }
         ensures volume { volume_pinned self.new.knows ≡ volume_pinned self.old.knows }
         ensures own { IsLiveOf self.old.store live.new }
-        ensures ok { IfOk result (λ u. Refreshes (volume_pinned self.old.knows) live.old live.new
-            u.created.items u.removed.items) }
-        ensures pin { IfOk result (λ u. (n : ℕ) × IsPinnedTo self.old.knows n) }
-        ensures err { IfErr result (λ e. (live.new ≡ live.old)
-            × IsUnrefreshed (pinned_number self.old.knows.phase)
-            (scan (volume_pinned self.old.knows) live.old.query) e) }
+        ensures ok { IfOk result (RefreshesAtPin self.old.knows live.old live.new) }
+        ensures err { IfErr result (StaysUnrefreshed self.old.knows live.old live.new) }
     {
         let Some(_) = self.pass.pinned() else {
             return Err(Fault::NotPinned);

@@ -8,10 +8,11 @@ ghost use Rattle.be_order.specs.Firsts.{IsAnyOf, from_number};
 ghost use Rattle.be_paged_reading.specs.Cells.{name_in};
 ghost use Rattle.be_table.specs.Seats.{pinned_number};
 ghost use Rattle.be_store.specs.History.{Learns, LocksAtMostOnce};
-ghost use Rattle.be_store.specs.Live.{IsLiveOf, Refreshes};
+ghost use Rattle.be_store.specs.Live.{IsLiveOf};
 ghost use Rattle.be_store.specs.Passes.{HasRead, IsPinnedTo, volume_pinned};
 ghost use Rattle.be_session.specs.Items.{IsBuilt, IsUnbuilt};
-ghost use Rattle.be_session.specs.Prepared.{IsUnasked, with_found};
+ghost use Rattle.be_session.specs.Prepared.{IsUnasked, KeepsRefresh, KeepsUnrefreshed};
+ghost use Rattle.be_session.specs.Prepared.{with_found};
 ghost use Rattle.be_session.specs.Ordering.{AreUnread, IsNoPage, IsPageRead};
 ghost use Rattle.be_session.specs.Sitting.{IsNoQuery, IsUnread, IsUnrefreshed};
 ghost use Rattle.be_session.specs.declared.faults.Fault.TheVariants.{Refused};
@@ -157,12 +158,8 @@ impl Prepared {
         ensures store { (session.new.store ≡ session.old.store)
             × (session.new.spare ≡ session.old.spare) }
         ensures read { HasRead session.old.knows session.new.knows }
-        ensures ok { IfOk result (λ _. Refreshes (volume_pinned session.old.knows) self.old.live
-            self.new.live self.new.came self.new.went) }
-        ensures pin { IfOk result (λ _. (n : ℕ) × IsPinnedTo session.old.knows n) }
-        ensures err { IfErr result (λ e. (self.new ≡ self.old)
-            × IsUnrefreshed (pinned_number session.old.knows.phase)
-            (scan (volume_pinned session.old.knows) self.old.live.query) e) }
+        ensures ok { OnOk result (KeepsRefresh session.old.knows self.old self.new) }
+        ensures err { IfErr result (KeepsUnrefreshed session.old.knows self.old self.new) }
     {
         match session.refresh(&mut self.live) {
             Ok(updates) => {
@@ -184,12 +181,8 @@ impl Prepared {
         ensures moves { LocksAtMostOnce session.old.knows session.new.knows }
         ensures volume { volume_pinned session.new.knows ≡ volume_pinned session.old.knows }
         ensures own { IsLiveOf session.old.store self.new.live }
-        ensures ok { IfOk result (λ _. Refreshes (volume_pinned session.old.knows) self.old.live
-            self.new.live self.new.came self.new.went) }
-        ensures pin { IfOk result (λ _. (n : ℕ) × IsPinnedTo session.old.knows n) }
-        ensures err { IfErr result (λ e. (self.new ≡ self.old)
-            × IsUnrefreshed (pinned_number session.old.knows.phase)
-            (scan (volume_pinned session.old.knows) self.old.live.query) e) }
+        ensures ok { OnOk result (KeepsRefresh session.old.knows self.old self.new) }
+        ensures err { IfErr result (KeepsUnrefreshed session.old.knows self.old self.new) }
     {
         self.updates = session.refresh_changed(&mut self.live)?;
         Ok(())

@@ -18,11 +18,11 @@ ghost use Rattle.be_store.specs.Conditional.{AcceptsAt};
 ghost use Rattle.be_store.specs.History.{Accepts, IsUnreported, Learns, LocksAndUnlocks, Pins};
 ghost use Rattle.be_store.specs.History.{Unpins};
 ghost use Rattle.be_store.specs.History.{entries_from, text_seen};
-ghost use Rattle.be_store.specs.Live.{Refreshes};
 ghost use Rattle.be_store.specs.Passes.{HasRead, IsPassOf, IsPinnedTo, volume_pinned};
 ghost use Rattle.be_store.specs.Statuses.{ReportsStatus};
 ghost use Rattle.be_session.specs.Explained.{explanation_in};
 ghost use Rattle.be_session.specs.Finishing.{IsFinished, IsNotLast, IsUnfinished};
+ghost use Rattle.be_session.specs.Prepared.{RefreshesAtPin, StaysUnrefreshed};
 ghost use Rattle.be_session.specs.Sitting.{AtPin, HasMet, IsHandedOut, IsPinned, IsTakenFrom};
 ghost use Rattle.be_session.specs.Sitting.{IsUnwritten};
 ghost use Rattle.be_session.specs.Sitting.{IsUnwrittenIf, IsNoQuery, IsOpened, IsUnpinnedAt};
@@ -574,12 +574,8 @@ impl Session {
     pub fn refresh(&mut self, live: &mut Live) -> Result<Updates, Fault>
         ensures store { (self.new.store ≡ self.old.store) × (self.new.spare ≡ self.old.spare) }
         ensures read { HasRead self.old.knows self.new.knows }
-        ensures ok { IfOk result (λ u. Refreshes (volume_pinned self.old.knows) live.old live.new
-            u.created.items u.removed.items) }
-        ensures pin { IfOk result (λ u. (n : ℕ) × IsPinnedTo self.old.knows n) }
-        ensures err { IfErr result (λ e. (live.new ≡ live.old)
-            × IsUnrefreshed (pinned_number self.old.knows.phase)
-            (scan (volume_pinned self.old.knows) live.old.query) e) }
+        ensures ok { IfOk result (RefreshesAtPin self.old.knows live.old live.new) }
+        ensures err { IfErr result (StaysUnrefreshed self.old.knows live.old live.new) }
     {
         let Some(_) = self.pass.pinned() else {
             return Err(Fault::NotPinned);

@@ -1,5 +1,6 @@
 pub mod Passes
 pub mod Capacity
+pub mod Finding
 pub mod History
 pub mod Writing
 pub mod Conditional

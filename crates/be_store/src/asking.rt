@@ -1,6 +1,6 @@
 //! Queries on a version, through any page reader.
 ghost use Rattle.std.specs.List.Sorted.{IsStrictlyIncreasing};
-ghost use Rattle.std.specs.Prelude.{◌≡◌, ◌⊎◌, true, false, IfOk, IfErr, OnOk};
+ghost use Rattle.std.specs.Prelude.{◌≡◌, ◌⊎◌, true, false, IfOk, IfErr};
 ghost use Rattle.be_value.specs.Refusal.{Answers};
 ghost use Rattle.be_value.specs.declared.refusals.Refusal.TheVariants.{OutOfMemory, NotCovered};
 ghost use Rattle.be_volume.specs.Query.{scan, has_index, covered};
@@ -8,6 +8,7 @@ ghost use Rattle.be_volume.specs.Volume.{State};
 ghost use Rattle.be_plan.specs.Cover.{chosen, covers};
 ghost use Rattle.be_plan.specs.Explain.{are_places};
 ghost use Rattle.be_paged_reading.specs.Version.{IsVersion};
+ghost use Rattle.be_store.specs.Finding.{Finds};
 
 use be_paged::{answer_decided, source};
 use be_pages::Look;
@@ -46,8 +47,7 @@ pub(crate) fn ask_into<L: Look>(
 ) -> (L, Result<(), Refusal>)
     ghost volume: { State }
     requires version { IsVersion (L.page_state look) (L.words look) version_page volume }
-    ensures answer { Answers (λ _. found.new.items) result.1 (scan volume query.now) }
-    ensures rising { OnOk result.1 (IsStrictlyIncreasing found.new.items) }
+    ensures found { Finds volume query.now found.new.items result.1 }
     ensures kept { L.kept result.0 ≡ L.kept look }
 {
     let mut source = source(look, version_page);
@@ -66,8 +66,7 @@ pub(crate) fn ask_prepared<L: Look>(
 ) -> (L, Result<(), Refusal>)
     ghost volume: { State }
     requires version { IsVersion (L.page_state look) (L.words look) version_page volume }
-    ensures answer { Answers (λ _. found.new.items) result.1 (scan volume prepared.old) }
-    ensures rising { OnOk result.1 (IsStrictlyIncreasing found.new.items) }
+    ensures found { Finds volume prepared.old found.new.items result.1 }
     ensures same { prepared.new ≡ prepared.old }
     ensures kept { L.kept result.0 ≡ L.kept look }
 {

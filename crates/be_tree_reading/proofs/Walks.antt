@@ -5,7 +5,7 @@ use Rattle.std.specs.List.{filter, AllByRecursion}
 use Rattle.std.specs.declared.cmp.Ordering.{Ordering}
 use Rattle.std.specs.declared.cmp.Ordering.TheVariants.{Less, Equal, Greater}
 use Rattle.std.specs.declared.option.Option.{Option}
-use Rattle.std.specs.Ordering.{is_ge, is_gt, is_le, is_lt}
+use Rattle.std.specs.Ordering.{is_gt, is_le}
 use Rattle.std.proofs.Math.Seq.{take-append-add}
 use Rattle.std.proofs.lemmas.Bool.{cases_lt, false≢true}
 use Rattle.std.proofs.lemmas.List.{append-nil, drop-append-le, drop_all, drop_more, get_or-drop, get_or-reverse, get_or-take, get_or_append_left, length-append, length-drop, length-reverse, length-take-le, map-append, nil_from_length, take-append-le, take_all, take_more}
@@ -121,9 +121,6 @@ begun_long true strict low high xs long =
     (all_reverse (λ x. 8 ≤ length x.key) ys (recursion_from_All (λ (x : Pair). 8 ≤ length x.key) ys (All-filter (λ (x : Pair). is_until high strict x.key) (λ (x : Pair). 8 ≤ length x.key) xs long)))
 
 -- what comparing a key with the end of a way shows
-pub not_below : (low key : List ℕ) → not (is_lt (key_cmp key low)) ≡ is_from low false key
-not_below low key = elim (key_cmp key low) as (λ o. not (is_lt o) ≡ is_ge o) [ Less ↦ refl | Equal ↦ refl | Greater ↦ refl ]
-
 pub not_past : (high : Option (List ℕ)) (key : List ℕ) → not (is_past high key) ≡ is_until high false key
 not_past None key = refl
 not_past (Some high) key = elim (key_cmp key high) as (λ o. not (is_gt o) ≡ is_le o) [ Less ↦ refl | Equal ↦ refl | Greater ↦ refl ]

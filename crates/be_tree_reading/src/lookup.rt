@@ -12,7 +12,7 @@
 ghost use Rattle.std.specs.Prelude.{◌≡◌, [], ◌+◌, ◌-◌, ◌<◌, ◌≤◌, true, false, length, option_map};
 ghost use Rattle.std.specs.Prelude.{is_some, IfNone, IfSome, IfOk, IfErr, None, Some};
 ghost use Rattle.std.specs.Prelude.{◌/◌, IsTrue};
-ghost use Rattle.std.specs.Ordering.{is_eq, is_gt, is_lt};
+ghost use Rattle.std.specs.Ordering.{is_eq, is_gt};
 ghost use Rattle.be_pages.specs.Pages.{IsUnchanged, is_readable};
 ghost use Rattle.be_tree_reading.specs.Page.{IsItem, IsPage, item_at, item_place, items_of};
 ghost use Rattle.be_tree_reading.specs.Key.{IsRank, key_cmp, payload_at};
@@ -234,25 +234,11 @@ pub(crate) fn is_above<L: Look>(look: &mut L, page: u64, at: usize, key: &[u8], 
     order_at(look, page, at, key, first).is_gt()
 }
 
-/// Returns `true` if the key of the item at this place is lower than a key whose first word is
-/// `first`.
-#[inline(always)]
-pub(crate) fn is_below<L: Look>(look: &mut L, page: u64, at: usize, key: &[u8], first: u64) -> bool
-    requires readable { IsTrue (is_readable (L.page_state look.old page)) }
-    requires in_page { at + 42 ≤ 512 }
-    requires item { IsItem (L.words look.old page) at }
-    requires first { IsFirst key.now first }
-    ensures below { result ≡ is_lt (key_cmp (item_at (L.words look.old page) at).key key.now) }
-    ensures unchanged { IsUnchanged L.kept L.page_state L.words look.old look.new }
-{
-    order_at(look, page, at, key, first).is_lt()
-}
-
 /// Compares the key of the item at this place with a key whose first word is `first`. Usually the
 /// first words decide. If they are equal, the second words are compared next. `cmp_at` compares
 /// keys that are shorter than a word.
 #[inline(always)]
-fn order_at<L: Look>(look: &mut L, page: u64, at: usize, key: &[u8], first: u64) -> Ordering
+pub fn order_at<L: Look>(look: &mut L, page: u64, at: usize, key: &[u8], first: u64) -> Ordering
     requires readable { IsTrue (is_readable (L.page_state look.old page)) }
     requires in_page { at + 42 ≤ 512 }
     requires item { IsItem (L.words look.old page) at }

@@ -15,7 +15,7 @@ ghost use Rattle.be_tree_reading.specs.Walk.{is_on_way, items_ahead, on_way};
 ghost use Rattle.be_tree_reading.specs.Way.{IsLastOf, numbers_in, walk_of};
 ghost use Rattle.be_tree_reading.specs.Words.{IsFirstOf};
 
-use crate::lookup::is_below;
+use crate::lookup::order_at;
 use crate::numbers::{first_of, is_past_at, number_at};
 use crate::page::{first_word, smaller_of};
 use crate::way::{Leaf, Walk, Way};
@@ -163,7 +163,7 @@ pub fn is_within<L: Look>(look: &mut L, page: u64, at: usize, way: Way<'_>, firs
     ensures unchanged { IsUnchanged L.kept L.page_state L.words look.old look.new }
 {
     if way.back {
-        !is_below(look, page, at, way.low, first)
+        order_at(look, page, at, way.low, first).is_ge()
     } else {
         !is_past_at(look, page, at, way.high, first)
     }

@@ -94,6 +94,16 @@ enum Running {
     StrictlyReporting,
 }
 
+/// How a run ended that no fault stopped.
+#[derive(Drop)]
+enum Ending {
+    Whole,
+    /// The journal was found to be wrong.
+    Illegal,
+    /// A line was refused.
+    Refused(RefusedLine),
+}
+
 /// Runs a script up to the first line that is refused, and writes its journal if `reports` is set.
 fn run_strictly_into<I: Read, W: Write>(
     alloc: Global,
@@ -101,77 +111,58 @@ fn run_strictly_into<I: Read, W: Write>(
     writer: &mut W,
     limits: Limits,
     reports: bool,
-) -> Result<Option<RefusedLine>, RunFault> {
+) -> Result<Ending, RunFault> {
     let (refused, journal) = run_strictly(alloc, script, writer, limits)?;
     if reports {
         put_result(alloc, writer, &journal)?;
     }
-    Ok(refused)
-}
-
-/// Returns the outcome of a strict run. If a line was refused, it is reported on standard error.
-fn end_strictly(
-    rt: &impl Eprint,
-    file: &str,
-    refused: &Option<RefusedLine>,
-) -> io::Result<Outcome> {
-    let Some(line) = refused else {
-        return Ok(Outcome::Done);
-    };
-    let (number, reply) = (line.number, line.reply.as_str());
-    eprint!(rt; "bestore: line {number} of {file}: {reply}")?;
-    Ok(Outcome::Refused)
-}
-
-/// Runs a script from a reader up to the first line that is refused.
-fn run_strictly_from<R: Runtime + AllocGlobal, I: Read>(
-    rt: &R,
-    file: &str,
-    script: &mut I,
-    limits: Limits,
-    reports: bool,
-) -> io::Result<Outcome> {
-    let Ok(mut writer) = BufWriter::new(rt.alloc(), io::writer(rt)) else {
-        return fail(rt, reason(RunFault::Memory));
-    };
-    let (refused, ran) = match run_strictly_into(rt.alloc(), script, &mut writer, limits, reports) {
-        Ok(refused) => (refused, Ok(())),
-        Err(fault) => (None, Err(fault)),
-    };
-    match finish(writer, ran) {
-        Ok(()) => end_strictly(rt, file, &refused),
-        Err(RunFault::Read) => fail_to_read(rt, file),
-        Err(fault) => fail(rt, reason(fault)),
+    match refused {
+        Some(line) => Ok(Ending::Refused(line)),
+        None => Ok(Ending::Whole),
     }
 }
 
-/// Runs a script from a reader to its end, and writes its journal if `reports` is set.
-fn run_whole_from<R: Runtime + AllocGlobal, I: Read>(
-    rt: &R,
-    file: &str,
+/// Runs a script, and writes its replies.
+fn run_into<I: Read, W: Write>(
+    alloc: Global,
     script: &mut I,
+    writer: &mut W,
     limits: Limits,
-    reports: bool,
-) -> io::Result<Outcome> {
-    let Ok(mut writer) = BufWriter::new(rt.alloc(), io::writer(rt)) else {
-        return fail(rt, reason(RunFault::Memory));
-    };
-    let (legal, ran) = if reports {
-        match run_with_journal(rt.alloc(), script, &mut writer, limits) {
-            Ok(legal) => (legal, Ok(())),
-            Err(fault) => (false, Err(fault)),
+    running: Running,
+) -> Result<Ending, RunFault> {
+    match running {
+        Running::Plainly => {
+            run(alloc, script, writer, limits)?;
+            Ok(Ending::Whole)
         }
-    } else {
-        (true, run(rt.alloc(), script, &mut writer, limits))
-    };
-    match finish(writer, ran) {
-        Ok(()) if legal => Ok(Outcome::Done),
-        Ok(()) => Ok(Outcome::Wrong),
-        Err(RunFault::Read) => fail_to_read(rt, file),
-        Err(fault) => fail(rt, reason(fault)),
+        Running::Reporting => {
+            let legal = run_with_journal(alloc, script, writer, limits)?;
+            Ok(if legal {
+                Ending::Whole
+            } else {
+                Ending::Illegal
+            })
+        }
+        Running::Strictly => run_strictly_into(alloc, script, writer, limits, false),
+        Running::StrictlyReporting => run_strictly_into(alloc, script, writer, limits, true),
     }
 }
 
+/// Returns the outcome of a run that ended like this. If a line was refused, it is reported on
+/// standard error.
+fn end_run(rt: &impl Eprint, file: &str, ending: &Ending) -> io::Result<Outcome> {
+    match ending {
+        Ending::Whole => Ok(Outcome::Done),
+        Ending::Illegal => Ok(Outcome::Wrong),
+        Ending::Refused(line) => {
+            let (number, reply) = (line.number, line.reply.as_str());
+            eprint!(rt; "bestore: line {number} of {file}: {reply}")?;
+            Ok(Outcome::Refused)
+        }
+    }
+}
+
+/// Runs a script from a reader.
 fn run_from<R: Runtime + AllocGlobal, I: Read>(
     rt: &R,
     file: &str,
@@ -179,11 +170,17 @@ fn run_from<R: Runtime + AllocGlobal, I: Read>(
     limits: Limits,
     running: Running,
 ) -> io::Result<Outcome> {
-    match running {
-        Running::Plainly => run_whole_from(rt, file, script, limits, false),
-        Running::Reporting => run_whole_from(rt, file, script, limits, true),
-        Running::Strictly => run_strictly_from(rt, file, script, limits, false),
-        Running::StrictlyReporting => run_strictly_from(rt, file, script, limits, true),
+    let Ok(mut writer) = BufWriter::new(rt.alloc(), io::writer(rt)) else {
+        return fail(rt, reason(RunFault::Memory));
+    };
+    let (ending, ran) = match run_into(rt.alloc(), script, &mut writer, limits, running) {
+        Ok(ending) => (ending, Ok(())),
+        Err(fault) => (Ending::Whole, Err(fault)),
+    };
+    match finish(writer, ran) {
+        Ok(()) => end_run(rt, file, &ending),
+        Err(RunFault::Read) => fail_to_read(rt, file),
+        Err(fault) => fail(rt, reason(fault)),
     }
 }
 

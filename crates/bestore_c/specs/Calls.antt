@@ -53,6 +53,10 @@ Calls None (Some t) closed does = ⊥
 Calls (Some s) None closed does = ⊥
 Calls (Some s) (Some t) closed does = (t.store ≡ s.store) × (t.spare ≡ s.spare) × does s t
 
+-- The session only read. Its store and the number of its waiting passes are unchanged.
+abbrev pub HasOnlyRead : Sitting → Sitting → Type 0
+HasOnlyRead s t = (t.store ≡ s.store) × (t.spare ≡ s.spare) × HasRead s.knows t.knows
+
 -- A call on a closed handle returns the code 64 and the number 0.
 abbrev pub IsClosed : ℕ → ℕ → Type 0
 IsClosed number code = (code ≡ 64) × (number ≡ 0)

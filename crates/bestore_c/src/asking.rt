@@ -1,4 +1,4 @@
-//! Writes the answers and explanations of queries for C, and runs prepared queries.
+//! Writes the answers and explanations of queries for C.
 ghost use Rattle.std.specs.Prelude.{◌≡◌, ◌⊎◌, ℕ, List, IfErr, IfOk, false, length, string_bytes};
 ghost use Rattle.std.specs.Prelude.{true};
 ghost use Rattle.std.specs.declared.option.Option.{Option as AnyOption};
@@ -6,17 +6,15 @@ ghost use Rattle.std.specs.declared.result.Result.{Result as AnyResult};
 ghost use Rattle.be_query.specs.Grammar.{IsTextOf};
 ghost use Rattle.be_session.specs.Sitting.{AtPin, IsNoQuery, ReadAnswers};
 ghost use Rattle.be_session.specs.declared.faults.Fault.{Fault as AnyFault};
-ghost use Rattle.be_store.specs.Passes.{HasRead};
 ghost use Rattle.be_value.specs.declared.refusals.Refusal.{Refusal as AnyRefusal};
-ghost use Rattle.bestore_c.specs.Calls.{Asked, IsClosed, PutsOutAtPin, Refreshed, Refuses};
+ghost use Rattle.bestore_c.specs.Calls.{IsClosed, PutsOutAtPin, Refuses};
 ghost use Rattle.bestore_c.specs.Places.{over};
 
 use crate::CLOSED;
-use crate::handle::UpdateCounts;
-use crate::places::put;
+use crate::places::put_counted;
 use crate::refusing::refuse;
 use be_query::Query;
-use be_session::{Fault, Prepared, Session, query_of};
+use be_session::{Fault, query_of};
 use std::alloc::Global;
 
 /// Parses this text as a query if the handle is open. Otherwise returns the code of a call that did
@@ -53,8 +51,7 @@ pub(crate) fn report(answer: Result<Vec<u64>, Fault>, nodes: &mut [u64], count: 
 {
     match answer {
         Ok(found) => {
-            *count = found.len() as u64;
-            put(nodes, found.as_slice());
+            put_counted(nodes, found.as_slice(), count);
             0
         }
         Err(fault) => refuse(fault, count),
@@ -66,8 +63,7 @@ pub(crate) fn put_text(text: &str, bytes: &mut [u8], count: &mut u64)
     ensures count { count.new ≡ length text.now }
     ensures bytes { bytes.new ≡ over text.now bytes.old }
 {
-    *count = text.len() as u64;
-    put(bytes, text.as_bytes());
+    put_counted(bytes, text.as_bytes(), count);
 }
 
 /// Writes the length of a session's text in bytes, and as many of the bytes as fit. Otherwise like
@@ -84,56 +80,5 @@ pub(crate) fn report_text(answer: Result<String, Fault>, bytes: &mut [u8], count
             0
         }
         Err(fault) => refuse(fault, count),
-    }
-}
-
-/// Runs a prepared query in the session's pinned version, and returns what `report` returns for its
-/// answer.
-pub(crate) fn find_prepared(
-    session: &mut Session,
-    prepared: &mut Prepared,
-    nodes: &mut [u64],
-    count: &mut u64,
-) -> u32
-    ensures store { (session.new.store ≡ session.old.store)
-        × (session.new.spare ≡ session.old.spare) }
-    ensures read { HasRead session.old.knows session.new.knows }
-    ensures asked { Asked session.old prepared.old prepared.new nodes.old nodes.new count.new
-        result }
-    ensures kept { (result ≡ 0) ⊎ (nodes.new ≡ nodes.old) }
-{
-    match prepared.find(session) {
-        Ok(()) => {
-            let kept = prepared.found();
-            *count = kept.len() as u64;
-            put(nodes, kept);
-            0
-        }
-        Err(fault) => refuse(fault, count),
-    }
-}
-
-/// Refreshes a prepared query in the session's pinned version. Writes how many nodes were added to
-/// its answer and how many were removed.
-pub(crate) fn refresh_prepared(
-    session: &mut Session,
-    prepared: &mut Prepared,
-    counts: &mut UpdateCounts,
-) -> u32
-    ensures store { (session.new.store ≡ session.old.store)
-        × (session.new.spare ≡ session.old.spare) }
-    ensures read { HasRead session.old.knows session.new.knows }
-    ensures refreshed { Refreshed session.old prepared.old prepared.new counts.new result }
-    ensures kept { (result ≡ 0) ⊎ ((counts.new ≡ counts.old) × (prepared.new ≡ prepared.old)) }
-{
-    match prepared.refresh(session) {
-        Ok(()) => {
-            *counts = UpdateCounts {
-                created: prepared.created().len() as u64,
-                removed: prepared.removed().len() as u64,
-            };
-            0
-        }
-        Err(fault) => fault.code(),
     }
 }

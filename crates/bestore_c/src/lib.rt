@@ -57,7 +57,7 @@ mod reporting;
 mod states;
 pub mod texts;
 
-use asking::{find_prepared, put_text, query_for, refresh_prepared, report, report_text};
+use asking::{put_text, query_for, report, report_text};
 use be_session::{
     Cursor, HeldOrder, Operation, PredicateItem, Session, collect_operation, encoded_operations,
     held_name, name, operations, prepare, prepare_items, query_of_items,
@@ -71,7 +71,9 @@ use handle::{
     WitnessHandle,
 };
 use listing::{put_encoded, report_attributes, report_indices};
-use ordering::{find_any, find_first, find_ordered, refresh_changed};
+use ordering::{
+    find_any, find_first, find_ordered, refresh_changed, refresh_prepared, report_found,
+};
 use owned::Owned;
 use owned_draft::OwnedDraft;
 use owned_place::OwnedPlace;
@@ -1203,6 +1205,7 @@ pub extern "C" fn bes_release(alloc: Global, prepared: &mut PreparedHandle) -> u
 
 /// Runs a prepared query in the pinned version, and keeps what it finds for `bes_found`. The
 /// results of the last refresh are unchanged. Otherwise like `bes_query`.
+#[tactic(auto, using(crate::proofs::Shown::asked))]
 #[unsafe(no_mangle)]
 pub extern "C" fn bes_query_prepared(
     pass: &mut Handle,
@@ -1225,7 +1228,8 @@ pub extern "C" fn bes_query_prepared(
         return CLOSED;
     }
     let query = prepared.owned.lent();
-    find_prepared(pass.owned.lent(), query, nodes, count)
+    let answer = query.find(pass.owned.lent());
+    report_found(answer, query, nodes, count)
 }
 
 /// Reads a page of a prepared query's answer in the pinned version, in the order of an index. The

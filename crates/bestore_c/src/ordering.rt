@@ -1,20 +1,20 @@
-//! Reads the answers of prepared queries in parts, and refreshes queries from what was written.
+//! Reads the answers of prepared queries, whole or in parts, and refreshes prepared queries.
 ghost use Rattle.std.specs.Prelude.{◌≡◌, ◌⊎◌, IfErr, OnOk, length};
 ghost use Rattle.be_paged_reading.specs.Cells.{name_in};
+ghost use Rattle.be_session.specs.Fault.{fault_code};
 ghost use Rattle.be_store.specs.Live.{IsLiveOf};
-ghost use Rattle.be_store.specs.Passes.{HasRead};
-ghost use Rattle.bestore_c.specs.Calls.{Refuses};
+ghost use Rattle.bestore_c.specs.Calls.{HasOnlyRead, Refreshed, Refuses};
 ghost use Rattle.bestore_c.specs.Ordering.{AnyFew, First, Ordered, RefreshedByWrites, more_in};
 ghost use Rattle.bestore_c.specs.Places.{over};
 
 use crate::handle::UpdateCounts;
-use crate::places::put;
+use crate::places::put_counted;
 use crate::refusing::refuse;
 use be_session::{Cursor, Fault, HeldOrder, Prepared, Session};
 
 /// Writes how many nodes a prepared query has found, and as many of them as fit. On failure, writes
 /// the number that the error carries.
-fn report_found(
+pub(crate) fn report_found(
     answer: Result<(), Fault>,
     prepared: &Prepared,
     nodes: &mut [u64],
@@ -27,12 +27,30 @@ fn report_found(
 {
     match answer {
         Ok(()) => {
-            let found = prepared.found();
-            *count = found.len() as u64;
-            put(nodes, found);
+            put_counted(nodes, prepared.found(), count);
             0
         }
         Err(fault) => refuse(fault, count),
+    }
+}
+
+/// Writes how many nodes a refresh added to a prepared query's answer and how many it removed, or
+/// returns the code of its error.
+fn report_refresh(answer: Result<(), Fault>, prepared: &Prepared, counts: &mut UpdateCounts) -> u32
+    ensures refreshed { OnOk answer ((result ≡ 0)
+        × (counts.new.created ≡ length prepared.now.came)
+        × (counts.new.removed ≡ length prepared.now.went)) }
+    ensures refused { IfErr answer (λ e. (result ≡ fault_code e) × (counts.new ≡ counts.old)) }
+{
+    match answer {
+        Ok(()) => {
+            *counts = UpdateCounts {
+                created: prepared.created().len() as u64,
+                removed: prepared.removed().len() as u64,
+            };
+            0
+        }
+        Err(fault) => fault.code(),
     }
 }
 
@@ -56,9 +74,7 @@ pub(crate) fn find_ordered(
     more: &mut u32,
 ) -> u32
     requires most { order.most ≡ length nodes.old }
-    ensures store { (session.new.store ≡ session.old.store)
-        × (session.new.spare ≡ session.old.spare) }
-    ensures read { HasRead session.old.knows session.new.knows }
+    ensures read { HasOnlyRead session.old session.new }
     ensures asked { Ordered session.old prepared.old prepared.new (name_in order.entry.by.now)
         order.entry.descending cursor.old cursor.new nodes.old nodes.new count.new more.new result }
     ensures kept { (result ≡ 0) ⊎ ((nodes.new ≡ nodes.old) × (more.new ≡ more.old)
@@ -82,9 +98,7 @@ pub(crate) fn find_first(
     nodes: &mut [u64],
     count: &mut u64,
 ) -> u32
-    ensures store { (session.new.store ≡ session.old.store)
-        × (session.new.spare ≡ session.old.spare) }
-    ensures read { HasRead session.old.knows session.new.knows }
+    ensures read { HasOnlyRead session.old session.new }
     ensures asked { First session.old prepared.old prepared.new from nodes.old nodes.new count.new
         result }
     ensures kept { (result ≡ 0) ⊎ (nodes.new ≡ nodes.old) }
@@ -100,15 +114,28 @@ pub(crate) fn find_any(
     nodes: &mut [u64],
     count: &mut u64,
 ) -> u32
-    ensures store { (session.new.store ≡ session.old.store)
-        × (session.new.spare ≡ session.old.spare) }
-    ensures read { HasRead session.old.knows session.new.knows }
+    ensures read { HasOnlyRead session.old session.new }
     ensures asked { AnyFew session.old prepared.old prepared.new nodes.old nodes.new count.new
         result }
     ensures kept { (result ≡ 0) ⊎ (nodes.new ≡ nodes.old) }
 {
     let answer = prepared.find_any(session, nodes.len());
     report_found(answer, prepared, nodes, count)
+}
+
+/// Refreshes a prepared query in the session's pinned version. Writes how many nodes were added to
+/// its answer and how many were removed.
+pub(crate) fn refresh_prepared(
+    session: &mut Session,
+    prepared: &mut Prepared,
+    counts: &mut UpdateCounts,
+) -> u32
+    ensures read { HasOnlyRead session.old session.new }
+    ensures refreshed { Refreshed session.old prepared.old prepared.new counts.new result }
+    ensures kept { (result ≡ 0) ⊎ ((counts.new ≡ counts.old) × (prepared.new ≡ prepared.old)) }
+{
+    let answer = prepared.refresh(session);
+    report_refresh(answer, prepared, counts)
 }
 
 /// Refreshes a prepared query in the session's pinned version from what was written since its last
@@ -126,14 +153,6 @@ pub(crate) fn refresh_changed(
         counts.new result }
     ensures kept { (result ≡ 0) ⊎ ((counts.new ≡ counts.old) × (prepared.new ≡ prepared.old)) }
 {
-    match prepared.refresh_changed(session) {
-        Ok(()) => {
-            *counts = UpdateCounts {
-                created: prepared.created().len() as u64,
-                removed: prepared.removed().len() as u64,
-            };
-            0
-        }
-        Err(fault) => fault.code(),
-    }
+    let answer = prepared.refresh_changed(session);
+    report_refresh(answer, prepared, counts)
 }

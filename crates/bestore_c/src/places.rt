@@ -1,5 +1,5 @@
 //! Writes to arrays of C, as far as there is room.
-ghost use Rattle.std.specs.Prelude.{◌≡◌, drop, map};
+ghost use Rattle.std.specs.Prelude.{◌≡◌, drop, length, map};
 ghost use Rattle.bestore_c.specs.Places.{over, node_of};
 
 use be_store::Done;
@@ -13,6 +13,15 @@ pub(crate) fn put<T: Copy>(places: &mut [T], numbers: &[T])
     } else {
         places.copy_from_slice(&numbers[..places.len()]);
     }
+}
+
+/// Writes how many items there are, and as many of them as fit.
+pub(crate) fn put_counted<T: Copy>(places: &mut [T], items: &[T], count: &mut u64)
+    ensures count { count.new ≡ length items.now }
+    ensures places { places.new ≡ over items.now places.old }
+{
+    *count = items.len() as u64;
+    put(places, items);
 }
 
 /// Returns the numbers starting at an index. There are none if the index is at or past the end.

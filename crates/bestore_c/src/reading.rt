@@ -4,10 +4,10 @@
 //! checked first, so the proof needs only what the session says about a pinned read.
 ghost use Rattle.std.specs.Prelude.{◌≡◌, ◌⊎◌};
 ghost use Rattle.be_paged_reading.specs.Cells.{name_in};
-ghost use Rattle.be_store.specs.Passes.{HasRead, volume_pinned};
+ghost use Rattle.be_store.specs.Passes.{volume_pinned};
 ghost use Rattle.be_table.specs.Seats.{pinned_number};
 ghost use Rattle.be_volume.specs.Reading.{attribute};
-ghost use Rattle.bestore_c.specs.Calls.{Shown};
+ghost use Rattle.bestore_c.specs.Calls.{HasOnlyRead, Shown};
 
 use crate::handle::Attribute;
 use be_session::{Fault, Session};
@@ -35,9 +35,7 @@ pub(crate) fn read(
     reported: &mut Attribute,
     bytes: &mut [u8],
 ) -> u32
-    ensures store { (session.new.store ≡ session.old.store)
-        × (session.new.spare ≡ session.old.spare) }
-    ensures read { HasRead session.old.knows session.new.knows }
+    ensures read { HasOnlyRead session.old session.new }
     ensures shown { Shown (pinned_number session.old.knows.phase)
         (attribute (volume_pinned session.old.knows) node (name_in name.now))
         reported.new bytes.old bytes.new result }

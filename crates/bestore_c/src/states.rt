@@ -1,9 +1,10 @@
 //! Returns the operations that rebuild a version, one list at a time.
 ghost use Rattle.std.specs.Prelude.{◌≡◌, ◌⊎◌, ◌≤◌, [], OnOk, length, true};
-ghost use Rattle.be_store.specs.Passes.{HasRead, volume_pinned};
+ghost use Rattle.be_store.specs.Passes.{volume_pinned};
 ghost use Rattle.be_session.specs.States.{unreported, waiting};
 ghost use Rattle.be_table.specs.Seats.{pinned_number};
 ghost use Rattle.be_volume.specs.Volume.{State};
+ghost use Rattle.bestore_c.specs.Calls.{HasOnlyRead};
 ghost use Rattle.bestore_c.specs.States.{ReportsNext, ReportsState, unreported_at};
 
 use crate::handle::{Counts, PlaceHandle};
@@ -68,9 +69,7 @@ pub(crate) fn report_state(
     operations: &mut [Operation],
     bytes: &mut [u8],
 ) -> u32
-    ensures store { (session.new.store ≡ session.old.store)
-        × (session.new.spare ≡ session.old.spare) }
-    ensures read { HasRead session.old.knows session.new.knows }
+    ensures read { HasOnlyRead session.old session.new }
     ensures reported { ReportsState (pinned_number session.old.knows.phase)
         (unreported (volume_pinned session.old.knows) place.old)
         (unreported (volume_pinned session.old.knows) place.new) counts.new operations.old

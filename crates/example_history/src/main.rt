@@ -9,7 +9,8 @@ ghost use Rattle.be_store.specs.Calls.{Calls};
 ghost use Rattle.be_store.specs.Passes.{IsPassOf};
 ghost use Rattle.be_store.specs.Seats.{pinned_number};
 ghost use Rattle.be_store.specs.Views.{IsClosed};
-ghost use Rattle.example_history.specs.Visits.{FindsAll, IsHistoryOf, IsNew, asks, visits, writes};
+ghost use Rattle.example_history.specs.Visits.{FindsAll, HasVisited, IsHistoryOf, IsNew, MayVisit};
+ghost use Rattle.example_history.specs.Visits.{asks, visits, writes};
 
 use be_store::machine_laws::one_history;
 use be_store::{
@@ -90,13 +91,8 @@ fn write_then_ask(
     ops: &[Op],
     query: &Query,
 ) -> (Pass, Result<Visit, Refusal>)
-    requires pass { IsPassOf store.now pass }
-    requires unpinned { pinned_number pass.knows.phase ≡ None }
-    requires count { (1 ≤ length ops.now) × (length ops.now ≤ 64) }
-    ensures pass { IsPassOf store.now result.0 }
-    ensures calls { IfOk result.1 (λ v. Calls pass.knows
-        (visits pass.knows.number ops.now v.signed.number v.signed.outcomes.items query.now
-        v.found.pin v.found.nodes.items) result.0.knows) }
+    requires { MayVisit store.now pass ops.now }
+    ensures { HasVisited store.now pass.knows ops.now query.now result.0 result.1 }
 {
     let signed = match write(store, &mut pass, ops) {
         Ok(signed) => signed,
@@ -162,37 +158,22 @@ fn sign_at_once<R: Threads + Sync>(
     (Pass, Result<Visit, Refusal>),
     (Pass, Result<Visit, Refusal>),
 )
-    requires first { IsPassOf store.now first × (pinned_number first.knows.phase ≡ None) }
-    requires second { IsPassOf store.now second × (pinned_number second.knows.phase ≡ None) }
-    requires ann { (1 ≤ length ann.now) × (length ann.now ≤ 64) }
-    requires bob { (1 ≤ length bob.now) × (length bob.now ≤ 64) }
-    ensures passes { IsPassOf store.now result.0.0 × IsPassOf store.now result.1.0 }
-    ensures ann { IfOk result.0.1 (λ v. Calls first.knows
-        (visits first.knows.number ann.now v.signed.number v.signed.outcomes.items query.now
-        v.found.pin v.found.nodes.items) result.0.0.knows) }
-    ensures bob { IfOk result.1.1 (λ v. Calls second.knows
-        (visits second.knows.number bob.now v.signed.number v.signed.outcomes.items query.now
-        v.found.pin v.found.nodes.items) result.1.0.knows) }
+    requires ann { MayVisit store.now first ann.now }
+    requires bob { MayVisit store.now second bob.now }
+    ensures ann { HasVisited store.now first.knows ann.now query.now result.0.0 result.0.1 }
+    ensures bob { HasVisited store.now second.knows bob.now query.now result.1.0 result.1.1 }
 {
     thread::join(
         rt,
         move || -> (Pass, Result<Visit, Refusal>)
-            requires pass { IsPassOf store.now first }
-            requires unpinned { pinned_number first.knows.phase ≡ None }
-            requires count { (1 ≤ length ann.now) × (length ann.now ≤ 64) }
-            ensures pass { IsPassOf store.entry.now result.0 }
-            ensures calls { IfOk result.1 (λ v. Calls first.knows
-                (visits first.knows.number ann.entry.now v.signed.number v.signed.outcomes.items
-                query.entry.now v.found.pin v.found.nodes.items) result.0.knows) }
+            requires { MayVisit store.now first ann.now }
+            ensures { HasVisited store.entry.now first.knows ann.entry.now query.entry.now result.0
+                result.1 }
         { write_then_ask(alloc, store, first, ann, query) },
         move || -> (Pass, Result<Visit, Refusal>)
-            requires pass { IsPassOf store.now second }
-            requires unpinned { pinned_number second.knows.phase ≡ None }
-            requires count { (1 ≤ length bob.now) × (length bob.now ≤ 64) }
-            ensures pass { IsPassOf store.entry.now result.0 }
-            ensures calls { IfOk result.1 (λ v. Calls second.knows
-                (visits second.knows.number bob.entry.now v.signed.number v.signed.outcomes.items
-                query.entry.now v.found.pin v.found.nodes.items) result.0.knows) }
+            requires { MayVisit store.now second bob.now }
+            ensures { HasVisited store.entry.now second.knows bob.entry.now query.entry.now result.0
+                result.1 }
         { write_then_ask(alloc, store, second, bob, query) },
     )
 }

@@ -85,7 +85,8 @@ fn a_leader_that_is_paused_while_it_writes_the_state_is_replaced() {
     let (paused, _, following) = leader_and_follower(&database);
     let mut client = paused.client();
     thread::scope(|scope| {
-        // The state's last statement waits while this session has the log's row. Then the leader's transaction keeps the row.
+        // This transaction locks the log's row for 3 seconds, so the last statement that writes the state waits for it. The leader is
+        // paused by then, and its own transaction gets the lock.
         scope.spawn(|| database.sql("BEGIN; SELECT FROM bestore_log FOR UPDATE; SELECT pg_sleep(3); COMMIT"));
         wait_for_event(&database, "PgSleep", "pg_sleep");
         client.send(Command::Compact(Nothing {})).unwrap();

@@ -5,7 +5,7 @@ use crate::tests::steps::{
     abandoned, begun, current_number, ended, new_node, open_for_one, open_for_two, remove,
     set_and_end, unset, write,
 };
-use be_change::{Change, Ended, Kinds};
+use be_change::{Change, Ended};
 use be_store::{Name, Pass, Refusal, Store};
 use std::alloc::Global;
 
@@ -26,7 +26,7 @@ fn next_number(store: &Store, alloc: Global, pass: &mut Pass) -> Result<u64, Ref
     requires { IsPassOf store.now pass.old }
     ensures { IsPassOf store.now pass.new }
 {
-    let mut change = begun(store, alloc, pass, Kinds::Checked)?;
+    let mut change = begun(store, alloc, pass)?;
     let next = new_node(&mut change);
     abandoned(change, store, pass);
     next
@@ -43,7 +43,7 @@ fn write_nodes(
     requires { IsPassOf store.now pass.old }
     ensures { IsPassOf store.now pass.new }
 {
-    let mut change = begun(store, alloc, pass, Kinds::Checked)?;
+    let mut change = begun(store, alloc, pass)?;
     let last = make_nodes(&mut change, count)?;
     match ended(change, store, pass)? {
         Ended::Accepted(number) => Ok((number, last)),
@@ -78,7 +78,7 @@ fn write_number(store: &Store, alloc: Global, pass: &mut Pass, number: i64) -> R
     requires { IsPassOf store.now pass.old }
     ensures { IsPassOf store.now pass.new }
 {
-    let change = begun(store, alloc, pass, Kinds::Checked)?;
+    let change = begun(store, alloc, pass)?;
     set_and_end(change, store, pass, 1, number)
 }
 
@@ -92,7 +92,7 @@ fn is_too_late(
     requires passes { IsPassOf store.now first.old × IsPassOf store.now second.old }
     ensures passes { IsPassOf store.now first.new × IsPassOf store.now second.new }
 {
-    let change = begun(store, alloc, first, Kinds::Checked)?;
+    let change = begun(store, alloc, first)?;
     let other = write_number(store, alloc, second, 7);
     let is_written = set_and_end(change, store, first, 1, 8)?;
     other?;
@@ -136,46 +136,32 @@ fn refusal_of(change: Change, store: &Store, pass: &mut Pass) -> Result<Refusal,
     }
 }
 
-/// Makes a node, and removes a node that doesn't exist.
-fn remove_ninth(change: &mut Change) -> Result<(), Refusal> {
-    new_node(change)?;
-    remove(change, 9)
+/// What a change asks for after it has made a node.
+#[derive(Clone, Copy)]
+enum Next {
+    Nothing,
+    /// To remove a node that doesn't exist.
+    RemoveNinth,
+    /// To remove an attribute that the new node doesn't have.
+    UnsetNew,
 }
 
-/// Makes a node, and removes an attribute that it doesn't have.
-fn unset_new(change: &mut Change) -> Result<(), Refusal> {
-    let name = Name::new("a")?;
+fn collect(change: &mut Change, next: Next) -> Result<(), Refusal> {
     let node = new_node(change)?;
-    unset(change, node, &name)
+    match next {
+        Next::Nothing => Ok(()),
+        Next::RemoveNinth => remove(change, 9),
+        Next::UnsetNew => unset(change, node, &Name::new("a")?),
+    }
 }
 
-/// The error of a change that sets an attribute of a node that doesn't exist.
-fn without_node(store: &Store, alloc: Global, pass: &mut Pass) -> Result<Refusal, Refusal>
+/// The error of a change that makes a node and asks for this.
+fn refused(store: &Store, alloc: Global, pass: &mut Pass, next: Next) -> Result<Refusal, Refusal>
     requires { IsPassOf store.now pass.old }
     ensures { IsPassOf store.now pass.new }
 {
-    let mut change = begun(store, alloc, pass, Kinds::Checked)?;
-    remove_ninth(&mut change)?;
-    refusal_of(change, store, pass)
-}
-
-/// The error of a change that removes an attribute that doesn't exist.
-fn without_attribute(store: &Store, alloc: Global, pass: &mut Pass) -> Result<Refusal, Refusal>
-    requires { IsPassOf store.now pass.old }
-    ensures { IsPassOf store.now pass.new }
-{
-    let mut change = begun(store, alloc, pass, Kinds::Checked)?;
-    unset_new(&mut change)?;
-    refusal_of(change, store, pass)
-}
-
-/// The error of a change that makes a node.
-fn without_room(store: &Store, alloc: Global, pass: &mut Pass) -> Result<Refusal, Refusal>
-    requires { IsPassOf store.now pass.old }
-    ensures { IsPassOf store.now pass.new }
-{
-    let mut change = begun(store, alloc, pass, Kinds::Checked)?;
-    new_node(&mut change)?;
+    let mut change = begun(store, alloc, pass)?;
+    collect(&mut change, next)?;
     refusal_of(change, store, pass)
 }
 
@@ -189,11 +175,11 @@ fn refusals_in(
     requires { IsPassOf store.now pass.old }
     ensures { IsPassOf store.now pass.new }
 {
-    let node = without_node(store, alloc, pass)?;
-    let attribute = without_attribute(store, alloc, pass)?;
+    let node = refused(store, alloc, pass, Next::RemoveNinth)?;
+    let attribute = refused(store, alloc, pass, Next::UnsetNew)?;
     let next = next_number(store, alloc, pass)?;
     write(store, alloc, pass, FIRST)?;
-    let room = without_room(store, alloc, pass)?;
+    let room = refused(store, alloc, pass, Next::Nothing)?;
     Ok((node, attribute, room, next))
 }
 
@@ -203,23 +189,19 @@ pub(crate) fn refusals(alloc: Global) -> Result<(Refusal, Refusal, Refusal, u64)
     refusals_in(&store, alloc, &mut pass)
 }
 
-/// The pin after a change.
-fn pin_after_end(store: &Store, alloc: Global, pass: &mut Pass) -> Result<Option<u64>, Refusal>
-    requires { IsPassOf store.now pass.old }
-    ensures { IsPassOf store.now pass.new }
-{
-    let change = begun(store, alloc, pass, Kinds::Checked)?;
-    ended(change, store, pass)?;
-    Ok(pass.pinned())
-}
+type Pin = Option<u64>;
 
-/// The pin after a change that is abandoned.
-fn pin_after_none(store: &Store, alloc: Global, pass: &mut Pass) -> Result<Option<u64>, Refusal>
+/// The pin after a change that is ended or abandoned.
+fn pin_after(store: &Store, alloc: Global, pass: &mut Pass, ends: bool) -> Result<Pin, Refusal>
     requires { IsPassOf store.now pass.old }
     ensures { IsPassOf store.now pass.new }
 {
-    let change = begun(store, alloc, pass, Kinds::Checked)?;
-    abandoned(change, store, pass);
+    let change = begun(store, alloc, pass)?;
+    if !ends {
+        abandoned(change, store, pass);
+        return Ok(pass.pinned());
+    }
+    ended(change, store, pass)?;
     Ok(pass.pinned())
 }
 
@@ -233,17 +215,19 @@ fn pin(store: &Store, pass: &mut Pass)
     }
 }
 
-type Pin = Option<u64>;
-
 /// The three pins that `keeps_pins` returns.
 fn pins_in(store: &Store, alloc: Global, pass: &mut Pass) -> Result<(Pin, Pin, Pin), Refusal>
     requires { IsPassOf store.now pass.old }
     ensures { IsPassOf store.now pass.new }
 {
-    let after_end = pin_after_end(store, alloc, pass)?;
-    let after_abandon = pin_after_none(store, alloc, pass)?;
+    let after_end = pin_after(store, alloc, pass, true)?;
+    let after_abandon = pin_after(store, alloc, pass, false)?;
     pin(store, pass);
-    Ok((after_end, after_abandon, pin_after_end(store, alloc, pass)?))
+    Ok((
+        after_end,
+        after_abandon,
+        pin_after(store, alloc, pass, true)?,
+    ))
 }
 
 /// The pin after a change by a pass that wasn't pinned, after one that was abandoned, and after one

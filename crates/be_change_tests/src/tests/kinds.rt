@@ -2,7 +2,7 @@
 ghost use Rattle.be_store.specs.Passes.{IsPassOf};
 
 use crate::tests::steps::{abandoned, begun, open_for_one, write};
-use be_change::{Kinds, check_kinds};
+use be_change::check_kinds;
 use be_store::{Kind, Op, Pass, Refusal, Store};
 use be_test_tools::{again, list_of};
 use std::alloc::Global;
@@ -32,7 +32,7 @@ fn mismatch_in(
     ensures { IsPassOf store.now pass.new }
 {
     write(store, alloc, pass, "mkindex a CSTR")?;
-    let change = begun(store, alloc, pass, Kinds::Checked)?;
+    let change = begun(store, alloc, pass)?;
     let found = first_mismatch(store, pass, ops);
     abandoned(change, store, pass);
     Ok(found)

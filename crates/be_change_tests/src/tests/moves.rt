@@ -5,28 +5,36 @@ ghost use Rattle.be_store.specs.Passes.{IsPassOf};
 use crate::tests::steps::{
     TRIES, abandoned, begun, current_number, ended, is_accepted, number_at, set, write,
 };
-use be_change::{Change, Kinds};
+use be_change::Change;
 use be_store::{Limits, Name, Pass, Refusal, Store};
 use std::alloc::{AllocGlobal, Global};
 use std::thread;
 use std::thread::Threads;
+
+/// An amount, and the nodes from which and to which it is moved.
+#[derive(Clone, Copy)]
+struct Transfer {
+    from: u64,
+    to: u64,
+    amount: i64,
+}
 
 /// Moves an amount from one node to the other, as the change reads them.
 fn collect_move(
     change: &mut Change,
     store: &Store,
     pass: &mut Pass,
-    nodes: (u64, u64),
-    amount: i64,
+    transfer: Transfer,
 ) -> Result<(), Refusal>
     requires { IsPassOf store.now pass.old }
     ensures { IsPassOf store.now pass.new }
 {
     let name = Name::new("a")?;
-    let from = number_at(change, store, pass, nodes.0, &name).unwrap_or(0);
-    set(change, nodes.0, &name, from.saturating_sub(amount))?;
-    let to = number_at(change, store, pass, nodes.1, &name).unwrap_or(0);
-    set(change, nodes.1, &name, to.saturating_add(amount))
+    let Transfer { from, to, amount } = transfer;
+    let before = number_at(change, store, pass, from, &name).unwrap_or(0);
+    set(change, from, &name, before.saturating_sub(amount))?;
+    let before = number_at(change, store, pass, to, &name).unwrap_or(0);
+    set(change, to, &name, before.saturating_add(amount))
 }
 
 /// One attempt to move. Returns whether it was written.
@@ -34,14 +42,13 @@ fn try_move(
     store: &Store,
     alloc: Global,
     pass: &mut Pass,
-    nodes: (u64, u64),
-    amount: i64,
+    transfer: Transfer,
 ) -> Result<bool, Refusal>
     requires { IsPassOf store.now pass.old }
     ensures { IsPassOf store.now pass.new }
 {
-    let mut change = begun(store, alloc, pass, Kinds::Checked)?;
-    match collect_move(&mut change, store, pass, nodes, amount) {
+    let mut change = begun(store, alloc, pass)?;
+    match collect_move(&mut change, store, pass, transfer) {
         Ok(()) => Ok(is_accepted(ended(change, store, pass)?)),
         Err(refusal) => {
             abandoned(change, store, pass);
@@ -63,14 +70,13 @@ fn move_at_last(
     store: &Store,
     alloc: Global,
     pass: &mut Pass,
-    nodes: (u64, u64),
-    amount: i64,
+    transfer: Transfer,
 ) -> Result<(), Refusal>
     requires { IsPassOf store.now pass.old }
     ensures { IsPassOf store.now pass.new }
 {
     for _ in 0..TRIES {
-        if has_moved(try_move(store, alloc, pass, nodes, amount))? {
+        if has_moved(try_move(store, alloc, pass, transfer))? {
             return Ok(());
         }
     }
@@ -82,35 +88,14 @@ fn move_often(
     store: &Store,
     alloc: Global,
     mut pass: Pass,
-    nodes: (u64, u64),
-    amount: i64,
+    transfer: Transfer,
 ) -> Result<(), Refusal>
     requires { IsPassOf store.now pass }
 {
     for _ in 0..200 {
-        move_at_last(store, alloc, &mut pass, nodes, amount)?;
+        move_at_last(store, alloc, &mut pass, transfer)?;
     }
     Ok(())
-}
-
-/// One thread moves 1 from the first node to the second 200 times, and another moves 2 back 200
-/// times.
-fn move_by_two<R: AllocGlobal + Threads + Sync>(
-    rt: &R,
-    store: &Store,
-    first: Pass,
-    second: Pass,
-) -> Result<(), Refusal>
-    requires { IsPassOf store.now first × IsPassOf store.now second }
-{
-    let alloc = rt.alloc();
-    let (one, other) = thread::join(
-        rt,
-        || move_often(store, alloc, first, (1, 2), 1),
-        || move_often(store, alloc, second, (2, 1), 2),
-    );
-    one?;
-    other
 }
 
 /// A store with three passes. There are so many pages that no schedule leaves a write without one,
@@ -140,7 +125,8 @@ fn read_both(store: &Store, alloc: Global, pass: &mut Pass) -> Result<(i64, i64)
     Ok((first, second))
 }
 
-/// Makes two nodes with 1,000 each, and lets two threads move. Returns what the nodes have then.
+/// Makes two nodes with 1,000 each. Then one thread moves 1 from the first node to the second 200
+/// times, and another moves 2 back 200 times. Returns what the nodes have then.
 fn move_between<R: AllocGlobal + Threads + Sync>(
     rt: &R,
     store: &Store,
@@ -151,10 +137,27 @@ fn move_between<R: AllocGlobal + Threads + Sync>(
     requires threads { IsPassOf store.now first × IsPassOf store.now second }
     requires reader { IsPassOf store.now reader.old }
 {
+    let alloc = rt.alloc();
     let list = "new;new;set 1 a LLNG 1000;set 2 a LLNG 1000";
-    write(store, rt.alloc(), reader, list)?;
-    move_by_two(rt, store, first, second)?;
-    read_both(store, rt.alloc(), reader)
+    write(store, alloc, reader, list)?;
+    let there = Transfer {
+        from: 1,
+        to: 2,
+        amount: 1,
+    };
+    let back = Transfer {
+        from: 2,
+        to: 1,
+        amount: 2,
+    };
+    let (one, other) = thread::join(
+        rt,
+        || move_often(store, alloc, first, there),
+        || move_often(store, alloc, second, back),
+    );
+    one?;
+    other?;
+    read_both(store, alloc, reader)
 }
 
 /// The same in a new store.

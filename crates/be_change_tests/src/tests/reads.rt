@@ -9,89 +9,66 @@ use be_change::{Change, Kinds};
 use be_store::{Kind, Name, Pass, Refusal, Store};
 use std::alloc::Global;
 
-type Read = Option<i64>;
-
-/// The number at node 1, as the change reads it before its operations, after two sets, and after an
-/// unset.
-fn reads_of_old(
-    change: &mut Change,
-    store: &Store,
-    pass: &mut Pass,
-    name: &Name,
-) -> Result<(Read, Read, Read), Refusal>
-    requires { IsPassOf store.now pass.old }
-    ensures { IsPassOf store.now pass.new }
-{
-    let before = number_at(change, store, pass, 1, name);
-    set(change, 1, name, 2)?;
-    set(change, 1, name, 3)?;
-    let then = number_at(change, store, pass, 1, name);
-    unset(change, 1, name)?;
-    Ok((before, then, number_at(change, store, pass, 1, name)))
+/// What a change does between two reads.
+#[derive(Clone, Copy)]
+enum Step {
+    Set(i64),
+    Unset,
+    Remove,
 }
 
-/// The number at a new node, as the change reads it before and after setting it.
-fn reads_of_new(
-    change: &mut Change,
-    store: &Store,
-    pass: &mut Pass,
-    name: &Name,
-) -> Result<(Read, Read), Refusal>
-    requires { IsPassOf store.now pass.old }
-    ensures { IsPassOf store.now pass.new }
-{
-    let node = new_node(change)?;
-    let before = number_at(change, store, pass, node, name);
-    set(change, node, name, 5)?;
-    Ok((before, number_at(change, store, pass, node, name)))
+fn take(change: &mut Change, node: u64, name: &Name, step: Step) -> Result<(), Refusal> {
+    match step {
+        Step::Set(number) => set(change, node, name, number),
+        Step::Unset => unset(change, node, name),
+        Step::Remove => remove(change, node),
+    }
 }
 
-/// The number at node 1, as the change reads it after removing the node, and before that, after
-/// setting a 1.
-fn reads_of_gone(
+/// The number at a node, as a change reads it before and after a step.
+type Around = (Option<i64>, Option<i64>);
+
+/// What a change reads around each of its steps. Node 2 is new.
+fn reads_around_steps(
     change: &mut Change,
     store: &Store,
+    alloc: Global,
     pass: &mut Pass,
-    name: &Name,
-) -> Result<(Read, Read), Refusal>
-    requires { IsPassOf store.now pass.old }
-    ensures { IsPassOf store.now pass.new }
-{
-    set(change, 1, name, 1)?;
-    let last = number_at(change, store, pass, 1, name);
-    remove(change, 1)?;
-    Ok((number_at(change, store, pass, 1, name), last))
-}
-
-type Reads = ((Read, Read, Read), (Read, Read), (Read, Read, Read));
-
-/// What a change reads of an old node, of a new node, and of a node that it removes.
-fn reads_of_each(
-    change: &mut Change,
-    store: &Store,
-    pass: &mut Pass,
-) -> Result<((Read, Read, Read), (Read, Read), (Read, Read)), Refusal>
+) -> Result<Vec<Around>, Refusal>
     requires { IsPassOf store.now pass.old }
     ensures { IsPassOf store.now pass.new }
 {
     let name = Name::new("a")?;
-    let old = reads_of_old(change, store, pass, &name)?;
-    let new = reads_of_new(change, store, pass, &name)?;
-    let gone = reads_of_gone(change, store, pass, &name)?;
-    Ok((old, new, gone))
+    let steps = [
+        (1, Step::Set(2)),
+        (1, Step::Set(3)),
+        (1, Step::Unset),
+        (2, Step::Set(5)),
+        (1, Step::Set(1)),
+        (1, Step::Remove),
+    ];
+    new_node(change)?;
+    let mut reads = Vec::new(alloc);
+    for (node, step) in steps {
+        let before = number_at(change, store, pass, node, &name);
+        take(change, node, &name, step)?;
+        reads.push((before, number_at(change, store, pass, node, &name)))?;
+    }
+    Ok(reads)
 }
 
 /// The same, and the number at node 2 in the store afterwards.
+type Reads = (Vec<Around>, Option<i64>);
+
 fn reads_in(store: &Store, alloc: Global, pass: &mut Pass) -> Result<Reads, Refusal>
     requires { IsPassOf store.now pass.old }
     ensures { IsPassOf store.now pass.new }
 {
     write(store, alloc, pass, "new;set 1 a LLNG 1")?;
-    let mut change = begun(store, alloc, pass, Kinds::Checked)?;
-    let (old, new, (gone, last)) = reads_of_each(&mut change, store, pass)?;
+    let mut change = begun(store, alloc, pass)?;
+    let reads = reads_around_steps(&mut change, store, alloc, pass)?;
     ended(change, store, pass)?;
-    let made = current_number(store, alloc, pass, 2)?;
-    Ok((old, new, (made, gone, last)))
+    Ok((reads, current_number(store, alloc, pass, 2)?))
 }
 
 /// What a change reads, given its own operations.
@@ -100,19 +77,8 @@ pub(crate) fn own_reads(alloc: Global) -> Result<Reads, Refusal> {
     reads_in(&store, alloc, &mut pass)
 }
 
-/// A store with an index of texts, and a change in it.
-fn with_index(
-    store: &Store,
-    alloc: Global,
-    pass: &mut Pass,
-    kinds: Kinds,
-) -> Result<Change, Refusal>
-    requires { IsPassOf store.now pass.old }
-    ensures { IsPassOf store.now pass.new }
-{
-    write(store, alloc, pass, "new;mkindex a CSTR")?;
-    begun(store, alloc, pass, kinds)
-}
+/// The list that makes node 1 and an index of texts.
+const TEXT_INDEX: &str = "new;mkindex a CSTR";
 
 /// Whether a change accepts a number at a name with an index of texts, a text there, and a number
 /// at another name.
@@ -156,7 +122,8 @@ fn kinds_in(store: &Store, alloc: Global, pass: &mut Pass) -> Result<Taken, Refu
     requires { IsPassOf store.now pass.old }
     ensures { IsPassOf store.now pass.new }
 {
-    let mut change = with_index(store, alloc, pass, Kinds::Checked)?;
+    write(store, alloc, pass, TEXT_INDEX)?;
+    let mut change = begun(store, alloc, pass)?;
     let taken = taken_by_each(&mut change)?;
     ended(change, store, pass)?;
     Ok(taken)
@@ -172,7 +139,8 @@ fn takes_unchecked(store: &Store, alloc: Global, pass: &mut Pass) -> Result<bool
     requires { IsPassOf store.now pass.old }
     ensures { IsPassOf store.now pass.new }
 {
-    let mut change = with_index(store, alloc, pass, Kinds::Unchecked)?;
+    write(store, alloc, pass, TEXT_INDEX)?;
+    let mut change = Change::begin(alloc, store, pass, Kinds::Unchecked)?;
     takes_number(&mut change, "a")
 }
 

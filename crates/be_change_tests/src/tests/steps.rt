@@ -66,17 +66,12 @@ pub(crate) fn takes_text(change: &mut Change, name: &str) -> Result<bool, Refusa
     is_taken(change.set(1, name, text))
 }
 
-/// Begins a change.
-pub(crate) fn begun(
-    store: &Store,
-    alloc: Global,
-    pass: &mut Pass,
-    kinds: Kinds,
-) -> Result<Change, Refusal>
+/// Begins a change that checks kinds.
+pub(crate) fn begun(store: &Store, alloc: Global, pass: &mut Pass) -> Result<Change, Refusal>
     requires { IsPassOf store.now pass.old }
     ensures { IsPassOf store.now pass.new }
 {
-    Change::begin(alloc, store, pass, kinds)
+    Change::begin(alloc, store, pass, Kinds::Checked)
 }
 
 /// The number that a node has at the name, as the change reads it.
@@ -165,7 +160,7 @@ pub(crate) fn current_number(
     ensures { IsPassOf store.now pass.new }
 {
     let name = Name::new("a")?;
-    let change = begun(store, alloc, pass, Kinds::Checked)?;
+    let change = begun(store, alloc, pass)?;
     let number = number_at(&change, store, pass, node, &name);
     abandoned(change, store, pass);
     Ok(number)

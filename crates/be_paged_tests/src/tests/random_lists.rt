@@ -98,19 +98,6 @@ fn note(seen: &mut [u64; 23], answer: &Result<ArrayVec<Done, 64>, Refusal>) {
     seen[place] = seen[place].wrapping_add(1);
 }
 
-/// Writes a random list.
-fn random_write(
-    alloc: Global,
-    random: &mut Random,
-    mix: &Mix,
-    forms: &mut Forms,
-    seen: &mut [u64; 23],
-) -> Result<(), Fail> {
-    let ops = list_of(alloc, random, mix, forms.next())?;
-    note(seen, &forms.write(&ops)?);
-    Ok(())
-}
-
 /// Queries on few names, some of which have an index.
 const QUERIES: &str = "aa==1
 aa>=0 && ab<2
@@ -164,7 +151,8 @@ fn write_lists(
     seen: &mut [u64; 23],
 ) -> Result<(), Fail> {
     for i in 0..500 {
-        random_write(alloc, random, mix, forms, seen)?;
+        let ops = list_of(alloc, random, mix, forms.next())?;
+        note(seen, &forms.write(&ops)?);
         if i % 8 == 0 {
             random_reads(alloc, random, mix, forms)?;
         }

@@ -1,76 +1,14 @@
 //! Both sides of an `&&` of two indexed names. Up to a number of hits of one, the source is asked
 //! about each of them. With one hit more, the other's index is walked too.
 
-ghost use Rattle.be_volume.specs.Volume.{State};
-ghost use Rattle.be_plan.specs.Sources.{IsVolume};
-
+use super::counting::nodes_estimated;
 use super::volume_of;
-use arrayvec::ArrayVec;
-use be_plan::{KeyRange, Source, VolumeSource, answer, volume_source};
 use be_query::parse;
 use be_test_tools::again;
-use be_value::{Kind, Name, Refusal, Value, word_of};
+use be_value::{Refusal, word_of};
 use be_volume::Volume;
 use std::alloc::Global;
 use std::test::Fail;
-
-/// A volume's source that estimates this many keys for each index, and counts how often a value is
-/// read.
-#[derive(Drop)]
-struct Estimating<'a> {
-    source: VolumeSource<'a>,
-    keys: u64,
-    values: u64,
-}
-
-/// A source that hasn't been asked anything yet.
-fn start_estimating(volume: &Volume, keys: u64) -> Estimating<'_>
-    ensures { IsVolume result.source volume.now }
-{
-    Estimating {
-        source: volume_source(volume),
-        keys,
-        values: 0,
-    }
-}
-
-impl Source for Estimating<'_> {
-    ghost use Rattle.be_volume.specs.Volume.{State};
-    ghost use Rattle.be_plan.specs.Sources.{IsVolume};
-
-    ghost Kept = { State };
-
-    ghost kept = { λ s. s.source };
-
-    ghost answers_for = { λ s volume. IsVolume s.source volume };
-
-    ghost sound = { λ s volume is. is.sound };
-
-    fn kind_of(&mut self, name: &Name) -> Option<Kind> {
-        self.source.kind_of(name)
-    }
-
-    fn next_key(&mut self, name: &Name, from: &[u8], after: bool) -> Option<ArrayVec<u8, 264>> {
-        self.source.next_key(name, from, after)
-    }
-
-    fn nodes_within(&mut self, keys: KeyRange<'_>, found: &mut Vec<u64>) -> Result<(), Refusal> {
-        self.source.nodes_within(keys, found)
-    }
-
-    fn has_key(&mut self, name: &Name, key: &[u8]) -> bool {
-        self.source.has_key(name, key)
-    }
-
-    fn value(&mut self, node: u64, name: &Name) -> Option<Value> {
-        self.values = self.values.wrapping_add(1);
-        self.source.value(node, name)
-    }
-
-    fn estimate(&mut self, _name: &Name) -> u64 {
-        self.keys
-    }
-}
 
 /// The lines of nodes 1 to 130. k is the node's number and m falls from 130 to 1; both have an
 /// index.
@@ -94,11 +32,10 @@ fn crossing(alloc: Global) -> Result<Volume, Refusal> {
 /// The nodes, and how often a value was read, as `FIRST LAST COUNT asks ASKED`.
 fn summary(alloc: Global, volume: &Volume, text: &str, keys: u64) -> Result<String, Refusal> {
     let query = parse(alloc, text)?;
-    let mut source = start_estimating(volume, keys);
-    let nodes = answer(alloc, &query, &mut source)?;
+    let (nodes, counts) = nodes_estimated(alloc, volume, &query, keys)?;
     let first = nodes.first().copied().unwrap_or(0);
     let last = nodes.last().copied().unwrap_or(0);
-    Ok(format!(in alloc; "{first} {last} {} asks {}", nodes.len(), source.values)?)
+    Ok(format!(in alloc; "{first} {last} {} asks {}", nodes.len(), counts.values)?)
 }
 
 /// Whether `summary` returns this text. If memory runs out, it tries again.

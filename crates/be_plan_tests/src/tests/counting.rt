@@ -4,7 +4,9 @@ ghost use Rattle.be_volume.specs.Volume.{State};
 ghost use Rattle.be_plan.specs.Sources.{IsVolume};
 
 use arrayvec::{ArrayString, ArrayVec};
-use be_plan::{Cover, KeyRange, Source, VolumeSource, choose_from, covers, run, volume_source};
+use be_plan::{
+    Cover, KeyRange, Source, VolumeSource, answer, choose_from, covers, run, volume_source,
+};
 use be_query::Query;
 use be_value::{Kind, Name, Refusal, Value};
 use be_volume::Volume;
@@ -73,16 +75,19 @@ fn write_steps(counts: &mut Counts, name: &Name, keys: usize) {
 struct Counting<'a> {
     source: VolumeSource<'a>,
     volume: &'a Volume,
+    /// The number of keys that it estimates for each index.
+    keys: u64,
     counts: Counts,
 }
 
-/// A source that has counted nothing yet.
-fn start_counting(volume: &Volume) -> Counting<'_>
+/// A source that has counted nothing yet, and estimates this many keys for each index.
+fn start_counting(volume: &Volume, keys: u64) -> Counting<'_>
     ensures { IsVolume result.source volume.now }
 {
     Counting {
         source: volume_source(volume),
         volume,
+        keys,
         counts: Counts {
             asked: ArrayString::new(),
             kinds: 0,
@@ -131,6 +136,10 @@ impl Source for Counting<'_> {
         self.counts.values = self.counts.values.wrapping_add(1);
         self.source.value(node, name)
     }
+
+    fn estimate(&mut self, _name: &Name) -> u64 {
+        self.keys
+    }
 }
 
 /// The nodes that a cover finds, and what was asked for to find them. It is `None` if the cover
@@ -141,7 +150,7 @@ pub(crate) fn nodes_by(
     query: &Query,
     cover: &Cover,
 ) -> Result<Option<(Vec<u64>, Counts)>, Refusal> {
-    let mut source = start_counting(volume);
+    let mut source = start_counting(volume, u64::MAX);
     if !covers(cover, query, &mut source) {
         return Ok(None);
     }
@@ -156,8 +165,21 @@ pub(crate) fn nodes_chosen(
     volume: &Volume,
     query: &Query,
 ) -> Result<(Vec<u64>, Counts), Refusal> {
-    let mut source = start_counting(volume);
+    let mut source = start_counting(volume, u64::MAX);
     let cover = choose_from(alloc, query, &mut source)?;
     let nodes = run(alloc, &cover, query, &mut source)?;
+    Ok((nodes, source.counts))
+}
+
+/// The nodes that match the query, and what was asked for to find them, if the source estimates
+/// this many keys for each index.
+pub(crate) fn nodes_estimated(
+    alloc: Global,
+    volume: &Volume,
+    query: &Query,
+    keys: u64,
+) -> Result<(Vec<u64>, Counts), Refusal> {
+    let mut source = start_counting(volume, keys);
+    let nodes = answer(alloc, query, &mut source)?;
     Ok((nodes, source.counts))
 }

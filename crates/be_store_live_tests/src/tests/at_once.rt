@@ -2,8 +2,8 @@
 ghost use Rattle.be_store.specs.Live.{IsLiveOf};
 ghost use Rattle.be_store.specs.Passes.{IsPassOf};
 
-use crate::tests::refreshing::{TEXT, agrees, make_nodes, write_some};
-use be_store::{Kind, Limits, Live, Name, Op, Pass, Query, Refusal, Store, parse};
+use crate::tests::refreshing::{Followed, Numbers, agrees, make_nodes, unread, write_some};
+use be_store::{Kind, Limits, Name, Op, Pass, Refusal, Store};
 use be_test_tools::both_of;
 use std::alloc::{AllocGlobal, Global};
 use std::thread;
@@ -17,8 +17,7 @@ const NODES: u32 = 400;
 fn write_on(store: &Store, mut writer: Pass) -> Result<(), Refusal>
     requires { IsPassOf store.now writer }
 {
-    write_some(store, &mut writer, NODES, 1_000, 3)?;
-    Ok(())
+    write_some(store, &mut writer, NODES, 1_000, &mut Numbers::new(3))
 }
 
 /// Refreshes at 100 pins. Returns whether the list was always equal to the query's answer at the
@@ -27,15 +26,13 @@ fn follow_on(
     store: &Store,
     alloc: Global,
     mut reader: Pass,
-    query: &Query,
-    mut live: Live,
+    mut followed: Followed,
 ) -> Result<bool, Refusal>
     requires reader { IsPassOf store.now reader }
-    requires own { IsLiveOf store.now live }
+    requires own { IsLiveOf store.now followed.live }
 {
-    let mut list = Vec::new(alloc);
     for _ in 0..100 {
-        if !agrees(store, alloc, &mut reader, query, &mut live, &mut list)? {
+        if !agrees(store, alloc, &mut reader, &mut followed)? {
             return Ok(false);
         }
     }
@@ -57,12 +54,11 @@ pub(crate) fn follows_another_thread<R: AllocGlobal + Threads + Sync>(
     let size = Op::MkIndex(Name::new("size")?, Kind::Llng);
     store.apply(&mut writer, &[size])?;
     make_nodes(&store, &mut writer, NODES)?;
-    let live = Live::new(alloc, parse(alloc, TEXT)?);
-    let query = parse(alloc, TEXT)?;
+    let followed = unread(alloc)?;
     let (written, follows) = thread::join(
         rt,
         || write_on(&store, writer),
-        || follow_on(&store, alloc, reader, &query, live),
+        || follow_on(&store, alloc, reader, followed),
     );
     written?;
     follows

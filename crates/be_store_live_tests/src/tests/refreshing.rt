@@ -1,11 +1,11 @@
 //! A live query that is refreshed between random writes, and a list that is kept up to date with
 //! the results of the refreshes.
-ghost use Rattle.std.specs.Prelude.{◌≡◌, ◌<◌, ◌≤◌, None, length};
+ghost use Rattle.std.specs.Prelude.{◌≡◌, ◌<◌, ◌≤◌, IfOk, None, length};
 ghost use Rattle.be_store.specs.Live.{IsLiveOf};
 ghost use Rattle.be_store.specs.Passes.{IsPassOf, IsPinnedTo};
 ghost use Rattle.be_store.specs.Seats.{pinned_number};
 
-use be_store::{Kind, Limits, Live, Name, Op, Pass, Query, Refusal, Store, Updates, Value, parse};
+use be_store::{Kind, Limits, Live, Name, Op, Pass, Refusal, Store, Updates, Value, parse};
 use be_test_tools::both_of;
 use std::alloc::Global;
 
@@ -13,11 +13,24 @@ use std::alloc::Global;
 const TRIES: u64 = 10_000_000;
 
 /// A query that about four in ten nodes satisfy.
-pub(crate) const TEXT: &str = "size>30&&size<70||size==5&&other>50";
+const TEXT: &str = "size>30&&size<70||size==5&&other>50";
 
 /// Pseudorandom numbers: each is computed from the previous one.
-fn next_number(number: u32) -> u32 {
-    number.wrapping_mul(1_664_525).wrapping_add(1_013_904_223)
+#[derive(Drop)]
+pub(crate) struct Numbers {
+    next: u32,
+}
+
+impl Numbers {
+    pub(crate) fn new(first: u32) -> Numbers {
+        Numbers { next: first }
+    }
+
+    fn take(&mut self) -> u32 {
+        let number = self.next;
+        self.next = number.wrapping_mul(1_664_525).wrapping_add(1_013_904_223);
+        number
+    }
 }
 
 /// An operation on one of these nodes, chosen by a random number.
@@ -57,24 +70,39 @@ fn write_or_not(store: &Store, pass: &mut Pass, op: Op) -> Result<(), Refusal>
     }
 }
 
-/// Writes this many random operations. Returns the next pseudorandom number.
+/// Writes this many random operations.
 pub(crate) fn write_some(
     store: &Store,
     pass: &mut Pass,
     nodes: u32,
     count: u32,
-    first: u32,
-) -> Result<u32, Refusal>
+    numbers: &mut Numbers,
+) -> Result<(), Refusal>
     requires pass { IsPassOf store.now pass.old }
     requires nodes { 0 < nodes }
     ensures { IsPassOf store.now pass.new }
 {
-    let mut number = first;
     for _ in 0..count {
-        write_or_not(store, pass, random_op(nodes, number)?)?;
-        number = next_number(number);
+        write_or_not(store, pass, random_op(nodes, numbers.take())?)?;
     }
-    Ok(number)
+    Ok(())
+}
+
+/// A live query, and a list that is kept up to date with the results of its refreshes.
+#[derive(Drop)]
+pub(crate) struct Followed {
+    live: Live,
+    list: Vec<u64>,
+}
+
+/// A live query that has never been refreshed.
+pub(crate) fn unread(alloc: Global) -> Result<Followed, Refusal>
+    ensures { IfOk result (λ followed. followed.live.table ≡ None) }
+{
+    Ok(Followed {
+        live: Live::new(alloc, parse(alloc, TEXT)?),
+        list: Vec::new(alloc),
+    })
 }
 
 /// Removes from a list the nodes that left the answer, and adds those that joined it. Returns false
@@ -116,21 +144,19 @@ pub(crate) fn agrees(
     store: &Store,
     alloc: Global,
     pass: &mut Pass,
-    query: &Query,
-    live: &mut Live,
-    list: &mut Vec<u64>,
+    followed: &mut Followed,
 ) -> Result<bool, Refusal>
     requires pass { IsPassOf store.now pass.old }
-    requires own { IsLiveOf store.now live.old }
+    requires own { IsLiveOf store.now followed.old.live }
     ensures pass { IsPassOf store.now pass.new }
-    ensures own { IsLiveOf store.now live.new }
+    ensures own { IsLiveOf store.now followed.new.live }
 {
     pin_if_not(store, pass);
-    let updates = live.refresh_changed(store, pass)?;
-    let found = store.query(alloc, pass, query)?;
+    let updates = followed.live.refresh_changed(store, pass)?;
+    let found = store.query(alloc, pass, followed.live.query())?;
     store.unpin(pass);
-    let kept = follow(list, &updates)?;
-    Ok(kept && list.as_slice() == found.nodes.as_slice())
+    let kept = follow(&mut followed.list, &updates)?;
+    Ok(kept && followed.list.as_slice() == found.nodes.as_slice())
 }
 
 /// Refreshes with one of the two passes.
@@ -140,21 +166,19 @@ fn agrees_by(
     is_writer: bool,
     writer: &mut Pass,
     reader: &mut Pass,
-    query: &Query,
-    live: &mut Live,
-    list: &mut Vec<u64>,
+    followed: &mut Followed,
 ) -> Result<bool, Refusal>
     requires writer { IsPassOf store.now writer.old }
     requires reader { IsPassOf store.now reader.old }
-    requires own { IsLiveOf store.now live.old }
+    requires own { IsLiveOf store.now followed.old.live }
     ensures writer { IsPassOf store.now writer.new }
     ensures reader { IsPassOf store.now reader.new }
-    ensures own { IsLiveOf store.now live.new }
+    ensures own { IsLiveOf store.now followed.new.live }
 {
     if is_writer {
-        return agrees(store, alloc, writer, query, live, list);
+        return agrees(store, alloc, writer, followed);
     }
-    agrees(store, alloc, reader, query, live, list)
+    agrees(store, alloc, reader, followed)
 }
 
 /// Repeatedly writes with one pass and refreshes with either. Returns whether the list was always
@@ -165,26 +189,26 @@ fn agrees_always(
     writer: &mut Pass,
     reader: &mut Pass,
     nodes: u32,
-    query: &Query,
-    live: &mut Live,
+    followed: &mut Followed,
 ) -> Result<bool, Refusal>
     requires writer { IsPassOf store.now writer.old }
     requires reader { IsPassOf store.now reader.old }
     requires nodes { 0 < nodes }
-    requires own { IsLiveOf store.now live.old }
+    requires own { IsLiveOf store.now followed.old.live }
     ensures writer { IsPassOf store.now writer.new }
     ensures reader { IsPassOf store.now reader.new }
-    ensures own { IsLiveOf store.now live.new }
+    ensures own { IsLiveOf store.now followed.new.live }
 {
-    let mut list = Vec::new(alloc);
-    let mut number = 7;
+    let mut numbers = Numbers::new(7);
     for round in 0..200 {
-        let count = if round % 20 == 19 { 70 } else { number % 6 };
-        number = write_some(store, writer, nodes, count, number)?;
-        let is_writer = number % 3 == 0;
-        if !agrees_by(
-            store, alloc, is_writer, writer, reader, query, live, &mut list,
-        )? {
+        let count = if round % 20 == 19 {
+            70
+        } else {
+            numbers.next % 6
+        };
+        write_some(store, writer, nodes, count, &mut numbers)?;
+        let is_writer = numbers.next % 3 == 0;
+        if !agrees_by(store, alloc, is_writer, writer, reader, followed)? {
             return Ok(false);
         }
     }
@@ -196,10 +220,9 @@ pub(crate) fn make_nodes(store: &Store, pass: &mut Pass, nodes: u32) -> Result<(
     requires { IsPassOf store.now pass.old }
     ensures { IsPassOf store.now pass.new }
 {
-    let mut number = 11;
+    let mut numbers = Numbers::new(11);
     for node in 0..nodes {
-        number = next_number(number);
-        let size = Value::int64(i64::from((number >> 16) % 100));
+        let size = Value::int64(i64::from((numbers.take() >> 16) % 100));
         let set = Op::Set(u64::from(node) + 1, Name::new("size")?, size);
         store.apply(pass, &[Op::New, set])?;
     }
@@ -220,16 +243,14 @@ fn follows_writes(alloc: Global, nodes: u32) -> Result<bool, Refusal>
     let size = Op::MkIndex(Name::new("size")?, Kind::Llng);
     store.apply(&mut writer, &[size])?;
     make_nodes(&store, &mut writer, nodes)?;
-    let mut live = Live::new(alloc, parse(alloc, TEXT)?);
-    let query = parse(alloc, TEXT)?;
+    let mut followed = unread(alloc)?;
     agrees_always(
         &store,
         alloc,
         &mut writer,
         &mut reader,
         nodes,
-        &query,
-        &mut live,
+        &mut followed,
     )
 }
 

@@ -4,7 +4,7 @@
 //! the store's, with the same number. The helpers ask the pass whether it is pinned.
 ghost use Rattle.std.specs.Prelude.{◌≡◌, ◌≤◌, ℕ, None, IfSome, length};
 ghost use Rattle.be_store.specs.Live.{IsLiveOf};
-ghost use Rattle.be_store.specs.Passes.{HasRead, IsPassOf, IsPinnedTo};
+ghost use Rattle.be_store.specs.Passes.{IsPassOf, IsPinnedTo};
 ghost use Rattle.be_store.specs.Seats.{pinned_number};
 ghost use Rattle.be_store_tests.specs.Staying.{StaysPass};
 
@@ -89,57 +89,21 @@ fn unpin(store: &Store, alloc: Global, pass: &mut Pass) -> Text
     }
 }
 
+/// A query's answer, in a list that had another node before.
 fn find(store: &Store, alloc: Global, pass: &mut Pass, text: &str) -> Text
     requires pass { IsPassOf store.now pass.old }
     requires pinned { (n : ℕ) × IsPinnedTo pass.old.knows n }
     ensures { StaysPass store.now pass.old pass.new }
 {
-    match parse(alloc, text) {
-        Ok(query) => nodes_text(alloc, find_into(store, alloc, pass, &query)),
-        Err(refusal) => Err(refusal),
-    }
-}
-
-/// A query's answer, in a list that had another node before.
-fn find_into(
-    store: &Store,
-    alloc: Global,
-    pass: &mut Pass,
-    query: &Query,
-) -> Result<Answer, Refusal>
-    requires pass { IsPassOf store.now pass.old }
-    requires pinned { (n : ℕ) × IsPinnedTo pass.old.knows n }
-    ensures { StaysPass store.now pass.old pass.new }
-{
+    let query = parse(alloc, text)?;
     let mut nodes = Vec::new(alloc);
     nodes.push(1_000)?;
-    let pin = store.query_into(alloc, pass, query, &mut nodes)?;
-    Ok(Answer { pin, nodes })
-}
-
-/// Runs a live query, which stays the store's.
-fn find_once(
-    store: &Store,
-    pass: &mut Pass,
-    live: &mut Live,
-    nodes: &mut Vec<u64>,
-) -> Result<u64, Refusal>
-    requires pass { IsPassOf store.now pass.old }
-    requires pinned { (n : ℕ) × IsPinnedTo pass.old.knows n }
-    requires own { IsLiveOf store.now live.old }
-    ensures pass { IsPassOf store.now pass.new × HasRead pass.old.knows pass.new.knows }
-    ensures own { IsLiveOf store.now live.new }
-{
-    live.query_into(store, pass, nodes)
+    let pin = store.query_into(alloc, pass, &query, &mut nodes)?;
+    nodes_text(alloc, Ok(Answer { pin, nodes }))
 }
 
 /// The nodes that a live query finds, in a list that it is run with twice.
-fn find_again(
-    store: &Store,
-    alloc: Global,
-    pass: &mut Pass,
-    live: &mut Live,
-) -> Result<Answer, Refusal>
+fn find_again(store: &Store, alloc: Global, pass: &mut Pass, live: &mut Live) -> Text
     requires pass { IsPassOf store.now pass.old }
     requires pinned { (n : ℕ) × IsPinnedTo pass.old.knows n }
     requires own { IsLiveOf store.now live.old }
@@ -147,9 +111,9 @@ fn find_again(
     ensures own { IsLiveOf store.now live.new }
 {
     let mut nodes = Vec::new(alloc);
-    find_once(store, pass, live, &mut nodes)?;
-    let pin = find_once(store, pass, live, &mut nodes)?;
-    Ok(Answer { pin, nodes })
+    live.query_into(store, pass, &mut nodes)?;
+    let pin = live.query_into(store, pass, &mut nodes)?;
+    nodes_text(alloc, Ok(Answer { pin, nodes }))
 }
 
 /// What a live query finds at the pin, without a refresh.
@@ -160,7 +124,7 @@ fn found_text(store: &Store, alloc: Global, pass: &mut Pass, live: &mut Live) ->
     ensures own { IsLiveOf store.now live.new }
 {
     match pass.pinned() {
-        Some(_) => nodes_text(alloc, find_again(store, alloc, pass, live)),
+        Some(_) => find_again(store, alloc, pass, live),
         None => text_of(alloc, Reply::NotPinned),
     }
 }

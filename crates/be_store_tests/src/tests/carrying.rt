@@ -79,8 +79,7 @@ pub(crate) fn carry_meanwhile<R: Threads + Sync>(
     reader: Pass,
 ) -> ((Pass, bool), (Pass, Result<Room, Refusal>))
     requires { IsPassOf store.now writer × IsPassOf store.now reader }
-    ensures writer { StaysPass store.now writer result.0.0 }
-    ensures reader { StaysPass store.now reader result.1.0 }
+    ensures { StaysPass store.now writer result.0.0 × StaysPass store.now reader result.1.0 }
 {
     thread::join(
         rt,

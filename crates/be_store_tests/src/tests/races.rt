@@ -49,8 +49,7 @@ pub(crate) fn make_both<R: Threads + Sync>(
     second: Pass,
 ) -> ((Pass, bool), (Pass, bool))
     requires { IsPassOf store.now first × IsPassOf store.now second }
-    ensures first { StaysPass store.now first result.0.0 }
-    ensures second { StaysPass store.now second result.1.0 }
+    ensures { StaysPass store.now first result.0.0 × StaysPass store.now second result.1.0 }
 {
     thread::join(
         rt,

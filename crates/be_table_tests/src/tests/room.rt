@@ -75,24 +75,8 @@ pub(crate) fn opened(alloc: Global, pages: u64) -> Result<Room, Refusal> {
     again!(open_room(alloc, pages))
 }
 
-/// The replies to two passes. Their requests are before and after ` | `.
-fn answer_both(
-    table: &VersionTable,
-    alloc: Global,
-    second: &mut Seat,
-    third: &mut Seat,
-    requests: &str,
-) -> Text
-    requires { IsResting table.now second.old × IsResting table.now third.old }
-    ensures { IsResting table.now second.new × IsResting table.now third.new }
-{
-    let (before, beyond) = requests.split_once(" | ").unwrap_or((requests, ""));
-    let first = answers(table, alloc, second, before);
-    let last = answers(table, alloc, third, beyond);
-    both_texts(alloc, first, last)
-}
-
-/// The same while a third pass holds the lock.
+/// The replies to two passes while a third one holds the lock. Their requests are before and after
+/// ` | `.
 fn hold(
     table: &VersionTable,
     alloc: Global,
@@ -113,9 +97,11 @@ fn hold(
             return Err(refusal);
         }
     };
-    let text = answer_both(table, alloc, second, third, requests);
+    let (before, beyond) = requests.split_once(" | ").unwrap_or((requests, ""));
+    let first = answers(table, alloc, second, before);
+    let last = answers(table, alloc, third, beyond);
     *writer = writing.unlock();
-    text
+    both_texts(alloc, first, last)
 }
 
 /// Two replies, with the reply to a write between them.

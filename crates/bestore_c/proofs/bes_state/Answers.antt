@@ -23,8 +23,8 @@ returns-clause-pass c =
     let volume = volume_pinned c.lent.result.now.knows in
     let there : unreported volume c.lent-2.result.now ≡ unreported_at volume c.args.place.now.owned.value =
     ap (unreported_at volume) (sym c.lent-2.ensures.value) ∙ c.begin.ensures.same volume in
-    called c.args.pass.now.owned.value _ c.lent.result.now c.report_state.new.session _ _ was refl c.report_state.ensures.store.0 c.report_state.ensures.store.1 (
-      c.report_state.ensures.read,
+    called c.args.pass.now.owned.value _ c.lent.result.now c.report_state.new.session _ _ was refl c.report_state.ensures.read.0 c.report_state.ensures.read.1 (
+      c.report_state.ensures.read.2,
       subst (λ before. ReportsState (pinned_number c.lent.result.now.knows.phase) before (unreported volume c.report_state.new.place) c.report_state.new.counts
           c.args.listed.now c.report_state.new.operations c.args.bytes.now c.report_state.new.bytes c.report_state.result) there c.report_state.ensures.reported,
     )

@@ -22,8 +22,8 @@ returns-clause-history g c =
     (λ k. visits k c.args.ann.now ann.signed.number ann.signed.outcomes.items query ann.found.pin ann.found.nodes.items)
     (λ k. visits k c.args.bob.now bob.signed.number bob.signed.outcomes.items query bob.found.pin bob.found.nodes.items)
     c.in_ok-store.ensures.first.1 c.in_ok-store.ensures.second.1 c.in_ok-begun.ensures.calls
-    (subst (λ r. IfOk r (λ v. Calls w (visits w.number c.args.ann.now v.signed.number v.signed.outcomes.items query v.found.pin v.found.nodes.items) z)) c.in_ok-ann.was c.sign_at_once-anns.ensures.ann)
-    (subst (λ r. IfOk r (λ v. Calls b (visits b.number c.args.bob.now v.signed.number v.signed.outcomes.items query v.found.pin v.found.nodes.items) y)) c.in_ok-bob.was c.sign_at_once-anns.ensures.bob)
+    (subst (λ r. IfOk r (λ v. Calls w (visits w.number c.args.ann.now v.signed.number v.signed.outcomes.items query v.found.pin v.found.nodes.items) z)) c.in_ok-ann.was c.sign_at_once-anns.ensures.ann.1)
+    (subst (λ r. IfOk r (λ v. Calls b (visits b.number c.args.bob.now v.signed.number v.signed.outcomes.items query v.found.pin v.found.nodes.items) y)) c.in_ok-bob.was c.sign_at_once-anns.ensures.bob.1)
     c.in_ok-journal.ensures
 
 pub returns-clause-later : goal.returns-clause-later

@@ -3,7 +3,7 @@ use Rattle.std.proofs.lemmas.Bool.Decides.{nat_tests}
 use Rattle.std.proofs.lemmas.List.{length-drop}
 use Rattle.be_journal.specs.Text.{done_text}
 use Rattle.be_volume.specs.declared.ops.Done.{Done}
-use Rattle.be_journal_text.specs.History.{CanBeDone}
+use Rattle.be_entry_bytes.specs.Encoding.{CanBeDone}
 use Rattle.be_journal_text.proofs.LineLemmas.{done_part}
 use Rattle.be_journal_text.proofs.ReadLemmas.{IsLeft, all_left, done_long, first_left, joined_cut, less_left, none_left}
 use Rattle.be_journal_text.proofs.lists.read_outcomes.Goals as goal

@@ -1,6 +1,6 @@
 use Rattle.std.proofs.Common.{length}
 use Rattle.be_journal.specs.Text.{done_text}
-use Rattle.be_journal_text.specs.History.{CanBeDone}
+use Rattle.be_entry_bytes.specs.Encoding.{CanBeDone}
 use Rattle.be_journal_text.proofs.ReadLemmas.{IsLeft}
 use Rattle.be_journal_text.proofs.lists.read_outcomes.Given as goal
 

@@ -6,7 +6,7 @@ use Rattle.be_paged_order.proofs.ways.way_of.Goals as goal
 
 pub returns-in-None : goal.returns-in-None
 returns-in-None c =
-    let d = c.args.descending in
-    let low = c.args.low.now in
-    let high = option_copied c.args.high in
+    let d = c.args.keys.descending in
+    let low = c.args.keys.keys.low.now in
+    let high = option_copied c.args.keys.keys.high in
     record { back_is = refl; only = λ k h. (plain_only d low high k h, ap (λ o. is_after d (cursor_bytes o) k) c.in-None.is); all = λ k within after. plain_all d low high k within }

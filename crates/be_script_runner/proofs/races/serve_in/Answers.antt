@@ -41,7 +41,6 @@ returns-in-Ok g c =
       λ k below. subst (λ n. Reported n (slice_index_or (map items_of scripts) k [])) (zero-add k) (all.3 k below),
     )) in
     record {
-      served = on_both c.part.result both both (λ r h _. (h.0, h.1, h.2));
-      reported = on_both c.part.result both both (λ r h _. h.3);
+      served = on_both c.part.result both both (λ r h _. ((h.0, h.1, h.2), h.3));
       fault = c.part.ensures.fault;
     }

@@ -14,7 +14,7 @@ use Rattle.be_script_runner.proofs.RaceLemmas.{all_at, has_each, own_of}
 use Rattle.be_script_runner.proofs.races.serve_on_new.Goals as goal
 
 pub close-requires-clause-passes : goal.close-requires-clause-passes
-close-requires-clause-passes g c = all_at c.in-Ok.store 0 (map (λ s. s.items) c.args.scripts.items) c.in_ok-passes.passes.items c.in_ok-passes.ensures.served.0
+close-requires-clause-passes g c = all_at c.in-Ok.store 0 (map (λ s. s.items) c.args.scripts.items) c.in_ok-passes.passes.items c.in_ok-passes.ensures.served.0.0
 
 pub close-requires-clause-all : goal.close-requires-clause-all
 close-requires-clause-all g c k below =
@@ -22,7 +22,7 @@ close-requires-clause-all g c k below =
     let count : length scripts ≡ length c.args.scripts.items = length-map c.args.scripts.items _ in
     let limit : c.in-Ok.store.limits.passes ≡ c.args.limits.passes = ap (λ l. l.passes) c.in-Ok.ensures.0 in
     subst (Has (map knows_of c.in_ok-passes.passes.items)) (zero-add k)
-    (has_each c.in-Ok.store 0 scripts c.in_ok-passes.passes.items c.in_ok-passes.ensures.served.0 k (omega (arith, below, count, limit, c.requires, c.args.scripts.ok.0)))
+    (has_each c.in-Ok.store 0 scripts c.in_ok-passes.passes.items c.in_ok-passes.ensures.served.0.0 k (omega (arith, below, count, limit, c.requires, c.args.scripts.ok.0)))
 
 pub returns-clause-raced : goal.returns-clause-raced
 returns-clause-raced g c =
@@ -36,14 +36,14 @@ returns-clause-raced g c =
         replies = replies;
         journal = journal;
         is = refl;
-        replied = subst (λ l. HaveReplied l journal 0 scripts replies) c.in-Ok.ensures.0 (c.in_ok-passes.ensures.served.1 journal c.close.ensures.passes);
+        replied = subst (λ l. HaveReplied l journal 0 scripts replies) c.in-Ok.ensures.0 (c.in_ok-passes.ensures.served.0.1 journal c.close.ensures.passes);
         legal = c.close.ensures.legal;
         by = subst (λ n. AreOfPasses n journal) passes c.close.ensures.by;
         own = λ k below. subst (λ n. IsPartOf (operations (by_pass n journal)) (write_ops (slice_index_or scripts k []))) (zero-add k)
-            (own_of c.in-Ok.store 0 scripts c.in_ok-passes.passes.items journal c.in_ok-passes.ensures.served.0 c.close.ensures.passes k below);
+            (own_of c.in-Ok.store 0 scripts c.in_ok-passes.passes.items journal c.in_ok-passes.ensures.served.0.0 c.close.ensures.passes k below);
         volumes = subst (λ (l : Limits). CanEncodeEach l.pages journal) c.in-Ok.ensures.0 c.close.ensures.volumes;
         passes = map knows_of c.in_ok-passes.passes.items;
-        served = subst (λ (l : Limits). AreServedBy l 0 scripts (map knows_of c.in_ok-passes.passes.items) replies) c.in-Ok.ensures.0 c.in_ok-passes.ensures.served.2;
+        served = subst (λ (l : Limits). AreServedBy l 0 scripts (map knows_of c.in_ok-passes.passes.items) replies) c.in-Ok.ensures.0 c.in_ok-passes.ensures.served.0.2;
         order = record {
           kept = c.close.ensures.passes;
           writes = c.close.ensures.writes;

@@ -8,4 +8,4 @@ returns-clause-walked g c = λ walks volume of.
     let reader = c.args.self.now.reader in
     let keys = c.args.keys in
     numbers_walked (g.L.Look.page_state reader.look) (g.L.Look.words reader.look) reader.page volume of.version keys.keys.name.now keys.keys.low.now (option_copied keys.keys.high) keys.descending
-    (cursor_bytes keys.cursor.now) c.way_of-way.result c.way_of-way.ensures c.args.most c.args.found.now.items c.numbers_in_order.new.found.items c.in_ok-numbers_in_order.ensures.added
+    (cursor_bytes keys.cursor.now) c.way_of.result c.way_of.ensures c.args.most c.args.found.now.items c.numbers_in_order.new.found.items c.in_ok-numbers_in_order.ensures.added

@@ -22,8 +22,8 @@ returns-clause-tested g c =
     let cursor = cursor_bytes keys.cursor.now in
     let nodes = c.passing_in_order.new.found.items in
     IfOk-weaker c.passing_in_order.result
-    (λ tested. tested ≡ true → HasPassing words (contents_of (words reader.page)).entries name c.way_of-way.result test c.args.most nodes)
+    (λ tested. tested ≡ true → HasPassing words (contents_of (words reader.page)).entries name c.way_of.result test c.args.most nodes)
     (λ tested. tested ≡ true → (volume : State) → SourceOf page_state words reader.page reader.known reader.cursor reader.place reader.last.0 reader.last.1 volume
     → HasWalked (IsPassing volume name low high test) keys.descending cursor c.args.most [] nodes)
-    (λ tested has e volume of. passing_walked page_state words reader.page volume of.version name low high test keys.descending cursor c.way_of-way.result c.way_of-way.ensures c.args.most nodes (has e))
+    (λ tested has e volume of. passing_walked page_state words reader.page volume of.version name low high test keys.descending cursor c.way_of.result c.way_of.ensures c.args.most nodes (has e))
     c.passing_in_order.ensures.passing

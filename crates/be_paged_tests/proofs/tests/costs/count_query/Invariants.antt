@@ -1,4 +1,4 @@
 use Rattle.be_paged_tests.proofs.tests.costs.count_query.Given as goal
 
-abbrev pub ghost-answer_pages : goal.ghost-answer_pages
-ghost-answer_pages a = a._plain.now
+abbrev pub ghost-count_answer : goal.ghost-count_answer
+ghost-count_answer a = a._plain.now

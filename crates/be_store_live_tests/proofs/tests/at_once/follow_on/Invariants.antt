@@ -5,5 +5,5 @@ use Rattle.be_store_live_tests.proofs.tests.at_once.follow_on.Given as goal
 abbrev pub invariant-loop : goal.invariant-loop
 invariant-loop l = record {
   reader : IsPassOf l.store l.reader;
-  own : IsLiveOf l.store l.live;
+  own : IsLiveOf l.store l.followed.live;
 }

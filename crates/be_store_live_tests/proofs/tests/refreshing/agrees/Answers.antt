@@ -8,4 +8,4 @@ refresh_changed-requires-clause-pinned c = (c.pin_if_not.result, c.pin_if_not.en
 
 pub unpin-requires-clause-pinned : goal.unpin-requires-clause-pinned
 unpin-requires-clause-pinned c =
-    (c.pin_if_not.result, ap (λ (k : Knowledge). pinned_number k.phase) c.query.ensures.pass.1 ∙ (ap pinned_number c.refresh_changed.ensures.learns.pin ∙ c.pin_if_not.ensures.pinned))
+    (c.pin_if_not.result, ap (λ (k : Knowledge). pinned_number k.phase) c.query-2.ensures.pass.1 ∙ (ap pinned_number c.refresh_changed.ensures.learns.pin ∙ c.pin_if_not.ensures.pinned))

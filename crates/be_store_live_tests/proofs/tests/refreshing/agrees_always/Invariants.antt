@@ -6,5 +6,5 @@ abbrev pub invariant-loop-round : goal.invariant-loop-round
 invariant-loop-round l = record {
   writer : IsPassOf l.store l.writer;
   reader : IsPassOf l.store l.reader;
-  own : IsLiveOf l.store l.live;
+  own : IsLiveOf l.store l.followed.live;
 }
