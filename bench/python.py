@@ -34,6 +34,8 @@ TEXTS = ("kind", "from", "to", "subject", "status")
 """The names of five attributes without an index."""
 SIZES = 100
 """How many nodes have the same size."""
+MOST = 15_000
+"""How many nodes a store has room for, with some to spare for writes."""
 SHOWN = 20
 """How many rows a page has, of three columns each."""
 
@@ -450,14 +452,14 @@ def made(nodes: int) -> List[Peer]:
 def main() -> None:
     parser = argparse.ArgumentParser(description=__doc__, formatter_class=argparse.RawDescriptionHelpFormatter)
     parser.add_argument("--rounds", type=int, default=5, help="how many rounds (5)")
-    parser.add_argument("--nodes", type=int, default=10_000, help="how many nodes (10,000), at least 100")
+    parser.add_argument("--nodes", type=int, default=10_000, help="how many nodes (10,000), from 100 to 15,000")
     parser.add_argument("--seconds", type=float, default=0.2, help="how long a case takes in a round (0.2)")
     parser.add_argument("--processor", action="store_true", help="take the processor's time instead of the clock's")
     parser.add_argument("--instructions", action="store_true", help="count instructions instead")
     parser.add_argument("--one", nargs=3, metavar=("PEER", "CASE", "COUNT"), help=argparse.SUPPRESS)
     options = parser.parse_args()
-    if options.nodes < SIZES or options.rounds < 1:
-        parser.error("at least 100 nodes and one round are needed")
+    if not SIZES <= options.nodes <= MOST or options.rounds < 1:
+        parser.error("from 100 to 15,000 nodes and at least one round are needed")
     if options.one:
         title, case, count = options.one
         asked = asked_of(peer := PEERS[title](options.nodes), case, options.nodes, MANY, random.Random(1))
