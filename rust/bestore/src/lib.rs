@@ -80,6 +80,7 @@ mod snapshot;
 mod store;
 mod succession;
 mod text;
+mod writes;
 
 pub use bestore_types::{
     caret, escape, Batch, Class, Cursor, CursorFault, Error, Hint, Kind, Limits, Node, Operation, Operations, Order,

@@ -4,6 +4,7 @@ use crate::raw::{Answer, RawDraft, RawPass, RawWitness};
 use crate::refused::of_write;
 use crate::store::Shared;
 use crate::succession::{Place, Seat, Succession};
+use crate::writes::writes_of_one_operation;
 use crate::{Batch, Change, Entries, Error, Kind, Limits, Result, Snapshot, Value, Written};
 use bestore_sys as sys;
 use bestore_types::raw::OPERATIONS;
@@ -603,29 +604,7 @@ impl Pass {
         Ok(self.apply(Batch::new().new_node())?.nodes[0])
     }
 
-    /// Removes the node and all its attributes.
-    ///
-    /// # Errors
-    /// The same errors as [`apply`](Self::apply).
-    pub fn remove_node(&self, node: u64) -> Result<()> {
-        self.apply(Batch::new().remove_node(node)).map(drop)
-    }
-
-    /// Sets the attribute.
-    ///
-    /// # Errors
-    /// The same errors as [`apply`](Self::apply).
-    pub fn set(&self, node: u64, name: &str, value: impl Into<Value>) -> Result<()> {
-        self.apply(Batch::new().set(node, name, value)).map(drop)
-    }
-
-    /// Removes the attribute.
-    ///
-    /// # Errors
-    /// The same errors as [`apply`](Self::apply).
-    pub fn unset(&self, node: u64, name: &str) -> Result<()> {
-        self.apply(Batch::new().unset(node, name)).map(drop)
-    }
+    writes_of_one_operation!();
 
     /// Creates an index. It holds the attributes of this name and kind that are set from then on. Use [`reindex`](Self::reindex) to add
     /// earlier ones.

@@ -3,6 +3,7 @@
 use super::snapshot::{at, roomiest};
 use super::{ShelfChange, ShelfSnapshot};
 use crate::pass::Waits;
+use crate::writes::writes_of_one_operation;
 use crate::{Batch, Error, Keeper, Kind, Node, Pass, Result, Retry, Status, Value};
 use std::sync::{Arc, Mutex};
 use std::thread;
@@ -204,29 +205,7 @@ impl ShelfPass {
         Ok(self.apply(Batch::new().new_node())?.nodes[0])
     }
 
-    /// Removes the node and all its attributes.
-    ///
-    /// # Errors
-    /// The same errors as [`apply`](Self::apply).
-    pub fn remove_node(&self, node: u64) -> Result<()> {
-        self.apply(Batch::new().remove_node(node)).map(drop)
-    }
-
-    /// Sets the attribute.
-    ///
-    /// # Errors
-    /// The same errors as [`apply`](Self::apply).
-    pub fn set(&self, node: u64, name: &str, value: impl Into<Value>) -> Result<()> {
-        self.apply(Batch::new().set(node, name, value)).map(drop)
-    }
-
-    /// Removes the attribute.
-    ///
-    /// # Errors
-    /// The same errors as [`apply`](Self::apply).
-    pub fn unset(&self, node: u64, name: &str) -> Result<()> {
-        self.apply(Batch::new().unset(node, name)).map(drop)
-    }
+    writes_of_one_operation!();
 
     /// Creates an index with this name for values of this kind in each volume, like [`ShelfSnapshot::make_index`] on a new snapshot.
     ///
