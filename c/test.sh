@@ -65,7 +65,7 @@ marked_helpers() {
 }
 
 # The tests, and the ones among them that start threads.
-tests=(test columns cursors ordered changes batches closing refreshes errors threads witness helpers texts query_texts bounds racing promises)
+tests=(test columns cursors ordered changes batches closing refreshes errors threads witness helpers texts query_texts bounds racing promises huge_pages)
 tests_cpp=(test helpers changes ordered racing)
 with_threads=(changes threads witness helpers racing promises)
 
