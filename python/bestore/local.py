@@ -21,11 +21,11 @@ from .errors import (
     encoded_query, no_index, refusal)
 from .nodes import name_missing
 from .operations import Batch
-from .pages import Cursor, Page
+from .pages import Cursor, Order, Page
 from .queries import Prepared, with_prepared
 from .store import PASSES, PAUSES, TRIES, Entry, Held, Pass, StandingBack, Status, Witness, pause_at_full
 from .values import RANGES, Kind, Typed, Value
-from .versions import Query, Row, Version
+from .versions import Asked, Query, Row, Version
 
 _Answered = TypeVar("_Answered", bound=Tuple[Any, ...])
 
@@ -77,27 +77,43 @@ class LocalVersion(_native.Reader, Version):
     def _first_of(self, asked: Query, start: int, limit: int) -> List[int]:
         if not isinstance(asked, (str, Prepared)):
             return super()._first_of(asked, start, limit)
-        most = min(limit, sys.maxsize)
-        return with_prepared(asked, lambda prepared: self._first(prepared, start, most) if start < 2**64 else [])
+        return with_prepared(asked, lambda prepared: self._first(prepared, start, limit, None) if start < 2**64 else [])
 
     def _any_of(self, asked: Query, limit: int) -> List[int]:
-        if not isinstance(asked, (str, Prepared)):
+        if isinstance(asked, Prepared):
+            return self._any(asked, limit)
+        if not isinstance(asked, str):
             return super()._any_of(asked, limit)
-        return with_prepared(asked, lambda prepared: self._any(prepared, min(limit, sys.maxsize)))
+        return with_prepared(asked, lambda prepared: self._any(prepared, limit))
 
-    def _page_after(self, asked: Prepared, after: Cursor, limit: Optional[int]) -> Page[int]:
-        order = after.order
-        most = sys.maxsize if limit is None else min(limit, sys.maxsize)
+    def _rows_of(self, query: Asked, names: List[str], first: int, most: int) -> List[Row]:
+        if most == 0 or first >= 2**64:
+            return super()._rows_of(query, names, first, most)
+        return with_prepared(query, lambda prepared: self._first(prepared, first, most, names))
+
+    def _page_of(self, asked: Asked, order: Order, after: Optional[Cursor], limit: Optional[int]) -> Page[int]:
+        return self._page_with(asked, order, after, limit, None)
+
+    def _page_of_rows(self, query: Asked, names: List[str], order: Order, after: Optional[Cursor], most: int) -> Page[Row]:
+        return self._page_with(query, order, after, most, names)
+
+    def _page_with(
+            self, asked: Asked, order: Order, after: Optional[Cursor], limit: Optional[int], names: Optional[List[str]]) -> Page[Any]:
+        """Returns a page of nodes, or of rows if there are names."""
+        if isinstance(asked, str):
+            return with_prepared(asked, lambda prepared: self._page_with(prepared, order, after, limit, names))
+        check, kind, key = asked._check, 0, b""
+        if after is not None:
+            after.check_fits(order, check)
+            kind, key = after.kind or 0, after.key
         try:
-            nodes, more, kind, key = self._page(asked, encoded(order.by), order.descending, after.kind or 0, after.key, most)
+            return self._page(asked, order, check, kind, key, limit, names)
         except NoIndex:
             raise no_index(order.by, self.indices()) from None
         except BadCursor:
+            if after is None:
+                raise
             raise after.of_other_kind(self._order_kind(order.by)) from None
-        return Page(nodes, more, (order, asked._check, kind, key))
-
-    def _with_columns(self, nodes: List[int], names: List[str]) -> List[Row]:
-        return self._rows(nodes, names)
 
     def _query_error(self, answer: int, carried: int, asked: Query) -> Refusal:
         """Returns the error for a query, with its details."""
@@ -349,7 +365,7 @@ class LocalPass(HandleOwner, Pass):
         return Status(usage.pages, usage.free, usage.retired, usage.entries, usage.commits, oldest)
 
 
-_native.know(user=LocalPass)
+_native.know(user=LocalPass, page=Page)
 
 
 def open(pages: int = 4096, passes: int = PASSES, commits: int = 2**32 - 1) -> LocalPass:

@@ -90,14 +90,6 @@ static bool read_name(PyObject *object, Collected *it)
     return true;
 }
 
-static bool has_arguments(Py_ssize_t given, Py_ssize_t wanted)
-{
-    if (given == wanted)
-        return true;
-    PyErr_Format(PyExc_TypeError, "the call takes %zd arguments, and %zd were given", wanted, given);
-    return false;
-}
-
 static PyObject *none_if(bool is_done) { return is_done ? Py_NewRef(Py_None) : NULL; }
 
 PyObject *reader_take_any_kind(PyObject *self, PyObject *nothing)

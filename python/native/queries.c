@@ -30,6 +30,7 @@ typedef struct Asked {
     const uint8_t *bytes;
     size_t count, length;
     Part *part;
+    PyObject *names;  /* for rows: the list of their columns' names; NULL for nodes */
     PyObject *source; /* the query that an error refers to */
 } Asked;
 
@@ -204,30 +205,36 @@ static PyObject *query_refused(Reader *reader, uint32_t answer, uint64_t carried
     return NULL;
 }
 
-/* Returns the nodes that a query finds, or their number. */
+/* Returns the nodes that a query found or their number, or raises its error. */
+static PyObject *found_by(Reader *reader, const Asked *asked, bool wants_nodes, uint32_t answer, const Result *it)
+{
+    if (answer != BES_OK)
+        return query_refused(reader, answer, it->count, asked);
+    return wants_nodes ? list_of(it->nodes, (size_t)it->count) : PyLong_FromUnsignedLongLong(it->count);
+}
+
+/* Returns the nodes that a query finds, their rows, or their number. The rows are read before another thread can use the pass. */
 static PyObject *answered(Reader *reader, const Asked *asked, bool wants_nodes)
 {
     Handle *user;
     Result it;
     uint32_t answer = 0;
-    bool is_done;
-    PyObject *found;
+    bool is_done, has_rows;
+    PyObject *found = NULL;
     if (asked->prepared != NULL && !enter(asked->prepared))
         return NULL;
     user = enter_pinned(reader);
     is_done = user != NULL && ask(user, reader->most, asked, wants_nodes, &it, &answer);
-    if (user != NULL)
-        leave(user);
     if (asked->prepared != NULL)
         leave(asked->prepared);
     if (user == NULL)
         return NULL;
-    if (!is_done)
-        found = NULL;
-    else if (answer != BES_OK)
-        found = query_refused(reader, answer, it.count, asked);
-    else
-        found = wants_nodes ? list_of(it.nodes, (size_t)it.count) : PyLong_FromUnsignedLongLong(it.count);
+    has_rows = is_done && answer == BES_OK && asked->names != NULL;
+    if (has_rows)
+        found = rows_of(reader, it.nodes, (size_t)it.count, asked->names);
+    leave(user);
+    if (is_done && !has_rows)
+        found = found_by(reader, asked, wants_nodes, answer, &it);
     if (it.nodes != NULL)
         give_back(user, &it);
     return found;
@@ -350,68 +357,105 @@ PyObject *reader_count_items(PyObject *self, PyObject *arguments)
     return read_items(arguments, &asked) ? answered((Reader *)self, &asked, false) : NULL;
 }
 
-/* Returns part of a prepared query's answer. */
-static PyObject *answered_part(PyObject *self, PyObject *prepared, Part *part)
+/* Returns part of a prepared query's answer: nodes, or rows if `names` isn't None. */
+static PyObject *answered_part(PyObject *self, PyObject *prepared, PyObject *names, Part *part)
 {
     Asked asked;
     if (!read_prepared(prepared, &asked))
         return NULL;
+    if (names != Py_None && !PyList_Check(names))
+        return PyErr_Format(PyExc_TypeError, "%R isn't a list of names", names);
     asked.part = part;
+    asked.names = names == Py_None ? NULL : names;
     return answered((Reader *)self, &asked, true);
 }
 
-PyObject *reader_first(PyObject *self, PyObject *arguments)
+/* Reads a limit. None, and a limit that is too large for a list, mean the longest list. */
+static bool read_limit(PyObject *limit, size_t *most)
 {
-    PyObject *prepared;
-    unsigned long long from;
-    Py_ssize_t limit;
-    if (!PyArg_ParseTuple(arguments, "OKn", &prepared, &from, &limit))
-        return NULL;
-    return answered_part(self, prepared, &(Part){ .how = FROM_NUMBER, .limit = (size_t)limit, .from = from });
+    Py_ssize_t number = limit == Py_None ? PY_SSIZE_T_MAX : PyNumber_AsSsize_t(limit, NULL);
+    *most = (size_t)number;
+    return number >= 0;
 }
 
-PyObject *reader_any(PyObject *self, PyObject *arguments)
+PyObject *reader_first(PyObject *self, PyObject *const *given, Py_ssize_t count)
 {
-    PyObject *prepared;
-    Py_ssize_t limit;
-    if (!PyArg_ParseTuple(arguments, "On", &prepared, &limit))
+    Part part;
+    part.how = FROM_NUMBER;
+    if (!has_arguments(count, 4) || !read_number(given[1], &part.from) || !read_limit(given[2], &part.limit))
         return NULL;
-    return answered_part(self, prepared, &(Part){ .how = ANY, .limit = (size_t)limit });
+    return answered_part(self, given[0], given[3], &part);
 }
 
-/* Reads the arguments for a page: the query, the index's name, the direction, where the page begins, and the maximum number of
- * nodes. */
-static bool read_page(PyObject *arguments, PyObject **prepared, Part *part)
+PyObject *reader_any(PyObject *self, PyObject *const *given, Py_ssize_t count)
 {
-    const char *name, *key;
-    Py_ssize_t length, key_length, limit;
-    int descending;
+    Part part;
+    part.how = ANY;
+    if (!has_arguments(count, 2) || !read_limit(given[1], &part.limit))
+        return NULL;
+    return answered_part(self, given[0], Py_None, &part);
+}
+
+/* Reads an order, which is a pair of an index's name and whether it is descending. */
+static bool read_order(PyObject *order, Part *part)
+{
+    const uint8_t *name;
+    size_t length;
     uint32_t answer;
-    *part = (Part){ .how = IN_ORDER };
-    if (!PyArg_ParseTuple(arguments, "Oy#pIy#n", prepared, &name, &length, &descending, &part->cursor.kind, &key, &key_length, &limit))
-        return false;
-    answer = library.check_name((const uint8_t *)name, (size_t)length, &part->by);
-    if (answer == BES_OK && (size_t)key_length > sizeof part->cursor.key)
-        answer = BES_BAD_CURSOR;
-    if (answer != BES_OK) {
-        refused(answer);
+    int descending;
+    if (!PyTuple_Check(order) || PyTuple_Size(order) != 2) {
+        PyErr_Format(PyExc_TypeError, "%R isn't an order", order);
         return false;
     }
+    descending = PyObject_IsTrue(PyTuple_GetItem(order, 1));
+    if (descending < 0 || !read_text(PyTuple_GetItem(order, 0), &name, &length))
+        return false;
     part->descending = (uint32_t)descending;
-    part->cursor.length = (uint32_t)key_length;
-    memcpy(part->cursor.key, key, (size_t)key_length);
-    part->limit = (size_t)limit;
+    answer = library.check_name(name, length, &part->by);
+    return answer == BES_OK || refused(answer) != NULL;
+}
+
+/* Reads where a page begins: the kind and the key of its cursor. */
+static bool read_position(PyObject *kind, PyObject *bytes, bes_cursor *cursor)
+{
+    uint64_t number;
+    char *key;
+    Py_ssize_t length;
+    if (!read_number(kind, &number) || PyBytes_AsStringAndSize(bytes, &key, &length) < 0)
+        return false;
+    if ((size_t)length > sizeof cursor->key)
+        return refused(BES_BAD_CURSOR) != NULL;
+    *cursor = (bes_cursor){ .kind = (uint32_t)number, .length = (uint32_t)length };
+    memcpy(cursor->key, key, (size_t)length);
     return true;
 }
 
-PyObject *reader_page(PyObject *self, PyObject *arguments)
+/* Makes a page of these items, as the package's class does. Its cursor is made from the position when it is asked for. */
+static PyObject *page_of(PyObject *items, const Part *part, PyObject *order, PyObject *check)
 {
-    PyObject *prepared, *nodes;
+    PyObject *page = PyType_GenericNew((PyTypeObject *)known.page, NULL, NULL);
+    PyObject *position = Py_BuildValue("(OOIy#)", order, check, part->cursor.kind, (const char *)part->cursor.key,
+                                       (Py_ssize_t)part->cursor.length);
+    if (page == NULL || position == NULL || PyList_SetSlice(page, 0, 0, items) < 0 ||
+        PyObject_SetAttrString(page, "more", part->more ? Py_True : Py_False) < 0 ||
+        PyObject_SetAttrString(page, "_position", position) < 0)
+        Py_CLEAR(page);
+    Py_XDECREF(position);
+    return page;
+}
+
+PyObject *reader_page(PyObject *self, PyObject *const *given, Py_ssize_t count)
+{
+    PyObject *items, *page;
     Part part;
-    if (!read_page(arguments, &prepared, &part) || (nodes = answered_part(self, prepared, &part)) == NULL)
+    part.how = IN_ORDER;
+    part.more = 0;
+    if (!has_arguments(count, 7) || !read_order(given[1], &part) || !read_position(given[3], given[4], &part.cursor) ||
+        !read_limit(given[5], &part.limit) || (items = answered_part(self, given[0], given[6], &part)) == NULL)
         return NULL;
-    return Py_BuildValue("(NOIy#)", nodes, part.more ? Py_True : Py_False, part.cursor.kind, (const char *)part.cursor.key,
-                         (Py_ssize_t)part.cursor.length);
+    page = page_of(items, &part, given[1], given[2]);
+    Py_DECREF(items);
+    return page;
 }
 
 /* What a refresh found: how many nodes joined and left, and the nodes themselves. */

@@ -364,11 +364,13 @@ static PyMethodDef methods[] = {
     { "_read", METHOD(reader_read), "A node's attribute with its kind. Raises `NoAttribute` if there is none." },
     { "_value", METHOD(reader_value), "A node's attribute. Raises `NoAttribute` if there is none." },
     { "_query_items", reader_query_items, METH_VARARGS, "The nodes that meet a query of encoded items." },
-    { "_page", reader_page, METH_VARARGS,
-      "A page of a prepared query: its nodes, whether there are more, and the kind and the key of the last one." },
-    { "_rows", reader_rows, METH_VARARGS, "The nodes with their attributes of the names in a list: pairs of a node and a list of values." },
-    { "_first", reader_first, METH_VARARGS, "The first nodes that meet a prepared query, from a number on." },
-    { "_any", reader_any, METH_VARARGS, "Any nodes that meet a prepared query." },
+    { "_page", FAST(reader_page),
+      "A page of a prepared query, given the query, its order, what its cursors remember of it, the kind and the key of the\n"
+      "position, a limit or None, and for a page of rows a list of names, otherwise None." },
+    { "_first", FAST(reader_first),
+      "The first nodes that meet a prepared query, from a number on, up to a limit; with a list of names instead of None, their\n"
+      "rows." },
+    { "_any", FAST(reader_any), "Any nodes that meet a prepared query, up to a limit." },
     { "_count_items", reader_count_items, METH_VARARGS, "How many nodes there are." },
     { "_nodes_from", reader_nodes_from, METH_VARARGS, "Up to this many nodes from a number on, in one call." },
     { "_state", reader_state, METH_O, "The next of the batches that rebuild the snapshot, or None at their end." },

@@ -23,9 +23,9 @@ Handle *enter_pinned(Reader *reader);
 PyObject *reader_query(PyObject *self, PyObject *const *given, Py_ssize_t count, PyObject *names);
 PyObject *reader_query_items(PyObject *self, PyObject *arguments);
 PyObject *reader_query_prepared(PyObject *self, PyObject *const *given, Py_ssize_t count, PyObject *names);
-PyObject *reader_page(PyObject *self, PyObject *arguments);
-PyObject *reader_first(PyObject *self, PyObject *arguments);
-PyObject *reader_any(PyObject *self, PyObject *arguments);
+PyObject *reader_page(PyObject *self, PyObject *const *given, Py_ssize_t count);
+PyObject *reader_first(PyObject *self, PyObject *const *given, Py_ssize_t count);
+PyObject *reader_any(PyObject *self, PyObject *const *given, Py_ssize_t count);
 PyObject *reader_count(PyObject *self, PyObject *const *given, Py_ssize_t count, PyObject *names);
 PyObject *reader_count_items(PyObject *self, PyObject *arguments);
 PyObject *reader_refresh(PyObject *self, PyObject *const *given, Py_ssize_t count, PyObject *names);
@@ -46,6 +46,8 @@ PyObject *reader_end_change(PyObject *self, PyObject *nothing);
 
 PyObject *reader_column(PyObject *self, PyObject *const *given, Py_ssize_t count, PyObject *names);
 PyObject *reader_columns(PyObject *self, PyObject *const *given, Py_ssize_t count, PyObject *names);
-PyObject *reader_rows(PyObject *self, PyObject *arguments);
+
+/* Returns these nodes with their values for a list of names: pairs of a node and a list. The caller must have the pass. */
+PyObject *rows_of(Reader *reader, const uint64_t *nodes, size_t count, PyObject *names);
 
 #endif
