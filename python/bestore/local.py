@@ -91,17 +91,14 @@ class LocalVersion(_native.Reader, Version):
             return super()._rows_of(query, names, first, most)
         return with_prepared(query, lambda prepared: self._first(prepared, first, most, names))
 
-    def _page_of(self, asked: Asked, order: Order, after: Optional[Cursor], limit: Optional[int]) -> Page[int]:
-        return self._page_with(asked, order, after, limit, None)
-
     def _page_of_rows(self, query: Asked, names: List[str], order: Order, after: Optional[Cursor], most: int) -> Page[Row]:
-        return self._page_with(query, order, after, most, names)
+        return self._page_of(query, order, after, most, names)
 
-    def _page_with(
-            self, asked: Asked, order: Order, after: Optional[Cursor], limit: Optional[int], names: Optional[List[str]]) -> Page[Any]:
+    def _page_of(self, asked: Asked, order: Order, after: Optional[Cursor], limit: Optional[int],
+                 names: Optional[List[str]] = None) -> Page[Any]:
         """Returns a page of nodes, or of rows if there are names."""
         if isinstance(asked, str):
-            return with_prepared(asked, lambda prepared: self._page_with(prepared, order, after, limit, names))
+            return with_prepared(asked, lambda prepared: self._page_of(prepared, order, after, limit, names))
         check, kind, key = asked._check, 0, b""
         if after is not None:
             after.check_fits(order, check)
@@ -248,21 +245,24 @@ class LocalPass(HandleOwner, Pass):
             raise refusal(answer, number, listed="operation")
         return number, made
 
+    def _begin_change(self, check_kinds: bool, volume: Optional[int]) -> Change:
+        check_one_volume(volume)
+        return LocalChange(LocalVersion(self), check_kinds)
+
     def _change_on(self, version: Version, check_kinds: bool) -> Change:
         assert isinstance(version, LocalVersion)
         return LocalChange(version, check_kinds)
 
     def _commit(self, change: Change) -> int:
         assert isinstance(change, LocalChange)
-        version, batch = change._snapshot, change._collected()
-        answer, number = version._end_change()
-        version.unpin()
+        version = change._snapshot
+        answer, number, batch = version._end_change()
         if answer == 0:
             return number
         error = refusal(answer, number, listed="operation")
         if isinstance(error, Conflict):
             error.expected = version.number
-        elif isinstance(error, (NoNode, NoAttribute)):
+        elif isinstance(error, (NoNode, NoAttribute)) and batch is not None:
             name_missing(error, batch)
         raise error
 

@@ -284,9 +284,11 @@ class Pass(Owner, ABC):
 
         Raises `TooManyAttempts` if another write came first on every attempt; `Pinned` if this pass is pinned; `Nested` if the
         function writes through this pass; and the errors of `apply`. `Change.set` explains `check_kinds`."""
-        waits, left = _Waits(self, tries), max(attempts, 1)
+        waits: Optional[_Waits] = None
+        left = max(attempts, 1)
         while True:
-            with self._begin_change(check_kinds, volume) as change:
+            change = self._begin_change(check_kinds, volume)
+            try:
                 result = self._run(function, change)
                 if change._count == 0:
                     return result
@@ -296,9 +298,12 @@ class Pass(Owner, ABC):
                     return result
                 except (Conflict, Busy, Full) as error:
                     failed = error
+            finally:
+                change.unpin()
             left -= 1
             if left == 0 and isinstance(failed, Conflict):
                 raise TooManyAttempts(max(attempts, 1)) from failed
+            waits = waits or _Waits(self, tries)
             if left == 0 or not waits.wait_after(failed):
                 raise failed
 

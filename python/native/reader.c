@@ -204,6 +204,13 @@ static PyObject *reader_call(PyObject *self, PyObject *const *arguments, Py_ssiz
     return result;
 }
 
+void unpin_reader(Reader *reader)
+{
+    abandon_draft(reader);
+    reader->is_pinned = false;
+    unpin(reader->user);
+}
+
 static PyObject *reader_unpin(PyObject *self, PyObject *nothing)
 {
     Reader *reader = (Reader *)self;
@@ -212,11 +219,8 @@ static PyObject *reader_unpin(PyObject *self, PyObject *nothing)
         Py_RETURN_NONE;
     if (!enter(reader->user))
         return NULL;
-    if (reader->is_pinned) {
-        abandon_draft(reader);
-        reader->is_pinned = false;
-        unpin(reader->user);
-    }
+    if (reader->is_pinned)
+        unpin_reader(reader);
     leave(reader->user);
     Py_RETURN_NONE;
 }
@@ -270,6 +274,7 @@ static int reader_init(PyObject *self, PyObject *arguments, PyObject *names)
 static int reader_clear(PyObject *self)
 {
     give_pin_up((Reader *)self);
+    Py_CLEAR(((Reader *)self)->batch);
     Py_CLEAR(((Reader *)self)->user);
     return 0;
 }
@@ -278,6 +283,7 @@ static int reader_traverse(PyObject *self, visitproc visit, void *arg)
 {
     Py_VISIT(Py_TYPE(self));
     Py_VISIT(((Reader *)self)->user);
+    Py_VISIT(((Reader *)self)->batch);
     return 0;
 }
 
@@ -311,8 +317,9 @@ static PyObject *get_is_pinned(PyObject *self, void *nothing)
 
 static PyObject *get_count(PyObject *self, void *nothing)
 {
+    const Batch *batch = ((Reader *)self)->batch;
     (void)nothing;
-    return PyLong_FromSize_t(((Reader *)self)->count);
+    return PyLong_FromSize_t(batch == NULL ? 0 : batch->count);
 }
 
 #define FAST(function) (PyCFunction)(void (*)(void))function, METH_FASTCALL
@@ -383,8 +390,8 @@ static PyMethodDef methods[] = {
     { "_remove_index", reader_remove_index, METH_O, "Collects: removes an index." },
     { "_collected", reader_collected, METH_NOARGS, "The batch of what has been collected, in which new nodes have their numbers." },
     { "_end_change", reader_end_change, METH_NOARGS,
-      "Writes what was collected, if nothing was written since this snapshot: the library's result, and the commit\n"
-      "number or what goes with the error. Nothing is collected then." },
+      "Writes what was collected, if nothing was written since this snapshot, and unpins it: the library's result, the commit\n"
+      "number or what goes with the error, and the batch that was collected, or None." },
     { "_call", FAST(reader_call), "Makes a call on the pass while it has this pin, and not a later one." },
     { NULL, NULL, 0, NULL },
 };
