@@ -82,9 +82,9 @@ class LocalVersion(_native.Reader, Version):
     def _any_of(self, asked: Query, limit: int) -> List[int]:
         if isinstance(asked, Prepared):
             return self._any(asked, limit)
-        if not isinstance(asked, str):
-            return super()._any_of(asked, limit)
-        return with_prepared(asked, lambda prepared: self._any(prepared, limit))
+        if isinstance(asked, str):
+            return with_prepared(asked, lambda prepared: self._any(prepared, limit))
+        return super()._any_of(asked, limit)
 
     def _rows_of(self, query: Asked, names: List[str], first: int, most: int) -> List[Row]:
         if most == 0 or first >= 2**64:
@@ -246,7 +246,8 @@ class LocalPass(HandleOwner, Pass):
         return number, made
 
     def _begin_change(self, check_kinds: bool, volume: Optional[int]) -> Change:
-        check_one_volume(volume)
+        if volume:
+            check_one_volume(volume)
         return LocalChange(LocalVersion(self), check_kinds)
 
     def _change_on(self, version: Version, check_kinds: bool) -> Change:
@@ -286,7 +287,8 @@ class LocalPass(HandleOwner, Pass):
         return (self._store,)
 
     def _wake(self) -> None:
-        self._store.wake()
+        if self._store._waiting:
+            self._store.wake()
 
     def set(self, node: int, name: str, value: Value, kind: Optional[int] = None) -> None:
         if self._set(node, name, value, kind):

@@ -289,7 +289,11 @@ class Pass(Owner, ABC):
         while True:
             change = self._begin_change(check_kinds, volume)
             try:
-                result = self._run(function, change)
+                self._is_changing = True
+                try:
+                    result = function(change)
+                finally:
+                    self._is_changing = False
                 if change._count == 0:
                     return result
                 try:
@@ -322,14 +326,6 @@ class Pass(Owner, ABC):
         """Writes what a change has collected, if nothing else has been written to its volume since its snapshot, and unpins
         that snapshot. Returns the commit number. Doesn't wait, but raises `Busy` immediately if another pass is writing, and
         `Full` if no page is free."""
-
-    def _run(self, function: Callable[[Change], _Result], change: Change) -> _Result:
-        """Runs a change's function."""
-        self._is_changing = True
-        try:
-            return function(change)
-        finally:
-            self._is_changing = False
 
     def _may_be_given_pages(self, error: Full) -> bool:
         """Returns whether pages may become free for a write that found no free page, because another pass can still unpin its snapshot."""

@@ -430,15 +430,24 @@ static bool read_position(PyObject *kind, PyObject *bytes, bes_cursor *cursor)
     return true;
 }
 
+/* Sets an attribute whose name is kept as an object from the first call on. */
+static bool set_attribute(PyObject *object, PyObject **name, const char *text, PyObject *value)
+{
+    if (*name == NULL)
+        *name = PyUnicode_InternFromString(text);
+    return *name != NULL && PyObject_SetAttr(object, *name, value) == 0;
+}
+
 /* Makes a page of these items, as the package's class does. Its cursor is made from the position when it is asked for. */
 static PyObject *page_of(PyObject *items, const Part *part, PyObject *order, PyObject *check)
 {
+    static PyObject *more_name, *position_name;
     PyObject *page = PyType_GenericNew((PyTypeObject *)known.page, NULL, NULL);
     PyObject *position = Py_BuildValue("(OOIy#)", order, check, part->cursor.kind, (const char *)part->cursor.key,
                                        (Py_ssize_t)part->cursor.length);
     if (page == NULL || position == NULL || PyList_SetSlice(page, 0, 0, items) < 0 ||
-        PyObject_SetAttrString(page, "more", part->more ? Py_True : Py_False) < 0 ||
-        PyObject_SetAttrString(page, "_position", position) < 0)
+        !set_attribute(page, &more_name, "more", part->more ? Py_True : Py_False) ||
+        !set_attribute(page, &position_name, "_position", position))
         Py_CLEAR(page);
     Py_XDECREF(position);
     return page;
