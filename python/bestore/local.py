@@ -22,7 +22,7 @@ from .errors import (
 from .nodes import name_missing
 from .operations import Batch
 from .pages import Cursor, Order, Page
-from .queries import Prepared, with_prepared
+from .queries import Prepared, prepare
 from .store import PASSES, PAUSES, TRIES, Entry, Held, Pass, StandingBack, Status, Witness, pause_at_full
 from .values import RANGES, Kind, Typed, Value
 from .versions import Asked, Query, Row, Version
@@ -53,8 +53,6 @@ class LocalVersion(_native.Reader, Version):
     """A version of a store in this process. The extension implements most of its calls."""
 
     _user: LocalPass
-    _query_part = Version.query
-    _query_prepared_part = Version.query_prepared
 
     @property
     def next_node(self) -> int:
@@ -75,21 +73,28 @@ class LocalVersion(_native.Reader, Version):
         return self._count_items(asked, *encode_items(asked))
 
     def _first_of(self, asked: Query, start: int, limit: int) -> List[int]:
-        if not isinstance(asked, (str, Prepared)):
-            return super()._first_of(asked, start, limit)
-        return with_prepared(asked, lambda prepared: self._first(prepared, start, limit, None) if start < 2**64 else [])
+        if isinstance(asked, Prepared):
+            return self._first(asked, start, limit, None) if start < 2**64 else []
+        if isinstance(asked, str):
+            with prepare(asked) as prepared:
+                return self._first_of(prepared, start, limit)
+        return super()._first_of(asked, start, limit)
 
     def _any_of(self, asked: Query, limit: int) -> List[int]:
         if isinstance(asked, Prepared):
             return self._any(asked, limit)
         if isinstance(asked, str):
-            return with_prepared(asked, lambda prepared: self._any(prepared, limit))
+            with prepare(asked) as prepared:
+                return self._any(prepared, limit)
         return super()._any_of(asked, limit)
 
     def _rows_of(self, query: Asked, names: List[str], first: int, most: int) -> List[Row]:
-        if most == 0 or first >= 2**64:
-            return super()._rows_of(query, names, first, most)
-        return with_prepared(query, lambda prepared: self._first(prepared, first, most, names))
+        if isinstance(query, Prepared) and most != 0 and first < 2**64:
+            return self._first(query, first, most, names)
+        if isinstance(query, str) and most != 0:
+            with prepare(query) as prepared:
+                return self._rows_of(prepared, names, first, most)
+        return super()._rows_of(query, names, first, most)
 
     def _page_of_rows(self, query: Asked, names: List[str], order: Order, after: Optional[Cursor], most: int) -> Page[Row]:
         return self._page_of(query, order, after, most, names)
@@ -98,7 +103,8 @@ class LocalVersion(_native.Reader, Version):
                  names: Optional[List[str]] = None) -> Page[Any]:
         """Returns a page of nodes, or of rows if there are names."""
         if isinstance(asked, str):
-            return with_prepared(asked, lambda prepared: self._page_of(prepared, order, after, limit, names))
+            with prepare(asked) as prepared:
+                return self._page_of(prepared, order, after, limit, names)
         check, kind, key = asked._check, 0, b""
         if after is not None:
             after.check_fits(order, check)

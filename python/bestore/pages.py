@@ -40,6 +40,11 @@ class Order(NamedTuple):
         return f'"{self.by}" {"descending" if self.descending else "ascending"}'
 
 
+def order_by(by: str, descending: object) -> Order:
+    """Returns an order. Each page needs one, and this takes a fraction of the constructor's time."""
+    return tuple.__new__(Order, (by, bool(descending)))
+
+
 def check_of(text: str) -> int:
     """Returns what a cursor remembers about a query: the CRC-32 of the query's canonical text."""
     return zlib.crc32(text.encode())

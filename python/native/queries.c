@@ -274,61 +274,46 @@ static bool read_items(PyObject *arguments, Asked *asked)
     return true;
 }
 
-static const Signature of_text = { "query", { "text" }, 1, 1 };
-static const Signature of_prepared = { "query_prepared", { "prepared" }, 1, 1 };
+static const Signature of_text = { "query", { "text", "by", "descending", "limit", "after", "start" }, 6, 1 };
+static const Signature of_prepared = { "query_prepared", { "prepared", "by", "descending", "limit", "after", "start" }, 6, 1 };
 static const Signature of_count = { "count", { "query" }, 1, 1 };
 static const Signature of_refresh = { "refresh", { "prepared" }, 1, 1 };
 
-/* Returns a call's named arguments as a dict. */
-static PyObject *named(PyObject *const *given, PyObject *names)
+/* Calls the package's method that returns part of an answer, with all arguments. */
+static PyObject *part_by(PyObject *self, PyObject *const *read)
 {
-    PyObject *dict = PyDict_New();
-    Py_ssize_t count = names == NULL ? 0 : PyTuple_Size(names);
-    for (Py_ssize_t at = 0; dict != NULL && at < count; at++)
-        if (PyDict_SetItem(dict, PyTuple_GetItem(names, at), given[at]) < 0)
-            Py_CLEAR(dict);
-    return dict;
+    static PyObject *name;
+    PyObject *start = read[5] == NULL ? PyLong_FromLong(0) : Py_NewRef(read[5]), *part = NULL;
+    PyObject *some[4];
+    for (int at = 0; at < 4; at++)
+        some[at] = read[1 + at] == NULL ? at == 1 ? Py_False : Py_None : read[1 + at];
+    if (name == NULL)
+        name = PyUnicode_InternFromString("_part_of");
+    if (start != NULL && name != NULL)
+        part = PyObject_CallMethodObjArgs(self, name, read[0], some[0], some[1], some[2], some[3], start, NULL);
+    Py_XDECREF(start);
+    return part;
 }
 
-/* Forwards a call to the package's method, which does the same but has more parameters. */
-static PyObject *forward(
-    PyObject *self, const char *method, PyObject *const *given, Py_ssize_t count, PyObject *names)
-{
-    PyObject *call = PyObject_GetAttrString(self, method), *arguments = PyTuple_New(count), *result = NULL;
-    PyObject *others = named(given + count, names);
-    for (Py_ssize_t at = 0; arguments != NULL && at < count; at++)
-        PyTuple_SetItem(arguments, at, Py_NewRef(given[at]));
-    if (call != NULL && arguments != NULL && others != NULL)
-        result = PyObject_Call(call, arguments, others);
-    Py_XDECREF(call);
-    Py_XDECREF(arguments);
-    Py_XDECREF(others);
-    return result;
-}
-
-/* Returns whether a call has arguments besides the query, and so requests part of the answer. */
-static bool asks_part(Py_ssize_t count, PyObject *names)
-{
-    return count + (names == NULL ? 0 : PyTuple_Size(names)) > 1;
-}
-
-/* Returns the nodes that a query finds. If there are other arguments, the package's method `part` handles the call. */
+/* Returns the nodes that a query finds. If there are other arguments, which have names, the package handles the call. */
 static PyObject *query_by(
     PyObject *self, PyObject *const *given, Py_ssize_t count, PyObject *names, const Signature *signature,
-    bool (*read)(PyObject *, Asked *), const char *part)
+    bool (*read_asked)(PyObject *, Asked *))
 {
-    PyObject *query;
+    PyObject *read[6];
     Asked asked;
-    if (asks_part(count, names))
-        return forward(self, part, given, count, names);
-    if (!read_arguments(signature, given, count, names, &query) || !read(query, &asked))
+    if (!read_arguments(signature, given, count, names, read))
         return NULL;
-    return answered((Reader *)self, &asked, true);
+    if (count > 1)
+        return PyErr_Format(PyExc_TypeError, "%s() takes 1 argument without a name, and %zd were given", signature->function, count);
+    if (names != NULL && (count == 1 || PyTuple_Size(names) > 1))
+        return part_by(self, read);
+    return read_asked(read[0], &asked) ? answered((Reader *)self, &asked, true) : NULL;
 }
 
 PyObject *reader_query(PyObject *self, PyObject *const *given, Py_ssize_t count, PyObject *names)
 {
-    return query_by(self, given, count, names, &of_text, read_query, "_query_part");
+    return query_by(self, given, count, names, &of_text, read_query);
 }
 
 PyObject *reader_query_items(PyObject *self, PyObject *arguments)
@@ -339,7 +324,7 @@ PyObject *reader_query_items(PyObject *self, PyObject *arguments)
 
 PyObject *reader_query_prepared(PyObject *self, PyObject *const *given, Py_ssize_t count, PyObject *names)
 {
-    return query_by(self, given, count, names, &of_prepared, read_prepared, "_query_prepared_part");
+    return query_by(self, given, count, names, &of_prepared, read_prepared);
 }
 
 PyObject *reader_count(PyObject *self, PyObject *const *given, Py_ssize_t count, PyObject *names)
