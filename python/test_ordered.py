@@ -1,8 +1,10 @@
 """Pages in an index's order agree with the whole answer, sorted and cut, both in a store and in a shelf."""
 
+import pickle
 import random
 import threading
 import unittest
+from dataclasses import replace
 
 import bestore
 from bestore.pages import Cursor, Order, Page, check_of
@@ -319,7 +321,10 @@ class Cursors(unittest.TestCase):
             for value in VALUES[name]:
                 cursor = Cursor(Order("n" * 63), 7, kind, value, 2**64 - 1)
                 self.assertEqual(Cursor.parse(str(cursor)), cursor)
-                self.assertEqual(Cursor.of_key(cursor.order, 7, kind, cursor.key), cursor)
+                known = Cursor.of_key(cursor.order, 7, kind, cursor.key)
+                self.assertEqual((known, known.key, hash(known)), (cursor, cursor.key, hash(cursor)))
+                self.assertEqual(pickle.loads(pickle.dumps(known)), cursor)
+                self.assertEqual(replace(known, node=5).key, cursor.key[:-8] + (5).to_bytes(8, "big"))
         beginning = Cursor(Order("n"), 7)
         self.assertEqual(Cursor.parse(str(beginning)), beginning)
 
