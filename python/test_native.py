@@ -158,6 +158,8 @@ class Arguments(unittest.TestCase):
                     lambda: version.get(1), lambda: version.get(1, "k", 2), lambda: version.get(1, "k", name="k"),
                     lambda: version.get(1, "k", other=1), lambda: version.get("1", "k"), lambda: version.get(1, 5),
                     lambda: version.query(5), lambda: version.count(5), lambda: version.query_prepared(store),
+                    lambda: version.query("k == 1", "k"), lambda: version.query(by="k"), lambda: version.query("k == 1", text="k"),
+                    lambda: version.query("k == 1", by="k", other=1), lambda: version.query_prepared(query, None, by="k"),
                     lambda: version.refresh(store), lambda: version.query_prepared("k==1"), lambda: store.apply(5),
                     lambda: bestore.Version(5), lambda: version.__init__(store), lambda: bestore.Batch(5),
                     lambda: bestore.Batch().set(1, "k"), lambda: bestore.Batch().set(1, "k", 1.5),

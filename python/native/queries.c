@@ -279,19 +279,26 @@ static const Signature of_prepared = { "query_prepared", { "prepared", "by", "de
 static const Signature of_count = { "count", { "query" }, 1, 1 };
 static const Signature of_refresh = { "refresh", { "prepared" }, 1, 1 };
 
-/* Calls the package's method that returns part of an answer, with all arguments. */
+/* Returns a name as an object, which is made only once. */
+static PyObject *kept_name(PyObject **name, const char *text)
+{
+    if (*name == NULL)
+        *name = PyUnicode_InternFromString(text);
+    return *name;
+}
+
+/* Calls the package's method that returns part of an answer. */
 static PyObject *part_by(PyObject *self, PyObject *const *read)
 {
     static PyObject *name;
-    PyObject *start = read[5] == NULL ? PyLong_FromLong(0) : Py_NewRef(read[5]), *part = NULL;
-    PyObject *some[4];
-    for (int at = 0; at < 4; at++)
-        some[at] = read[1 + at] == NULL ? at == 1 ? Py_False : Py_None : read[1 + at];
-    if (name == NULL)
-        name = PyUnicode_InternFromString("_part_of");
-    if (start != NULL && name != NULL)
-        part = PyObject_CallMethodObjArgs(self, name, read[0], some[0], some[1], some[2], some[3], start, NULL);
-    Py_XDECREF(start);
+    PyObject *zero = PyLong_FromLong(0), *part = NULL;
+    PyObject *all[] = { NULL, Py_None, Py_False, Py_None, Py_None, zero };
+    for (int at = 0; at < 6; at++)
+        if (read[at] != NULL)
+            all[at] = read[at];
+    if (zero != NULL && kept_name(&name, "_part_of") != NULL)
+        part = PyObject_CallMethodObjArgs(self, name, all[0], all[1], all[2], all[3], all[4], all[5], NULL);
+    Py_XDECREF(zero);
     return part;
 }
 
@@ -415,14 +422,6 @@ static bool read_position(PyObject *kind, PyObject *bytes, bes_cursor *cursor)
     return true;
 }
 
-/* Sets an attribute whose name is kept as an object from the first call on. */
-static bool set_attribute(PyObject *object, PyObject **name, const char *text, PyObject *value)
-{
-    if (*name == NULL)
-        *name = PyUnicode_InternFromString(text);
-    return *name != NULL && PyObject_SetAttr(object, *name, value) == 0;
-}
-
 /* Makes a page of these items, as the package's class does. Its cursor is made from the position when it is asked for. */
 static PyObject *page_of(PyObject *items, const Part *part, PyObject *order, PyObject *check)
 {
@@ -431,8 +430,9 @@ static PyObject *page_of(PyObject *items, const Part *part, PyObject *order, PyO
     PyObject *position = Py_BuildValue("(OOIy#)", order, check, part->cursor.kind, (const char *)part->cursor.key,
                                        (Py_ssize_t)part->cursor.length);
     if (page == NULL || position == NULL || PyList_SetSlice(page, 0, 0, items) < 0 ||
-        !set_attribute(page, &more_name, "more", part->more ? Py_True : Py_False) ||
-        !set_attribute(page, &position_name, "_position", position))
+        kept_name(&more_name, "more") == NULL || kept_name(&position_name, "_position") == NULL ||
+        PyObject_SetAttr(page, more_name, part->more ? Py_True : Py_False) < 0 ||
+        PyObject_SetAttr(page, position_name, position) < 0)
         Py_CLEAR(page);
     Py_XDECREF(position);
     return page;
