@@ -1,15 +1,20 @@
 #!/usr/bin/env python3
-"""Measures how fast workers in Python claim one job each from a queue, compared with sqlite3 in memory. Prints a Markdown
-table.
+"""Measures how fast workers in Python claim one job each from a queue, compared with sqlite3. Prints a Markdown table
+with the claims per second.
 
     /usr/bin/python3 bench/claims.py                          queues of 500, 2,000 and 16,000 jobs, one worker and eight
     /usr/bin/python3 bench/claims.py --queued 500 --rounds 1  a trial run
     /usr/bin/python3 bench/claims.py --instructions           instead, the instructions per claim of one worker, by perf or valgrind
 
-It needs the package (PYTHONPATH=python). A claim reads a waiting job and marks it as claimed, in one step. In bestore, this is
-a `change`, for any job or for the most urgent one, which then loses its urgency, as in examples/python/jobs.py. In SQLite, it
-is a single UPDATE with RETURNING. Claimed jobs are queued again between rounds, so that the queue always has the same length.
-All workers share one SQLite connection, guarded by a lock.
+It needs the package (PYTHONPATH=python). A claim reads a waiting job and marks it as claimed, in one step: any job, or the most
+urgent one. Claimed jobs are queued again between rounds, so that the queue always has the same length. The stores are:
+
+    bestore               a `change`, as in examples/python/jobs.py. The most urgent job then loses its urgency
+    sqlite3, statement    a single UPDATE with RETURNING, in memory. All workers share a connection, guarded by a lock
+    sqlite3, transaction  what `change` does: begin, select a job, let Python look at it, update the job, and commit; otherwise
+                          as before
+    sqlite3, file         the same transaction on a file with a write-ahead log, in /dev/shm if there is one, with
+                          synchronous=NORMAL and a connection for each worker
 """
 
 from __future__ import annotations
@@ -18,8 +23,9 @@ import argparse
 import os
 import sqlite3
 import sys
+import tempfile
 import threading
-from typing import Callable, Dict, List, Optional, Union
+from typing import Any, Callable, Dict, List, Optional, Sequence, Tuple, Union
 
 sys.path[:0] = [os.path.join(os.path.dirname(os.path.abspath(__file__)), folder) for folder in ("../python", "script")]
 
@@ -79,27 +85,42 @@ class Bestore:
         for job in jobs:
             self._store.apply(bestore.Batch().set(job, "job:state", "waiting").set(job, "job:urgency", self._urgencies[job]))
 
+    def close(self) -> None:
+        self._store.close()
+
 
 class Sqlite:
-    """Jobs as rows, with an index on state and urgency."""
+    """Jobs as rows in memory, with an index on state and urgency. A claim is a single statement."""
 
     def __init__(self, queued: int) -> None:
         self._lock = threading.Lock()
-        self._connection = sqlite3.connect(":memory:", isolation_level=None, check_same_thread=False)
+        self._connections: List[sqlite3.Connection] = []
+        self._connection = self._connected()
         self._connection.execute("CREATE TABLE job (number INTEGER PRIMARY KEY, state TEXT, urgency INTEGER)")
         self._connection.execute("CREATE INDEX jobs ON job (state, urgency)")
         rows = [("waiting", urgency_of(number)) for number in range(queued)]
-        self._connection.executemany("INSERT INTO job (state, urgency) VALUES (?, ?)", rows)
+        self._write("INSERT INTO job (state, urgency) VALUES (?, ?)", rows)
+
+    def _connected(self, path: str = ":memory:") -> sqlite3.Connection:
+        connection = sqlite3.connect(path, timeout=60, isolation_level=None, check_same_thread=False)
+        self._connections.append(connection)
+        return connection
+
+    def _write(self, line: str, rows: Sequence[Sequence[Any]]) -> None:
+        """Executes a statement with each of these rows, in one transaction."""
+        self._connection.execute("BEGIN")
+        self._connection.executemany(line, rows)
+        self._connection.execute("COMMIT")
 
     def any_job(self) -> Claim:
-        return self._claim("")
+        return self._claim("SELECT number FROM job WHERE state = 'waiting' LIMIT 1")
 
     def urgent_job(self) -> Claim:
-        return self._claim("ORDER BY urgency DESC, number DESC")
+        return self._claim("SELECT number FROM job WHERE state = 'waiting' ORDER BY urgency DESC, number DESC LIMIT 1")
 
-    def _claim(self, order: str) -> Claim:
-        line = ("UPDATE job SET state = 'claimed' WHERE number = "
-                f"(SELECT number FROM job WHERE state = 'waiting' {order} LIMIT 1) RETURNING number")
+    def _claim(self, chosen: str) -> Claim:
+        """Returns a way to claim the job that a SELECT chooses."""
+        line = f"UPDATE job SET state = 'claimed' WHERE number = ({chosen}) RETURNING number"
 
         def claim() -> Optional[int]:
             with self._lock:
@@ -109,10 +130,59 @@ class Sqlite:
         return claim
 
     def queue_again(self, jobs: List[int]) -> None:
-        self._connection.executemany("UPDATE job SET state = 'waiting' WHERE number = ?", [(job,) for job in jobs])
+        self._write("UPDATE job SET state = 'waiting' WHERE number = ?", [(job,) for job in jobs])
+
+    def close(self) -> None:
+        for connection in self._connections:
+            connection.close()
 
 
-STORES: Dict[str, Callable[[int], Union[Bestore, Sqlite]]] = {"bestore": Bestore, "sqlite3": Sqlite}
+def claim_in_transaction(connection: sqlite3.Connection, chosen: str) -> Optional[int]:
+    """Claims the job that a SELECT chooses. Nothing else is written between the SELECT and the UPDATE."""
+    connection.execute("BEGIN IMMEDIATE")
+    row: Optional[Tuple[int]] = connection.execute(chosen).fetchone()
+    if row is not None:
+        connection.execute("UPDATE job SET state = 'claimed' WHERE number = ?", row)
+    connection.execute("COMMIT")
+    return None if row is None else row[0]
+
+
+class SqliteTransaction(Sqlite):
+    """Jobs as rows in memory. A claim is a transaction that reads and then writes."""
+
+    def _claim(self, chosen: str) -> Claim:
+        def claim() -> Optional[int]:
+            with self._lock:
+                return claim_in_transaction(self._connection, chosen)
+
+        return claim
+
+
+class SqliteFile(Sqlite):
+    """Jobs as rows in a file with a write-ahead log. A claim is a transaction, and each worker has its own connection."""
+
+    def __init__(self, queued: int) -> None:
+        self._folder = tempfile.TemporaryDirectory(dir="/dev/shm" if os.path.isdir("/dev/shm") else None)
+        super().__init__(queued)
+
+    def _connected(self, path: str = "") -> sqlite3.Connection:
+        connection = super()._connected(path or os.path.join(self._folder.name, "jobs"))
+        connection.execute("PRAGMA journal_mode = WAL")
+        connection.execute("PRAGMA synchronous = NORMAL")
+        return connection
+
+    def _claim(self, chosen: str) -> Claim:
+        connection = self._connected()
+        return lambda: claim_in_transaction(connection, chosen)
+
+    def close(self) -> None:
+        super().close()
+        self._folder.cleanup()
+
+
+STORES: Dict[str, Callable[[int], Union[Bestore, Sqlite]]] = {
+    "bestore": Bestore, "sqlite3, statement": Sqlite, "sqlite3, transaction": SqliteTransaction, "sqlite3, file": SqliteFile,
+}
 
 
 def work(claim: Claim, count: int, begin: threading.Barrier, claimed: List[int]) -> None:
@@ -138,32 +208,29 @@ def rate(claims: List[Claim], queue_again: Callable[[List[int]], None]) -> float
     return CLAIMS / taken
 
 
-def measured(queued: int, workers: int, rounds: int) -> Dict[str, float]:
-    """Returns the best rate for each way to claim."""
-    best: Dict[str, float] = {}
-    for title, made in STORES.items():
-        store = made(queued)
-        for way in WAYS:
-            claims = [getattr(store, way)() for _ in range(workers)]
-            best[f"{title} {way}"] = max(rate(claims, store.queue_again) for _ in range(rounds))
+def measured(title: str, queued: int, workers: int, rounds: int) -> List[str]:
+    """Returns a store's best rate for each way to claim."""
+    store, best = STORES[title](queued), []
+    for way in WAYS:
+        claims = [getattr(store, way)() for _ in range(workers)]
+        best.append(f"{max(rate(claims, store.queue_again) for _ in range(rounds)):,.0f}")
+    store.close()
     return best
 
 
-def instructions(queued: int) -> Dict[str, str]:
+def instructions(title: str, queued: int) -> List[str]:
     """Returns one worker's instructions per claim, for each way."""
     own = [sys.executable, os.path.abspath(__file__), "--queued", str(queued), "--one"]
-    return {f"{title} {way}": instructions_a_call([*own, title, way], FEW, MANY) for title in STORES for way in WAYS}
+    return [instructions_a_call([*own, title, way], FEW, MANY) for way in WAYS]
 
 
 def claim_some(title: str, way: str, count: int, queued: int) -> None:
     """Claims this many jobs and does nothing else."""
-    claim: Claim = getattr(STORES[title](queued), way)()
+    store = STORES[title](queued)
+    claim: Claim = getattr(store, way)()
     for _ in range(count):
         claim()
-
-
-def print_row(what: str, cells: Dict[str, str]) -> None:
-    print(f"| {what} | " + " | ".join(cells[f"{title} {way}"] for way in WAYS for title in STORES) + " |", flush=True)
+    store.close()
 
 
 def main() -> None:
@@ -177,14 +244,15 @@ def main() -> None:
     if options.one:
         claim_some(options.one[0], options.one[1], int(options.one[2]), options.queued[0])
         return
-    print("| queued, workers | bestore: any | sqlite3: any | bestore: most urgent | sqlite3: most urgent |\n|---|---|---|---|---|")
+    print("| queued, workers | store | any job | most urgent job |\n|---|---|---|---|")
     for workers in [1] if options.instructions else options.workers:
         for queued in options.queued:
-            if options.instructions:
-                print_row(f"{queued:,}, {workers}", instructions(queued))
-                continue
-            best = measured(queued, workers, options.rounds)
-            print_row(f"{queued:,}, {workers}", {way: f"{it:,.0f}" for way, it in best.items()})
+            for title in STORES:
+                if options.instructions:
+                    cells = instructions(title, queued)
+                else:
+                    cells = measured(title, queued, workers, options.rounds)
+                print(f"| {queued:,}, {workers} | {title} | {' | '.join(cells)} |", flush=True)
 
 
 if __name__ == "__main__":

@@ -95,6 +95,26 @@ class Columns(unittest.TestCase):
                 self.assertEqual(found[0], [None] + [values[node].encode()[::2] for node in nodes[1:]])
                 self.assertEqual(found[1], [None] * len(nodes))
 
+    def test_equal_strings(self):
+        """Equal strings may be one object, and are never mixed up with other values."""
+        values = [("a", "b"), ("a", b"a"), ("", ""), ("ab", "a"), ("b", b""), ("x" * 24, "x" * 25), ("x" * 24, "x" * 25), ("ä", b"\0")]
+        with bestore.open(256, 1) as store:
+            for node in store.new_nodes(200):
+                for name, value in zip("sr", values[node % len(values)]):
+                    store.set(node, name, value)
+                store.set(node, "t", f"{node}")
+            with store.pin() as version:
+                rows = [[*values[node % len(values)], f"{node}"] for node in range(1, 201)]
+                self.assertEqual(version.columns(range(1, 201), "srt"), [list(column) for column in zip(*rows)])
+                store.make_index("t", bestore.STRING)
+            store.reindex("t")
+            with store.pin() as version:
+                found = version.rows('t=="*"', "srt")
+                self.assertEqual(found, list(enumerate(rows, 1)))
+                for node in range(1, 9):
+                    if version.kind(node, "s") == bestore.STRING and len(rows[node - 1][0]) == 24:
+                        self.assertIs(found[node - 1][1][0], found[node + 7][1][0])
+
     def test_in_a_change(self):
         with bestore.open(64, 1, 100) as store:
             store.new_nodes(3)
@@ -138,6 +158,8 @@ class Arguments(unittest.TestCase):
                     lambda: version.get(1), lambda: version.get(1, "k", 2), lambda: version.get(1, "k", name="k"),
                     lambda: version.get(1, "k", other=1), lambda: version.get("1", "k"), lambda: version.get(1, 5),
                     lambda: version.query(5), lambda: version.count(5), lambda: version.query_prepared(store),
+                    lambda: version.query("k == 1", "k"), lambda: version.query(by="k"), lambda: version.query("k == 1", text="k"),
+                    lambda: version.query("k == 1", by="k", other=1), lambda: version.query_prepared(query, None, by="k"),
                     lambda: version.refresh(store), lambda: version.query_prepared("k==1"), lambda: store.apply(5),
                     lambda: bestore.Version(5), lambda: version.__init__(store), lambda: bestore.Batch(5),
                     lambda: bestore.Batch().set(1, "k"), lambda: bestore.Batch().set(1, "k", 1.5),
@@ -219,6 +241,9 @@ class Guards(unittest.TestCase):
                             faults.append("an answer is wrong")
                         if version.column(nodes, "k") != nodes or version.query(f"k == {node}") != [node]:
                             faults.append("an answer is wrong")
+                        page = version.rows(query, ["k"], most=number % 400 + 1, by="k", descending=True)
+                        if page != [(it, [it]) for it in range(2000, 1999 - number % 400, -1)]:
+                            faults.append("a page is wrong")
                         number += 97
                 except bestore.NotPinned:
                     pass
@@ -232,6 +257,24 @@ class Guards(unittest.TestCase):
             for thread in running:
                 thread.join(60)
             self.assertEqual((faults, [it for it in running if it.is_alive()]), ([], []))
+
+    def test_page_while_another_thread_waits(self):
+        """A page and its rows are read before a thread that waits for the pass can unpin it."""
+        with bestore.open(4096, 1) as store, bestore.prepare("k > 0") as query:
+            filled(store, 2000)
+            for most in (3, 2000):
+                for _ in range(20):
+                    version = store.pin()
+                    unpinning = threading.Thread(target=version.unpin)
+                    with used_by_a_thread(store):
+                        unpinning.start()
+                    try:
+                        page = version.rows(query, ["k", "name"], most=most, by="k")
+                        self.assertEqual(page, [(node, [node, f"node {node}"]) for node in range(1, most + 1)])
+                    except bestore.NotPinned:
+                        pass
+                    unpinning.join(60)
+                    self.assertFalse(version._is_pinned)
 
     def test_closed_in_another_thread(self):
         for _ in range(20):
@@ -332,6 +375,9 @@ with bestore.open(64, 1, 100) as store:
                     lambda: version.indices(), lambda: version.refresh(query) and None, lambda: other.set(1, "name", "node 1"),
                     lambda: other.apply(bestore.Batch().set(1, "k", 1).set(2, "k", 2))[1], lambda: version.nodes(),
                     lambda: [list(batch) for batch in version.state()], lambda: next(other.journal_from(1)),
+                    lambda: version.rows(query, ["k", "name"], most=20, by="k"), lambda: version.rows(query, ["none"] * 9, most=2),
+                    lambda: version.query_prepared(query, by="k", descending=True, limit=3).cursor,
+                    lambda: other.change(lambda change: [change.set(2, "k", 2), change._collected()._parts()]),
                 ):
                     expected = call()
                     for request in range(1, 80):
@@ -361,6 +407,8 @@ with bestore.open(64, 1, 100) as store:
                         lambda: version.get(1.5, "k"), lambda: version[99]["none"], lambda: version.typed(1, "k"),
                         lambda: version.query("none == 1"), lambda: version.indices(), lambda: list(version.state()),
                         lambda: version.refresh(query), lambda: bestore.Batch().set(1, "k", 2**70), lambda: version.count(7),
+                        lambda: version.rows(query, ["k", "name"], by="k").cursor, lambda: version.rows(query, [""], by="k"),
+                        lambda: version.rows(query, ["k"], by="name"), lambda: version.rows(query, ["k", 5]),
                     ):
                         try:
                             call()

@@ -1,8 +1,10 @@
 """Pages in an index's order agree with the whole answer, sorted and cut, both in a store and in a shelf."""
 
+import pickle
 import random
 import threading
 import unittest
+from dataclasses import replace
 
 import bestore
 from bestore.pages import Cursor, Order, Page, check_of
@@ -163,6 +165,51 @@ class Parts(unittest.TestCase):
                     self.assertEqual(len(set(found)), min(limit, 4))
                     self.assertLessEqual(set(found), {1, 2, 3, 4})
 
+    def test_rows(self):
+        with self.store.pin() as version, bestore.prepare("size<9") as prepared:
+            for query in ("size<9", prepared):
+                page = version.rows(query, ["none", "size"], most=2, by="size", descending=True)
+                self.assertEqual((type(page), page, page.more), (Page, [(1, [None, 5]), (3, [None, 4])], True))
+                rest = version.rows(query, ("size",), most=2**80, by="size", descending=True, after=page.cursor)
+                self.assertEqual((rest, rest.more, rest.cursor.node), ([(4, [3]), (2, [3])], False, 2))
+                self.assertEqual(version.rows(query, [], by="size", descending=True, after=str(page.cursor)), [(4, []), (2, [])])
+                empty = version.rows(query, ["size"], by="size", descending=True, after=rest.cursor)
+                self.assertEqual((empty, empty.more, empty.cursor), ([], False, rest.cursor))
+                self.assertEqual(version.rows(query, ["size"], most=1), [(1, [5])])
+                self.assertEqual(version.rows(query, ["size"], first=4, most=2**80), [(4, [3])])
+                self.assertEqual((version.rows(query, ["size"], most=0), version.rows(query, ["size"], first=2**64)), ([], []))
+        self.assertEqual((page.cursor.value, page.of([7]).cursor), (4, page.cursor))  # the query is closed
+
+    def test_refused_rows(self):
+        with self.store.pin() as version, bestore.prepare("size>0") as prepared, bestore.prepare("when>0") as other:
+            cursor = version.rows(prepared, [], most=1, by="size").cursor
+            for by in ({"by": "size"}, {}):
+                self.assertRaises(bestore.NameLength, version.rows, prepared, ["size", ""], **by)
+                self.assertRaises(bestore.NameLength, version.rows, prepared, [str(it) for it in range(20)] + [""], **by)
+                self.assertRaises(bestore.NotUTF8, version.rows, prepared, ["\ud800"], **by)
+                self.assertRaises(TypeError, version.rows, prepared, ["size", b"size"], **by)
+                self.assertRaises(TypeError, version.rows, prepared, 5, **by)
+                for query in (other, "when>0"):
+                    with self.assertRaises(bestore.NotCovered) as covered:
+                        version.rows(query, ["size"], **by)
+                    self.assertEqual((covered.exception.missing, covered.exception.offset), ("when", 0))
+            self.assertRaises(bestore.NameLength, version.rows, prepared, [""], most=0)
+            self.assertRaises(bestore.NameLength, version.rows, prepared, ["size"], by="n" * 64)
+            self.assertRaises(TypeError, version.rows, prepared, ["size"], by=5)
+            with self.assertRaises(bestore.NoIndex) as raised:
+                version.rows(prepared, ["size"], by="when")
+            self.assertEqual((raised.exception.name, raised.exception.indices), ("when", ("size",)))
+            self.assertRaises(bestore.BadCursor, version.rows, prepared, ["size"], by="size", descending=True, after=cursor)
+            text = Cursor(cursor.order, cursor.check, bestore.STRING, "x" * 255, 2)
+            with self.assertRaises(bestore.BadCursor) as raised:
+                version.rows(prepared, ["size"], by="size", after=text)
+            self.assertEqual(str(raised.exception), 'the index "size" has kind INT64, and had kind STRING when the cursor was made: '
+                                                    "begin without a cursor")
+        for call in (lambda: version.rows(prepared, [""], by="size"), lambda: version.query_prepared(prepared, by="size")):
+            self.assertRaises(bestore.NotPinned, call)
+            with self.store.pin() as version:
+                self.assertRaises(bestore.Closed, call)
+
     def test_a_change(self):
         def claim(change):
             page = change.query("size>=3", by="size", limit=1)
@@ -274,7 +321,10 @@ class Cursors(unittest.TestCase):
             for value in VALUES[name]:
                 cursor = Cursor(Order("n" * 63), 7, kind, value, 2**64 - 1)
                 self.assertEqual(Cursor.parse(str(cursor)), cursor)
-                self.assertEqual(Cursor.of_key(cursor.order, 7, kind, cursor.key), cursor)
+                known = Cursor.of_key(cursor.order, 7, kind, cursor.key)
+                self.assertEqual((known, known.key, hash(known)), (cursor, cursor.key, hash(cursor)))
+                self.assertEqual(pickle.loads(pickle.dumps(known)), cursor)
+                self.assertEqual(replace(known, node=5).key, cursor.key[:-8] + (5).to_bytes(8, "big"))
         beginning = Cursor(Order("n"), 7)
         self.assertEqual(Cursor.parse(str(beginning)), beginning)
 

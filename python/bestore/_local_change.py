@@ -20,7 +20,7 @@ class LocalChange(Change):
     _snapshot: LocalVersion
 
     def __init__(self, snapshot: LocalVersion, check_kinds: bool) -> None:
-        super().__init__(snapshot)
+        self._snapshot = snapshot
         if not check_kinds:
             snapshot._take_any_kind()
 

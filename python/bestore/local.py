@@ -21,11 +21,11 @@ from .errors import (
     encoded_query, no_index, refusal)
 from .nodes import name_missing
 from .operations import Batch
-from .pages import Cursor, Page
-from .queries import Prepared, with_prepared
+from .pages import Cursor, Order, Page
+from .queries import Prepared, prepare
 from .store import PASSES, PAUSES, TRIES, Entry, Held, Pass, StandingBack, Status, Witness, pause_at_full
 from .values import RANGES, Kind, Typed, Value
-from .versions import Query, Row, Version
+from .versions import Asked, Query, Row, Version
 
 _Answered = TypeVar("_Answered", bound=Tuple[Any, ...])
 
@@ -53,8 +53,6 @@ class LocalVersion(_native.Reader, Version):
     """A version of a store in this process. The extension implements most of its calls."""
 
     _user: LocalPass
-    _query_part = Version.query
-    _query_prepared_part = Version.query_prepared
 
     @property
     def next_node(self) -> int:
@@ -75,29 +73,50 @@ class LocalVersion(_native.Reader, Version):
         return self._count_items(asked, *encode_items(asked))
 
     def _first_of(self, asked: Query, start: int, limit: int) -> List[int]:
-        if not isinstance(asked, (str, Prepared)):
-            return super()._first_of(asked, start, limit)
-        most = min(limit, sys.maxsize)
-        return with_prepared(asked, lambda prepared: self._first(prepared, start, most) if start < 2**64 else [])
+        if isinstance(asked, Prepared):
+            return self._first(asked, start, limit, None) if start < 2**64 else []
+        if isinstance(asked, str):
+            with prepare(asked) as prepared:
+                return self._first_of(prepared, start, limit)
+        return super()._first_of(asked, start, limit)
 
     def _any_of(self, asked: Query, limit: int) -> List[int]:
-        if not isinstance(asked, (str, Prepared)):
-            return super()._any_of(asked, limit)
-        return with_prepared(asked, lambda prepared: self._any(prepared, min(limit, sys.maxsize)))
+        if isinstance(asked, Prepared):
+            return self._any(asked, limit)
+        if isinstance(asked, str):
+            with prepare(asked) as prepared:
+                return self._any(prepared, limit)
+        return super()._any_of(asked, limit)
 
-    def _page_after(self, asked: Prepared, after: Cursor, limit: Optional[int]) -> Page[int]:
-        order = after.order
-        most = sys.maxsize if limit is None else min(limit, sys.maxsize)
+    def _rows_of(self, query: Asked, names: List[str], first: int, most: int) -> List[Row]:
+        if isinstance(query, Prepared) and most != 0 and first < 2**64:
+            return self._first(query, first, most, names)
+        if isinstance(query, str) and most != 0:
+            with prepare(query) as prepared:
+                return self._rows_of(prepared, names, first, most)
+        return super()._rows_of(query, names, first, most)
+
+    def _page_of_rows(self, query: Asked, names: List[str], order: Order, after: Optional[Cursor], most: int) -> Page[Row]:
+        return self._page_of(query, order, after, most, names)
+
+    def _page_of(self, asked: Asked, order: Order, after: Optional[Cursor], limit: Optional[int],
+                 names: Optional[List[str]] = None) -> Page[Any]:
+        """Returns a page of nodes, or of rows if there are names."""
+        if isinstance(asked, str):
+            with prepare(asked) as prepared:
+                return self._page_of(prepared, order, after, limit, names)
+        check, kind, key = asked._check, 0, b""
+        if after is not None:
+            after.check_fits(order, check)
+            kind, key = after.kind or 0, after.key
         try:
-            nodes, more, kind, key = self._page(asked, encoded(order.by), order.descending, after.kind or 0, after.key, most)
+            return self._page(asked, order, check, kind, key, limit, names)
         except NoIndex:
             raise no_index(order.by, self.indices()) from None
         except BadCursor:
+            if after is None:
+                raise
             raise after.of_other_kind(self._order_kind(order.by)) from None
-        return Page(nodes, more, (order, asked._check, kind, key))
-
-    def _with_columns(self, nodes: List[int], names: List[str]) -> List[Row]:
-        return self._rows(nodes, names)
 
     def _query_error(self, answer: int, carried: int, asked: Query) -> Refusal:
         """Returns the error for a query, with its details."""
@@ -232,21 +251,25 @@ class LocalPass(HandleOwner, Pass):
             raise refusal(answer, number, listed="operation")
         return number, made
 
+    def _begin_change(self, check_kinds: bool, volume: Optional[int]) -> Change:
+        if volume:
+            check_one_volume(volume)
+        return LocalChange(LocalVersion(self), check_kinds)
+
     def _change_on(self, version: Version, check_kinds: bool) -> Change:
         assert isinstance(version, LocalVersion)
         return LocalChange(version, check_kinds)
 
     def _commit(self, change: Change) -> int:
         assert isinstance(change, LocalChange)
-        version, batch = change._snapshot, change._collected()
-        answer, number = version._end_change()
-        version.unpin()
+        version = change._snapshot
+        answer, number, batch = version._end_change()
         if answer == 0:
             return number
         error = refusal(answer, number, listed="operation")
         if isinstance(error, Conflict):
             error.expected = version.number
-        elif isinstance(error, (NoNode, NoAttribute)):
+        elif isinstance(error, (NoNode, NoAttribute)) and batch is not None:
             name_missing(error, batch)
         raise error
 
@@ -270,7 +293,8 @@ class LocalPass(HandleOwner, Pass):
         return (self._store,)
 
     def _wake(self) -> None:
-        self._store.wake()
+        if self._store._waiting:
+            self._store.wake()
 
     def set(self, node: int, name: str, value: Value, kind: Optional[int] = None) -> None:
         if self._set(node, name, value, kind):
@@ -349,7 +373,7 @@ class LocalPass(HandleOwner, Pass):
         return Status(usage.pages, usage.free, usage.retired, usage.entries, usage.commits, oldest)
 
 
-_native.know(user=LocalPass)
+_native.know(user=LocalPass, page=Page)
 
 
 def open(pages: int = 4096, passes: int = PASSES, commits: int = 2**32 - 1) -> LocalPass:

@@ -284,10 +284,16 @@ class Pass(Owner, ABC):
 
         Raises `TooManyAttempts` if another write came first on every attempt; `Pinned` if this pass is pinned; `Nested` if the
         function writes through this pass; and the errors of `apply`. `Change.set` explains `check_kinds`."""
-        waits, left = _Waits(self, tries), max(attempts, 1)
+        waits: Optional[_Waits] = None
+        left = max(attempts, 1)
         while True:
-            with self._begin_change(check_kinds, volume) as change:
-                result = self._run(function, change)
+            change = self._begin_change(check_kinds, volume)
+            try:
+                self._is_changing = True
+                try:
+                    result = function(change)
+                finally:
+                    self._is_changing = False
                 if change._count == 0:
                     return result
                 try:
@@ -296,9 +302,12 @@ class Pass(Owner, ABC):
                     return result
                 except (Conflict, Busy, Full) as error:
                     failed = error
+            finally:
+                change.unpin()
             left -= 1
             if left == 0 and isinstance(failed, Conflict):
                 raise TooManyAttempts(max(attempts, 1)) from failed
+            waits = waits or _Waits(self, tries)
             if left == 0 or not waits.wait_after(failed):
                 raise failed
 
@@ -317,14 +326,6 @@ class Pass(Owner, ABC):
         """Writes what a change has collected, if nothing else has been written to its volume since its snapshot, and unpins
         that snapshot. Returns the commit number. Doesn't wait, but raises `Busy` immediately if another pass is writing, and
         `Full` if no page is free."""
-
-    def _run(self, function: Callable[[Change], _Result], change: Change) -> _Result:
-        """Runs a change's function."""
-        self._is_changing = True
-        try:
-            return function(change)
-        finally:
-            self._is_changing = False
 
     def _may_be_given_pages(self, error: Full) -> bool:
         """Returns whether pages may become free for a write that found no free page, because another pass can still unpin its snapshot."""

@@ -11,7 +11,7 @@ from typing import ClassVar, Dict, Iterable, Iterator, List, Literal, Mapping, O
 from .errors import NoAttribute, NoNode, NotCovered, NoVolume, no_index, no_room
 from .language import Hint, all_in, comparisons, hints_in
 from .operations import Batch
-from .pages import After, Cursor, Order, Page, cursor_of, decode_key, encode_key
+from .pages import After, Cursor, Order, Page, cursor_of, decode_key, encode_key, order_by
 from .queries import Item, Name, Prepared, with_prepared
 from .values import Kind, Typed, Value
 
@@ -164,15 +164,14 @@ class Version(ABC):
         found = zip(nodes, self.column(nodes, order.by))
         return sorted((encode_key(kind, value, node) for node, value in found if value is not None), reverse=order.descending)
 
-    def _part_of(self, asked: Asked, *, by: Optional[str] = None, descending: bool = False, limit: Optional[int] = None,
-                 after: After = None, start: int = 0) -> List[int]:
+    def _part_of(self, asked: Asked, by: Optional[str], descending: bool, limit: Optional[int], after: After, start: int) -> List[int]:
         """Returns what `query` returns, for a query given as text or prepared."""
         if limit is not None and operator.index(limit) < 1:
             raise no_room(limit)
         if by is not None:
             if start:
                 raise TypeError("start is the number of a node; an order continues from a cursor: after=page.cursor")
-            return self._page_of(asked, Order(by, bool(descending)), cursor_of(after), limit)
+            return self._page_of(asked, order_by(by, descending), cursor_of(after), limit)
         if descending or after is not None:
             raise TypeError('an order needs the name of an index, such as by="size"')
         if limit is None and start <= 0:
@@ -199,7 +198,7 @@ class Version(ABC):
         the exact reverse. A page omits nodes that have no value in that index. `after` is the cursor from an earlier page of
         the same query and order; the new page continues there. A page takes less time than the whole answer. Raises `NoIndex`,
         `BadCursor` or `NoRoom` if there is no such page."""
-        return self._part_of(text, by=by, descending=descending, limit=limit, after=after, start=start)
+        return self._part_of(text, by, descending, limit, after, start)
 
     def any(self, query: Asked, limit: int) -> List[int]:
         """Returns any `limit` of the nodes that match the query, or all of them if fewer match, in no particular order. If the
@@ -229,7 +228,7 @@ class Version(ABC):
     def query_prepared(self, prepared: Prepared, *, by: Optional[str] = None, descending: bool = False,
                        limit: Optional[int] = None, after: After = None, start: int = 0) -> List[int]:
         """Returns the nodes that match a prepared query, like `query`. This doesn't change the result of the query's last refresh."""
-        return self._part_of(prepared, by=by, descending=descending, limit=limit, after=after, start=start)
+        return self._part_of(prepared, by, descending, limit, after, start)
 
     def count(self, query: Union[str, Prepared]) -> int:
         """Returns how many nodes match the query, given as text or prepared. The cost is that of the query, but no list is
@@ -350,7 +349,7 @@ class Version(ABC):
                 raise TypeError("first is the number of a node; an order continues from a cursor: after=page.cursor")
             if operator.index(most) < 1:
                 raise no_room(most)
-            return self._page_of_rows(query, list(names), Order(by, bool(descending)), cursor_of(after), most)
+            return self._page_of_rows(query, list(names), order_by(by, descending), cursor_of(after), most)
         if descending or after is not None:
             raise TypeError('an order needs the name of an index, such as by="size"')
         if most < 0:

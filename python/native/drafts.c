@@ -10,7 +10,7 @@ void abandon_draft(Reader *reader)
     bes_pass none = BES_PASS_INIT;
     if (reader->draft.live)
         library.abandon_change(&none, &reader->draft);
-    reader->count = reader->length = 0;
+    Py_CLEAR(reader->batch);
 }
 
 /* Begins a draft on the reader's snapshot, unless there already is one. The caller must have the pass. */
@@ -26,76 +26,61 @@ static uint32_t begin_draft(Reader *reader, Handle *user)
     return answer;
 }
 
+static bool make_batch(Reader *reader)
+{
+    if (reader->batch == NULL)
+        reader->batch = (Batch *)PyType_GenericNew((PyTypeObject *)known.batch, NULL, NULL);
+    return reader->batch != NULL;
+}
+
 /* An operation to collect, the bytes of its name and value, and the library's result. */
 typedef struct Collected {
     bes_operation operation;
     const uint8_t *name, *value;
+    size_t name_length, value_length;
     uint64_t made; /* the node that it creates, or the type code of the index that refuses its value */
 } Collected;
 
-static uint32_t add_to_draft(Reader *reader, Collected *it)
+/* Adds an operation to the batch and to the draft, unless the draft refuses it. The caller must have the pass. */
+static bool add_to_draft(Reader *reader, Handle *user, Collected *it, uint32_t *answer)
 {
-    uint8_t bytes[SHORT_BYTES], *all = bytes;
-    size_t name_length = it->operation.name_length, value_length = it->operation.value_length;
-    uint32_t answer;
-    if (name_length + value_length > sizeof bytes && (all = malloc(name_length + value_length)) == NULL)
-        return BES_NO_MEMORY;
-    if (name_length != 0)
-        memcpy(all, it->name, name_length);
-    if (value_length != 0)
-        memcpy(all + name_length, it->value, value_length);
-    it->operation.value_at = (uint32_t)name_length;
-    answer = library.change_add(&reader->draft, &it->operation, all, name_length + value_length, &it->made);
-    if (all != bytes)
-        free(all);
-    return answer;
+    Batch *batch = reader->batch;
+    size_t length = batch->length;
+    bes_operation *added;
+    if (!add_operation(batch, it->operation, it->name, it->name_length, it->value, it->value_length))
+        return false;
+    added = &batch->operations[batch->count - 1];
+    *answer = begin_draft(reader, user);
+    if (*answer == BES_OK)
+        *answer = library.change_add(&reader->draft, added, batch->bytes == NULL ? (const uint8_t *)"" : batch->bytes,
+                                     batch->length, &it->made);
+    if (*answer != BES_OK) {
+        batch->count--;
+        batch->length = length;
+    } else if (added->kind == BES_NEW_NODE) {
+        added->node = it->made;
+    }
+    return true;
 }
 
-/* Adds an operation to the draft. If the operation is refused, raises the error and returns false. */
+/* Collects an operation. If it is refused, raises the error and returns false. */
 static bool collect(PyObject *self, Collected *it, PyObject *name)
 {
     Reader *reader = (Reader *)self;
     Handle *user = enter_pinned(reader);
-    uint32_t answer;
+    uint32_t answer = BES_OK;
+    bool is_done;
     size_t place;
     if (user == NULL)
         return false;
-    answer = begin_draft(reader, user);
-    if (answer == BES_OK)
-        answer = add_to_draft(reader, it);
-    place = reader->count;
-    if (answer == BES_OK) {
-        reader->count++;
-        reader->length += (size_t)it->operation.name_length + it->operation.value_length;
-    }
+    is_done = make_batch(reader) && add_to_draft(reader, user, it, &answer);
+    place = reader->batch == NULL ? 0 : reader->batch->count;
     leave(user);
     if (answer == BES_WRONG_KIND)
         refused_kind(name, it->operation.code, (uint32_t)it->made);
     else if (answer != BES_OK)
         refused_at(answer, place, "operation");
-    return answer == BES_OK;
-}
-
-/* Reads an operation's name. */
-static bool read_name(PyObject *object, Collected *it)
-{
-    size_t length;
-    if (!read_text(object, &it->name, &length))
-        return false;
-    if (length > UINT32_MAX) {
-        PyErr_SetString(PyExc_OverflowError, "a name has less than 2^32 bytes");
-        return false;
-    }
-    it->operation.name_length = (uint32_t)length;
-    return true;
-}
-
-static bool has_arguments(Py_ssize_t given, Py_ssize_t wanted)
-{
-    if (given == wanted)
-        return true;
-    PyErr_Format(PyExc_TypeError, "the call takes %zd arguments, and %zd were given", wanted, given);
-    return false;
+    return is_done && answer == BES_OK;
 }
 
 static PyObject *none_if(bool is_done) { return is_done ? Py_NewRef(Py_None) : NULL; }
@@ -132,9 +117,10 @@ PyObject *reader_set_attribute(PyObject *self, PyObject *const *given, Py_ssize_
         return NULL;
     it.operation.code = value.code;
     it.operation.number = value.number;
-    it.operation.value_length = value.length > UINT32_MAX ? UINT32_MAX : (uint32_t)value.length;
     it.value = value.bytes;
-    is_done = read_node(given[0], &it.operation.node) && read_name(given[1], &it) && collect(self, &it, given[1]);
+    it.value_length = value.length;
+    is_done = read_node(given[0], &it.operation.node) && read_text(given[1], &it.name, &it.name_length) &&
+              collect(self, &it, given[1]);
     Py_XDECREF(value.keeper);
     return none_if(is_done);
 }
@@ -142,15 +128,15 @@ PyObject *reader_set_attribute(PyObject *self, PyObject *const *given, Py_ssize_
 PyObject *reader_unset(PyObject *self, PyObject *const *given, Py_ssize_t count)
 {
     Collected it = { .operation = { .kind = BES_UNSET } };
-    return none_if(has_arguments(count, 2) && read_node(given[0], &it.operation.node) && read_name(given[1], &it) &&
-                   collect(self, &it, NULL));
+    return none_if(has_arguments(count, 2) && read_node(given[0], &it.operation.node) &&
+                   read_text(given[1], &it.name, &it.name_length) && collect(self, &it, NULL));
 }
 
 PyObject *reader_make_index(PyObject *self, PyObject *const *given, Py_ssize_t count)
 {
     Collected it = { .operation = { .kind = BES_MAKE_INDEX } };
     uint64_t code;
-    if (!has_arguments(count, 2) || !read_name(given[0], &it))
+    if (!has_arguments(count, 2) || !read_text(given[0], &it.name, &it.name_length))
         return NULL;
     if (!read_in_range(given[1], &code) || code > UINT32_MAX)
         return PyErr_Occurred() ? NULL : refused(BES_NO_KIND);
@@ -161,55 +147,51 @@ PyObject *reader_make_index(PyObject *self, PyObject *const *given, Py_ssize_t c
 PyObject *reader_remove_index(PyObject *self, PyObject *name)
 {
     Collected it = { .operation = { .kind = BES_REMOVE_INDEX } };
-    return none_if(read_name(name, &it) && collect(self, &it, NULL));
-}
-
-/* Numbers the nodes that operations create, starting from the snapshot's next node number. */
-static void number_new_nodes(Listed *listed, uint64_t next)
-{
-    for (size_t at = 0; at < listed->counts.operations; at++)
-        if (listed->operations[at].kind == BES_NEW_NODE)
-            listed->operations[at].node = next++;
+    return none_if(read_text(name, &it.name, &it.name_length) && collect(self, &it, NULL));
 }
 
 PyObject *reader_collected(PyObject *self, PyObject *nothing)
 {
     Reader *reader = (Reader *)self;
-    Listed listed;
-    uint32_t answer = BES_OK;
     Handle *user = enter_pinned(reader);
+    PyObject *batch;
     (void)nothing;
     if (user == NULL)
         return NULL;
-    listed.counts.operations = listed.counts.bytes = 0;
-    if (reader->draft.live)
-        answer = library.change_batch(
-            &reader->draft, &listed.counts, listed.operations, MOST_OPERATIONS, listed.bytes, BYTES_OF_A_BATCH);
+    batch = make_batch(reader) ? Py_NewRef((PyObject *)reader->batch) : NULL;
     leave(user);
+    return batch;
+}
+
+/* Writes the draft, and releases the GIL if that may take long. The caller must have the pass. */
+static uint32_t end_draft(Reader *reader, Handle *user, uint64_t *number)
+{
+    const Batch *batch = reader->batch;
+    uint32_t answer = begin_draft(reader, user);
     if (answer != BES_OK)
-        return refused(answer);
-    number_new_nodes(&listed, reader->most + 1);
-    return batch_of(&listed);
+        return answer;
+    if (batch == NULL || (batch->count <= SHORT_OPERATIONS && batch->length <= SHORT_BYTES))
+        return library.end_change(&user->held.pass, &reader->draft, number);
+    Py_BEGIN_ALLOW_THREADS
+    answer = library.end_change(&user->held.pass, &reader->draft, number);
+    Py_END_ALLOW_THREADS
+    return answer;
 }
 
 PyObject *reader_end_change(PyObject *self, PyObject *nothing)
 {
     Reader *reader = (Reader *)self;
     Handle *user = enter_pinned(reader);
+    PyObject *batch;
     uint64_t number = 0;
     uint32_t answer;
     (void)nothing;
     if (user == NULL)
         return NULL;
-    answer = begin_draft(reader, user);
-    if (answer == BES_OK && reader->count <= SHORT_OPERATIONS && reader->length <= SHORT_BYTES) {
-        answer = library.end_change(&user->held.pass, &reader->draft, &number);
-    } else if (answer == BES_OK) {
-        Py_BEGIN_ALLOW_THREADS
-        answer = library.end_change(&user->held.pass, &reader->draft, &number);
-        Py_END_ALLOW_THREADS
-    }
-    reader->count = reader->length = 0;
+    answer = end_draft(reader, user, &number);
+    batch = reader->batch == NULL ? Py_NewRef(Py_None) : (PyObject *)reader->batch;
+    reader->batch = NULL;
+    unpin_reader(reader);
     leave(user);
-    return Py_BuildValue("(IK)", answer, (unsigned long long)number);
+    return Py_BuildValue("(IKN)", answer, (unsigned long long)number, batch);
 }

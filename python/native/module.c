@@ -49,17 +49,17 @@ static void keep(PyObject **place, PyObject *object)
 /* Stores the package's objects that the module needs. The package's modules pass them as they are imported. */
 static PyObject *know(PyObject *module, PyObject *arguments, PyObject *names)
 {
-    static char *parameters[] = { "refusal", "forked", "encoded_query", "encode_value", "typed", "batch", "user",
-                                  "wrong_kind", "kinds", NULL };
+    static char *parameters[] = { "refusal", "forked", "encoded_query", "encode_value", "typed", "batch", "page",
+                                  "user", "wrong_kind", "kinds", NULL };
     PyObject **places[] = {
-        &known.refusal, &known.forked, &known.encoded_query, &known.encode_value, &known.typed, &known.batch, &known.user,
-        &known.wrong_kind,
+        &known.refusal, &known.forked, &known.encoded_query, &known.encode_value, &known.typed, &known.batch, &known.page,
+        &known.user, &known.wrong_kind,
     };
     enum { PLACES = sizeof places / sizeof *places };
     PyObject *given[PLACES + 1] = { NULL };
     (void)module;
-    if (!PyArg_ParseTupleAndKeywords(arguments, names, "|$OOOOOOOOO:know", parameters, &given[0], &given[1], &given[2], &given[3],
-                                     &given[4], &given[5], &given[6], &given[7], &given[PLACES]))
+    if (!PyArg_ParseTupleAndKeywords(arguments, names, "|$OOOOOOOOOO:know", parameters, &given[0], &given[1], &given[2], &given[3],
+                                     &given[4], &given[5], &given[6], &given[7], &given[8], &given[PLACES]))
         return NULL;
     for (size_t at = 0; at < PLACES; at++)
         if (given[at] != NULL)

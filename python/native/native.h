@@ -82,6 +82,7 @@ typedef struct Known {
     PyObject *encode_value;  /* encodes values of less common types */
     PyObject *typed;         /* the class of pairs of a value and its kind */
     PyObject *batch;         /* the class of batches */
+    PyObject *page;          /* the class of pages, which is a list */
     PyObject *user;          /* the class of passes whose writes need nothing more */
     PyObject *wrong_kind;    /* makes the error for a value whose kind isn't its index's kind */
     PyObject *kinds[KINDS];  /* in the order of kind_index */
@@ -178,6 +179,7 @@ typedef struct Signature {
 } Signature;
 
 bool read_arguments(const Signature *signature, PyObject *const *given, Py_ssize_t count, PyObject *names, PyObject **read);
+bool has_arguments(Py_ssize_t given, Py_ssize_t wanted);
 
 /* A value in the library's form. Its bytes belong to `keeper`, which must be released unless it is NULL. */
 typedef struct Encoded {

@@ -30,6 +30,7 @@ typedef struct Asked {
     const uint8_t *bytes;
     size_t count, length;
     Part *part;
+    PyObject *names;  /* for rows: the list of their columns' names; NULL for nodes */
     PyObject *source; /* the query that an error refers to */
 } Asked;
 
@@ -204,30 +205,36 @@ static PyObject *query_refused(Reader *reader, uint32_t answer, uint64_t carried
     return NULL;
 }
 
-/* Returns the nodes that a query finds, or their number. */
+/* Returns the nodes that a query found or their number, or raises its error. */
+static PyObject *found_by(Reader *reader, const Asked *asked, bool wants_nodes, uint32_t answer, const Result *it)
+{
+    if (answer != BES_OK)
+        return query_refused(reader, answer, it->count, asked);
+    return wants_nodes ? list_of(it->nodes, (size_t)it->count) : PyLong_FromUnsignedLongLong(it->count);
+}
+
+/* Returns the nodes that a query finds, their rows, or their number. The rows are read before another thread can use the pass. */
 static PyObject *answered(Reader *reader, const Asked *asked, bool wants_nodes)
 {
     Handle *user;
     Result it;
     uint32_t answer = 0;
-    bool is_done;
-    PyObject *found;
+    bool is_done, has_rows;
+    PyObject *found = NULL;
     if (asked->prepared != NULL && !enter(asked->prepared))
         return NULL;
     user = enter_pinned(reader);
     is_done = user != NULL && ask(user, reader->most, asked, wants_nodes, &it, &answer);
-    if (user != NULL)
-        leave(user);
     if (asked->prepared != NULL)
         leave(asked->prepared);
     if (user == NULL)
         return NULL;
-    if (!is_done)
-        found = NULL;
-    else if (answer != BES_OK)
-        found = query_refused(reader, answer, it.count, asked);
-    else
-        found = wants_nodes ? list_of(it.nodes, (size_t)it.count) : PyLong_FromUnsignedLongLong(it.count);
+    has_rows = is_done && answer == BES_OK && asked->names != NULL;
+    if (has_rows)
+        found = rows_of(reader, it.nodes, (size_t)it.count, asked->names);
+    leave(user);
+    if (is_done && !has_rows)
+        found = found_by(reader, asked, wants_nodes, answer, &it);
     if (it.nodes != NULL)
         give_back(user, &it);
     return found;
@@ -267,61 +274,53 @@ static bool read_items(PyObject *arguments, Asked *asked)
     return true;
 }
 
-static const Signature of_text = { "query", { "text" }, 1, 1 };
-static const Signature of_prepared = { "query_prepared", { "prepared" }, 1, 1 };
+static const Signature of_text = { "query", { "text", "by", "descending", "limit", "after", "start" }, 6, 1 };
+static const Signature of_prepared = { "query_prepared", { "prepared", "by", "descending", "limit", "after", "start" }, 6, 1 };
 static const Signature of_count = { "count", { "query" }, 1, 1 };
 static const Signature of_refresh = { "refresh", { "prepared" }, 1, 1 };
 
-/* Returns a call's named arguments as a dict. */
-static PyObject *named(PyObject *const *given, PyObject *names)
+/* Returns a name as an object, which is made only once. */
+static PyObject *kept_name(PyObject **name, const char *text)
 {
-    PyObject *dict = PyDict_New();
-    Py_ssize_t count = names == NULL ? 0 : PyTuple_Size(names);
-    for (Py_ssize_t at = 0; dict != NULL && at < count; at++)
-        if (PyDict_SetItem(dict, PyTuple_GetItem(names, at), given[at]) < 0)
-            Py_CLEAR(dict);
-    return dict;
+    if (*name == NULL)
+        *name = PyUnicode_InternFromString(text);
+    return *name;
 }
 
-/* Forwards a call to the package's method, which does the same but has more parameters. */
-static PyObject *forward(
-    PyObject *self, const char *method, PyObject *const *given, Py_ssize_t count, PyObject *names)
+/* Calls the package's method that returns part of an answer. */
+static PyObject *part_by(PyObject *self, PyObject *const *read)
 {
-    PyObject *call = PyObject_GetAttrString(self, method), *arguments = PyTuple_New(count), *result = NULL;
-    PyObject *others = named(given + count, names);
-    for (Py_ssize_t at = 0; arguments != NULL && at < count; at++)
-        PyTuple_SetItem(arguments, at, Py_NewRef(given[at]));
-    if (call != NULL && arguments != NULL && others != NULL)
-        result = PyObject_Call(call, arguments, others);
-    Py_XDECREF(call);
-    Py_XDECREF(arguments);
-    Py_XDECREF(others);
-    return result;
+    static PyObject *name;
+    PyObject *zero = PyLong_FromLong(0), *part = NULL;
+    PyObject *all[] = { NULL, Py_None, Py_False, Py_None, Py_None, zero };
+    for (int at = 0; at < 6; at++)
+        if (read[at] != NULL)
+            all[at] = read[at];
+    if (zero != NULL && kept_name(&name, "_part_of") != NULL)
+        part = PyObject_CallMethodObjArgs(self, name, all[0], all[1], all[2], all[3], all[4], all[5], NULL);
+    Py_XDECREF(zero);
+    return part;
 }
 
-/* Returns whether a call has arguments besides the query, and so requests part of the answer. */
-static bool asks_part(Py_ssize_t count, PyObject *names)
-{
-    return count + (names == NULL ? 0 : PyTuple_Size(names)) > 1;
-}
-
-/* Returns the nodes that a query finds. If there are other arguments, the package's method `part` handles the call. */
+/* Returns the nodes that a query finds. If there are other arguments, which have names, the package handles the call. */
 static PyObject *query_by(
     PyObject *self, PyObject *const *given, Py_ssize_t count, PyObject *names, const Signature *signature,
-    bool (*read)(PyObject *, Asked *), const char *part)
+    bool (*read_asked)(PyObject *, Asked *))
 {
-    PyObject *query;
+    PyObject *read[6];
     Asked asked;
-    if (asks_part(count, names))
-        return forward(self, part, given, count, names);
-    if (!read_arguments(signature, given, count, names, &query) || !read(query, &asked))
+    if (!read_arguments(signature, given, count, names, read))
         return NULL;
-    return answered((Reader *)self, &asked, true);
+    if (count > 1)
+        return PyErr_Format(PyExc_TypeError, "%s() takes 1 argument without a name, and %zd were given", signature->function, count);
+    if (names != NULL && (count == 1 || PyTuple_Size(names) > 1))
+        return part_by(self, read);
+    return read_asked(read[0], &asked) ? answered((Reader *)self, &asked, true) : NULL;
 }
 
 PyObject *reader_query(PyObject *self, PyObject *const *given, Py_ssize_t count, PyObject *names)
 {
-    return query_by(self, given, count, names, &of_text, read_query, "_query_part");
+    return query_by(self, given, count, names, &of_text, read_query);
 }
 
 PyObject *reader_query_items(PyObject *self, PyObject *arguments)
@@ -332,7 +331,7 @@ PyObject *reader_query_items(PyObject *self, PyObject *arguments)
 
 PyObject *reader_query_prepared(PyObject *self, PyObject *const *given, Py_ssize_t count, PyObject *names)
 {
-    return query_by(self, given, count, names, &of_prepared, read_prepared, "_query_prepared_part");
+    return query_by(self, given, count, names, &of_prepared, read_prepared);
 }
 
 PyObject *reader_count(PyObject *self, PyObject *const *given, Py_ssize_t count, PyObject *names)
@@ -350,68 +349,107 @@ PyObject *reader_count_items(PyObject *self, PyObject *arguments)
     return read_items(arguments, &asked) ? answered((Reader *)self, &asked, false) : NULL;
 }
 
-/* Returns part of a prepared query's answer. */
-static PyObject *answered_part(PyObject *self, PyObject *prepared, Part *part)
+/* Returns part of a prepared query's answer: nodes, or rows if `names` isn't None. */
+static PyObject *answered_part(PyObject *self, PyObject *prepared, PyObject *names, Part *part)
 {
     Asked asked;
     if (!read_prepared(prepared, &asked))
         return NULL;
+    if (names != Py_None && !PyList_Check(names))
+        return PyErr_Format(PyExc_TypeError, "%R isn't a list of names", names);
     asked.part = part;
+    asked.names = names == Py_None ? NULL : names;
     return answered((Reader *)self, &asked, true);
 }
 
-PyObject *reader_first(PyObject *self, PyObject *arguments)
+/* Reads a limit. None, and a limit that is too large for a list, mean the longest list. */
+static bool read_limit(PyObject *limit, size_t *most)
 {
-    PyObject *prepared;
-    unsigned long long from;
-    Py_ssize_t limit;
-    if (!PyArg_ParseTuple(arguments, "OKn", &prepared, &from, &limit))
-        return NULL;
-    return answered_part(self, prepared, &(Part){ .how = FROM_NUMBER, .limit = (size_t)limit, .from = from });
+    Py_ssize_t number = limit == Py_None ? PY_SSIZE_T_MAX : PyNumber_AsSsize_t(limit, NULL);
+    *most = (size_t)number;
+    return number >= 0;
 }
 
-PyObject *reader_any(PyObject *self, PyObject *arguments)
+PyObject *reader_first(PyObject *self, PyObject *const *given, Py_ssize_t count)
 {
-    PyObject *prepared;
-    Py_ssize_t limit;
-    if (!PyArg_ParseTuple(arguments, "On", &prepared, &limit))
+    Part part;
+    part.how = FROM_NUMBER;
+    if (!has_arguments(count, 4) || !read_number(given[1], &part.from) || !read_limit(given[2], &part.limit))
         return NULL;
-    return answered_part(self, prepared, &(Part){ .how = ANY, .limit = (size_t)limit });
+    return answered_part(self, given[0], given[3], &part);
 }
 
-/* Reads the arguments for a page: the query, the index's name, the direction, where the page begins, and the maximum number of
- * nodes. */
-static bool read_page(PyObject *arguments, PyObject **prepared, Part *part)
+PyObject *reader_any(PyObject *self, PyObject *const *given, Py_ssize_t count)
 {
-    const char *name, *key;
-    Py_ssize_t length, key_length, limit;
-    int descending;
+    Part part;
+    part.how = ANY;
+    if (!has_arguments(count, 2) || !read_limit(given[1], &part.limit))
+        return NULL;
+    return answered_part(self, given[0], Py_None, &part);
+}
+
+/* Reads an order, which is a pair of an index's name and whether it is descending. */
+static bool read_order(PyObject *order, Part *part)
+{
+    const uint8_t *name;
+    size_t length;
     uint32_t answer;
-    *part = (Part){ .how = IN_ORDER };
-    if (!PyArg_ParseTuple(arguments, "Oy#pIy#n", prepared, &name, &length, &descending, &part->cursor.kind, &key, &key_length, &limit))
-        return false;
-    answer = library.check_name((const uint8_t *)name, (size_t)length, &part->by);
-    if (answer == BES_OK && (size_t)key_length > sizeof part->cursor.key)
-        answer = BES_BAD_CURSOR;
-    if (answer != BES_OK) {
-        refused(answer);
+    int descending;
+    if (!PyTuple_Check(order) || PyTuple_Size(order) != 2) {
+        PyErr_Format(PyExc_TypeError, "%R isn't an order", order);
         return false;
     }
+    descending = PyObject_IsTrue(PyTuple_GetItem(order, 1));
+    if (descending < 0 || !read_text(PyTuple_GetItem(order, 0), &name, &length))
+        return false;
     part->descending = (uint32_t)descending;
-    part->cursor.length = (uint32_t)key_length;
-    memcpy(part->cursor.key, key, (size_t)key_length);
-    part->limit = (size_t)limit;
+    answer = library.check_name(name, length, &part->by);
+    return answer == BES_OK || refused(answer) != NULL;
+}
+
+/* Reads where a page begins: the kind and the key of its cursor. */
+static bool read_position(PyObject *kind, PyObject *bytes, bes_cursor *cursor)
+{
+    uint64_t number;
+    char *key;
+    Py_ssize_t length;
+    if (!read_number(kind, &number) || PyBytes_AsStringAndSize(bytes, &key, &length) < 0)
+        return false;
+    if ((size_t)length > sizeof cursor->key)
+        return refused(BES_BAD_CURSOR) != NULL;
+    *cursor = (bes_cursor){ .kind = (uint32_t)number, .length = (uint32_t)length };
+    memcpy(cursor->key, key, (size_t)length);
     return true;
 }
 
-PyObject *reader_page(PyObject *self, PyObject *arguments)
+/* Makes a page of these items, as the package's class does. Its cursor is made from the position when it is asked for. */
+static PyObject *page_of(PyObject *items, const Part *part, PyObject *order, PyObject *check)
 {
-    PyObject *prepared, *nodes;
+    static PyObject *more_name, *position_name;
+    PyObject *page = PyType_GenericNew((PyTypeObject *)known.page, NULL, NULL);
+    PyObject *position = Py_BuildValue("(OOIy#)", order, check, part->cursor.kind, (const char *)part->cursor.key,
+                                       (Py_ssize_t)part->cursor.length);
+    if (page == NULL || position == NULL || PyList_SetSlice(page, 0, 0, items) < 0 ||
+        kept_name(&more_name, "more") == NULL || kept_name(&position_name, "_position") == NULL ||
+        PyObject_SetAttr(page, more_name, part->more ? Py_True : Py_False) < 0 ||
+        PyObject_SetAttr(page, position_name, position) < 0)
+        Py_CLEAR(page);
+    Py_XDECREF(position);
+    return page;
+}
+
+PyObject *reader_page(PyObject *self, PyObject *const *given, Py_ssize_t count)
+{
+    PyObject *items, *page;
     Part part;
-    if (!read_page(arguments, &prepared, &part) || (nodes = answered_part(self, prepared, &part)) == NULL)
+    part.how = IN_ORDER;
+    part.more = 0;
+    if (!has_arguments(count, 7) || !read_order(given[1], &part) || !read_position(given[3], given[4], &part.cursor) ||
+        !read_limit(given[5], &part.limit) || (items = answered_part(self, given[0], given[6], &part)) == NULL)
         return NULL;
-    return Py_BuildValue("(NOIy#)", nodes, part.more ? Py_True : Py_False, part.cursor.kind, (const char *)part.cursor.key,
-                         (Py_ssize_t)part.cursor.length);
+    page = page_of(items, &part, given[1], given[2]);
+    Py_DECREF(items);
+    return page;
 }
 
 /* What a refresh found: how many nodes joined and left, and the nodes themselves. */

@@ -204,6 +204,13 @@ static PyObject *reader_call(PyObject *self, PyObject *const *arguments, Py_ssiz
     return result;
 }
 
+void unpin_reader(Reader *reader)
+{
+    abandon_draft(reader);
+    reader->is_pinned = false;
+    unpin(reader->user);
+}
+
 static PyObject *reader_unpin(PyObject *self, PyObject *nothing)
 {
     Reader *reader = (Reader *)self;
@@ -212,11 +219,8 @@ static PyObject *reader_unpin(PyObject *self, PyObject *nothing)
         Py_RETURN_NONE;
     if (!enter(reader->user))
         return NULL;
-    if (reader->is_pinned) {
-        abandon_draft(reader);
-        reader->is_pinned = false;
-        unpin(reader->user);
-    }
+    if (reader->is_pinned)
+        unpin_reader(reader);
     leave(reader->user);
     Py_RETURN_NONE;
 }
@@ -270,6 +274,7 @@ static int reader_init(PyObject *self, PyObject *arguments, PyObject *names)
 static int reader_clear(PyObject *self)
 {
     give_pin_up((Reader *)self);
+    Py_CLEAR(((Reader *)self)->batch);
     Py_CLEAR(((Reader *)self)->user);
     return 0;
 }
@@ -278,6 +283,7 @@ static int reader_traverse(PyObject *self, visitproc visit, void *arg)
 {
     Py_VISIT(Py_TYPE(self));
     Py_VISIT(((Reader *)self)->user);
+    Py_VISIT(((Reader *)self)->batch);
     return 0;
 }
 
@@ -311,8 +317,9 @@ static PyObject *get_is_pinned(PyObject *self, void *nothing)
 
 static PyObject *get_count(PyObject *self, void *nothing)
 {
+    const Batch *batch = ((Reader *)self)->batch;
     (void)nothing;
-    return PyLong_FromSize_t(((Reader *)self)->count);
+    return PyLong_FromSize_t(batch == NULL ? 0 : batch->count);
 }
 
 #define FAST(function) (PyCFunction)(void (*)(void))function, METH_FASTCALL
@@ -364,11 +371,13 @@ static PyMethodDef methods[] = {
     { "_read", METHOD(reader_read), "A node's attribute with its kind. Raises `NoAttribute` if there is none." },
     { "_value", METHOD(reader_value), "A node's attribute. Raises `NoAttribute` if there is none." },
     { "_query_items", reader_query_items, METH_VARARGS, "The nodes that meet a query of encoded items." },
-    { "_page", reader_page, METH_VARARGS,
-      "A page of a prepared query: its nodes, whether there are more, and the kind and the key of the last one." },
-    { "_rows", reader_rows, METH_VARARGS, "The nodes with their attributes of the names in a list: pairs of a node and a list of values." },
-    { "_first", reader_first, METH_VARARGS, "The first nodes that meet a prepared query, from a number on." },
-    { "_any", reader_any, METH_VARARGS, "Any nodes that meet a prepared query." },
+    { "_page", FAST(reader_page),
+      "A page of a prepared query, given the query, its order, what its cursors remember of it, the kind and the key of the\n"
+      "position, a limit or None, and for a page of rows a list of names, otherwise None." },
+    { "_first", FAST(reader_first),
+      "The first nodes that meet a prepared query, from a number on, up to a limit; with a list of names instead of None, their\n"
+      "rows." },
+    { "_any", FAST(reader_any), "Any nodes that meet a prepared query, up to a limit." },
     { "_count_items", reader_count_items, METH_VARARGS, "How many nodes there are." },
     { "_nodes_from", reader_nodes_from, METH_VARARGS, "Up to this many nodes from a number on, in one call." },
     { "_state", reader_state, METH_O, "The next of the batches that rebuild the snapshot, or None at their end." },
@@ -381,8 +390,8 @@ static PyMethodDef methods[] = {
     { "_remove_index", reader_remove_index, METH_O, "Collects: removes an index." },
     { "_collected", reader_collected, METH_NOARGS, "The batch of what has been collected, in which new nodes have their numbers." },
     { "_end_change", reader_end_change, METH_NOARGS,
-      "Writes what was collected, if nothing was written since this snapshot: the library's result, and the commit\n"
-      "number or what goes with the error. Nothing is collected then." },
+      "Writes what was collected, if nothing was written since this snapshot, and unpins it: the library's result, the commit\n"
+      "number or what goes with the error, and the batch that was collected, or None." },
     { "_call", FAST(reader_call), "Makes a call on the pass while it has this pin, and not a later one." },
     { NULL, NULL, 0, NULL },
 };

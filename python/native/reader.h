@@ -12,20 +12,22 @@ typedef struct Reader {
     bool is_pinned;
     bool takes_any_kind; /* whether the draft takes values of any kind */
     bes_draft draft;     /* the operations of the change on this snapshot, if there is one */
-    size_t count;        /* how many operations the draft has */
-    size_t length;       /* the number of bytes in their names and values */
+    Batch *batch;        /* the same operations, with the numbers of new nodes, or NULL */
 } Reader;
 
 /* Waits until no other thread is using the pass, and checks that it still has this pin and not a later one. If it doesn't,
  * raises an exception and returns NULL. */
 Handle *enter_pinned(Reader *reader);
 
+/* Unpins the reader's pass, and abandons its draft. The caller must have the pass, and the reader must be pinned. */
+void unpin_reader(Reader *reader);
+
 PyObject *reader_query(PyObject *self, PyObject *const *given, Py_ssize_t count, PyObject *names);
 PyObject *reader_query_items(PyObject *self, PyObject *arguments);
 PyObject *reader_query_prepared(PyObject *self, PyObject *const *given, Py_ssize_t count, PyObject *names);
-PyObject *reader_page(PyObject *self, PyObject *arguments);
-PyObject *reader_first(PyObject *self, PyObject *arguments);
-PyObject *reader_any(PyObject *self, PyObject *arguments);
+PyObject *reader_page(PyObject *self, PyObject *const *given, Py_ssize_t count);
+PyObject *reader_first(PyObject *self, PyObject *const *given, Py_ssize_t count);
+PyObject *reader_any(PyObject *self, PyObject *const *given, Py_ssize_t count);
 PyObject *reader_count(PyObject *self, PyObject *const *given, Py_ssize_t count, PyObject *names);
 PyObject *reader_count_items(PyObject *self, PyObject *arguments);
 PyObject *reader_refresh(PyObject *self, PyObject *const *given, Py_ssize_t count, PyObject *names);
@@ -46,6 +48,8 @@ PyObject *reader_end_change(PyObject *self, PyObject *nothing);
 
 PyObject *reader_column(PyObject *self, PyObject *const *given, Py_ssize_t count, PyObject *names);
 PyObject *reader_columns(PyObject *self, PyObject *const *given, Py_ssize_t count, PyObject *names);
-PyObject *reader_rows(PyObject *self, PyObject *arguments);
+
+/* Returns these nodes with their values for a list of names: pairs of a node and a list. The caller must have the pass. */
+PyObject *rows_of(Reader *reader, const uint64_t *nodes, size_t count, PyObject *names);
 
 #endif

@@ -221,3 +221,11 @@ bool read_arguments(const Signature *signature, PyObject *const *given, Py_ssize
         }
     return true;
 }
+
+bool has_arguments(Py_ssize_t given, Py_ssize_t wanted)
+{
+    if (given == wanted)
+        return true;
+    PyErr_Format(PyExc_TypeError, "the call takes %zd arguments, and %zd were given", wanted, given);
+    return false;
+}
