@@ -23,7 +23,8 @@ A store belongs to the process that opened it. In a forked child its passes, ver
 raise `Forked`, closing them does nothing, and the parent's handles are unaffected. The child can open its own stores.
 
 The wheel contains the library's shared object. In the repository, the package uses the one in c/, and otherwise the system's. Set
-BESTORE_LIBRARY to use a different one. """
+BESTORE_LIBRARY to use a different one. The documents in docs/ are in the repository, the tarball and the Debian package bestore.
+"""
 
 from ._version import VERSION as __version__
 from ._connected_errors import (
