@@ -22,8 +22,9 @@ function that takes a `Pass` or a `Version` works with either kind of store. The
 A store belongs to the process that opened it. In a forked child its passes, versions and prepared queries are dead: their calls
 raise `Forked`, closing them does nothing, and the parent's handles are unaffected. The child can open its own stores.
 
-The package contains its shared object; in the repository, it uses the shared object in c/. Set BESTORE_LIBRARY to use a
-different one. """
+The wheel contains the library's shared object. In the repository, the package uses the one in c/, and otherwise the system's. Set
+BESTORE_LIBRARY to use a different one. The documents in docs/ are in the repository, the tarball and the Debian package bestore.
+"""
 
 from ._version import VERSION as __version__
 from ._connected_errors import (

@@ -24,7 +24,7 @@ def parser() -> argparse.ArgumentParser:
     where.add_argument("--socket", metavar="PATH", help="the socket of the server to search")
     where.add_argument("--folder", metavar="FOLDER", help="read this folder, or Maildir, into the window's own store")
     made.add_argument("--geometry", default="940x560", metavar="WxH", help="the size in pixels, optionally followed by the position as +X+Y")
-    made.add_argument("query", nargs="?", metavar="QUERY", help="the first query; docs/QUERIES.md describes the language")
+    made.add_argument("query", nargs="?", metavar="QUERY", help="the first query; bestore-query(7) describes the language")
     return made
 
 
