@@ -1,6 +1,8 @@
 /* Tests that the kernel was asked for huge pages for the pages of a large store, and not for those of a small one. Linux shows this
  * in /proc/self/smaps, as the flag `hg` of a mapping. */
+#ifndef _DEFAULT_SOURCE
 #define _DEFAULT_SOURCE
+#endif
 #include "tests.h"
 #include <errno.h>
 #include <unistd.h>

@@ -1,5 +1,7 @@
 /* Requests memory for the proved code. */
+#ifndef _DEFAULT_SOURCE
 #define _DEFAULT_SOURCE
+#endif
 
 #include "heap.h"
 

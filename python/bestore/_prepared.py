@@ -5,7 +5,6 @@ from __future__ import annotations
 import ctypes
 import struct
 import threading
-from functools import cached_property
 from typing import List, Optional, Sequence, Set, Tuple
 
 from ._engine import PREPARED, HandleOwner
@@ -52,6 +51,7 @@ class PreparedQuery(HandleOwner, Prepared):
         self._seen: Set[int] = set()
         self._is_in_library = True
         self._refreshed_in: Optional[object] = None
+        self._known_check: Optional[int] = None  # for cursors
 
     def close(self) -> None:
         """Releases the query, unless it has already been released."""
@@ -68,9 +68,11 @@ class PreparedQuery(HandleOwner, Prepared):
                 return written.raw[:count.value].decode()
             room = count.value
 
-    @cached_property
+    @property
     def _check(self) -> int:
-        return check_of(self.text)
+        if self._known_check is None:
+            self._known_check = check_of(self.text)
+        return self._known_check
 
     def _asked_text(self) -> str:
         if self.source is None:

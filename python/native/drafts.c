@@ -26,11 +26,20 @@ static uint32_t begin_draft(Reader *reader, Handle *user)
     return answer;
 }
 
+/* Makes the batch, unless there already is one. A finalizer may run then, so call this before entering the pass too. */
 static bool make_batch(Reader *reader)
 {
+    PyObject *batch;
+    if (reader->batch != NULL)
+        return true;
+    batch = PyType_GenericNew((PyTypeObject *)known.batch, NULL, NULL);
+    if (batch == NULL)
+        return false;
     if (reader->batch == NULL)
-        reader->batch = (Batch *)PyType_GenericNew((PyTypeObject *)known.batch, NULL, NULL);
-    return reader->batch != NULL;
+        reader->batch = (Batch *)batch;
+    else
+        Py_DECREF(batch); /* another thread has made one meanwhile */
+    return true;
 }
 
 /* An operation to collect, the bytes of its name and value, and the library's result. */
@@ -67,7 +76,7 @@ static bool add_to_draft(Reader *reader, Handle *user, Collected *it, uint32_t *
 static bool collect(PyObject *self, Collected *it, PyObject *name)
 {
     Reader *reader = (Reader *)self;
-    Handle *user = enter_pinned(reader);
+    Handle *user = make_batch(reader) ? enter_pinned(reader) : NULL;
     uint32_t answer = BES_OK;
     bool is_done;
     size_t place;
@@ -153,7 +162,7 @@ PyObject *reader_remove_index(PyObject *self, PyObject *name)
 PyObject *reader_collected(PyObject *self, PyObject *nothing)
 {
     Reader *reader = (Reader *)self;
-    Handle *user = enter_pinned(reader);
+    Handle *user = make_batch(reader) ? enter_pinned(reader) : NULL;
     PyObject *batch;
     (void)nothing;
     if (user == NULL)

@@ -205,35 +205,36 @@ static PyObject *query_refused(Reader *reader, uint32_t answer, uint64_t carried
     return NULL;
 }
 
-/* Returns the nodes that a query found or their number, or raises its error. */
+/* Returns the nodes that a query found, their rows, or their number, or raises its error. */
 static PyObject *found_by(Reader *reader, const Asked *asked, bool wants_nodes, uint32_t answer, const Result *it)
 {
     if (answer != BES_OK)
         return query_refused(reader, answer, it->count, asked);
+    if (asked->names != NULL)
+        return rows_of(reader, it->nodes, (size_t)it->count, asked->names);
     return wants_nodes ? list_of(it->nodes, (size_t)it->count) : PyLong_FromUnsignedLongLong(it->count);
 }
 
-/* Returns the nodes that a query finds, their rows, or their number. The rows are read before another thread can use the pass. */
+/* Returns the nodes that a query finds, their rows, or their number. Objects are made only after other threads can use the pass
+ * again, because a finalizer might run then and wait for one of these threads. */
 static PyObject *answered(Reader *reader, const Asked *asked, bool wants_nodes)
 {
     Handle *user;
     Result it;
     uint32_t answer = 0;
-    bool is_done, has_rows;
+    bool is_done;
     PyObject *found = NULL;
     if (asked->prepared != NULL && !enter(asked->prepared))
         return NULL;
     user = enter_pinned(reader);
     is_done = user != NULL && ask(user, reader->most, asked, wants_nodes, &it, &answer);
+    if (user != NULL)
+        leave(user);
     if (asked->prepared != NULL)
         leave(asked->prepared);
     if (user == NULL)
         return NULL;
-    has_rows = is_done && answer == BES_OK && asked->names != NULL;
-    if (has_rows)
-        found = rows_of(reader, it.nodes, (size_t)it.count, asked->names);
-    leave(user);
-    if (is_done && !has_rows)
+    if (is_done)
         found = found_by(reader, asked, wants_nodes, answer, &it);
     if (it.nodes != NULL)
         give_back(user, &it);
@@ -367,6 +368,8 @@ static bool read_limit(PyObject *limit, size_t *most)
 {
     Py_ssize_t number = limit == Py_None ? PY_SSIZE_T_MAX : PyNumber_AsSsize_t(limit, NULL);
     *most = (size_t)number;
+    if (number < 0 && !PyErr_Occurred())
+        PyErr_Format(PyExc_ValueError, "a limit is 0 or more, and %zd was given", number);
     return number >= 0;
 }
 

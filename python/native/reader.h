@@ -49,7 +49,7 @@ PyObject *reader_end_change(PyObject *self, PyObject *nothing);
 PyObject *reader_column(PyObject *self, PyObject *const *given, Py_ssize_t count, PyObject *names);
 PyObject *reader_columns(PyObject *self, PyObject *const *given, Py_ssize_t count, PyObject *names);
 
-/* Returns these nodes with their values for a list of names: pairs of a node and a list. The caller must have the pass. */
+/* Returns these nodes with their values for a list of names: pairs of a node and a list. */
 PyObject *rows_of(Reader *reader, const uint64_t *nodes, size_t count, PyObject *names);
 
 #endif
