@@ -1,3 +1,4 @@
+pub mod Imports
 pub mod Changing
 pub mod Collecting
 pub mod Ending

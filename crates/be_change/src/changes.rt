@@ -1,11 +1,8 @@
 //! A change, which is the snapshot on which it is based and the operations that it collects.
 ghost use Rattle.std.specs.Prelude.{◌≡◌, ◌⊎◌, ◌≤◌, ◌<◌, ◌+◌, ◌^◌, [], ◌∷◌, ◌++◌, true, IfOk, IfErr};
 ghost use Rattle.std.specs.Prelude.{OnOk, false, length, unwrap_or};
-ghost use Rattle.be_value.specs.Value.{kind_of};
-ghost use Rattle.be_volume.specs.Reading.{attribute, index_kind};
-ghost use Rattle.be_volume.specs.Volume.{State};
-ghost use Rattle.be_volume.specs.declared.ops.Done.TheVariants.{Node};
 ghost use Rattle.be_volume.specs.declared.ops.Op.TheVariants as ops;
+ghost use Rattle.be_change.specs.Imports.{attribute, index_kind, kind_of, Node, State};
 ghost use Rattle.be_change.specs.Changing.{After, Reads, outcomes, with_op};
 ghost use Rattle.be_change.specs.Collecting.{HasNoRoom, IsOfRightKind, IsOfWrongKind};
 ghost use Rattle.be_change.specs.Left.{index_kind_left};

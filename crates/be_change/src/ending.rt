@@ -1,11 +1,8 @@
 //! Begins changes, reads through them and ends them, in a store.
 ghost use Rattle.std.specs.Prelude.{◌≡◌, ◌≤◌, ℕ, [], None, IfErr, IfOk};
-ghost use Rattle.be_value.specs.declared.refusals.Refusal.TheVariants.{OutOfMemory};
-ghost use Rattle.be_volume.specs.Reading.{attribute};
-ghost use Rattle.be_table.specs.Seats.{pinned_number};
-ghost use Rattle.be_table.specs.declared.pass.Knowledge.{Knowledge};
-ghost use Rattle.be_store.specs.History.{Pins, Unpins};
-ghost use Rattle.be_store.specs.Passes.{HasRead, IsPassOf, IsPinnedTo, volume_pinned};
+ghost use Rattle.be_change.specs.Imports.{attribute, pinned_number, volume_pinned, HasRead};
+ghost use Rattle.be_change.specs.Imports.{IsPassOf, IsPinnedTo, Knowledge, OutOfMemory, Pins};
+ghost use Rattle.be_change.specs.Imports.{Unpins};
 ghost use Rattle.be_change.specs.Changing.{After, Reads};
 ghost use Rattle.be_change.specs.Ending.{Begins, Ends, IsChangeOf, IsNotBegun, Releases};
 ghost use Rattle.be_change.specs.Ending.{are_checked};

@@ -1,7 +1,7 @@
 //! Checks whether the sets in a list of operations have the kinds that the indices of their names
 //! take.
 ghost use Rattle.std.specs.Prelude.{◌≡◌, ℕ, IfErr, OnOk, length};
-ghost use Rattle.be_store.specs.Passes.{HasRead, IsPassOf, IsPinnedTo, volume_pinned};
+ghost use Rattle.be_change.specs.Imports.{volume_pinned, HasRead, IsPassOf, IsPinnedTo};
 ghost use Rattle.be_change.specs.Comparing.{ComparesKinds, HaveRightKinds, IsFirstOfWrongKind};
 ghost use Rattle.be_change.specs.Left.{index_kind_left};
 

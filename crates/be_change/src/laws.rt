@@ -4,15 +4,8 @@
 //! The laws are functions that do nothing. Their contracts are the laws, for use in the crates
 //! above.
 ghost use Rattle.std.specs.Prelude.{◌≡◌, ℕ, IsOk, List};
-ghost use Rattle.be_table.specs.Steps.{IsPass};
-ghost use Rattle.be_table.specs.declared.pass.Knowledge.{Knowledge};
-ghost use Rattle.be_volume.specs.Ahead.{state_after};
-ghost use Rattle.be_volume.specs.Reading.{index_kind};
-ghost use Rattle.be_volume.specs.Volume.{State, steps};
-ghost use Rattle.be_volume.specs.declared.ops.Done.{Done};
-ghost use Rattle.be_volume.specs.declared.ops.Op.{Op};
-ghost use Rattle.be_store.specs.History.{Accepts, Learns};
-ghost use Rattle.be_store.specs.Passes.{HasRead};
+ghost use Rattle.be_change.specs.Imports.{index_kind, state_after, steps, Accepts, Done, HasRead};
+ghost use Rattle.be_change.specs.Imports.{IsPass, Knowledge, Learns, Op, State};
 ghost use Rattle.be_change.specs.Changing.{Changing};
 ghost use Rattle.be_change.specs.Ending.{IsChangeOf};
 ghost use Rattle.be_change.specs.Left.{index_kind_left};

@@ -1,7 +1,6 @@
 //! Ends a change with a single attempt, for programs that must not wait for the writer.
 ghost use Rattle.std.specs.Prelude.{◌≡◌, ℕ};
-ghost use Rattle.be_table.specs.declared.pass.Knowledge.{Knowledge};
-ghost use Rattle.be_store.specs.Passes.{IsPassOf, IsPinnedTo};
+ghost use Rattle.be_change.specs.Imports.{IsPassOf, IsPinnedTo, Knowledge};
 ghost use Rattle.be_change.specs.Ending.{EndsOnce, Releases};
 
 use crate::ending::release;

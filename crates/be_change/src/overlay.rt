@@ -1,8 +1,7 @@
 //! Computes what collected operations leave of one attribute, and of the index of one name.
 ghost use Rattle.std.specs.Prelude.{◌≡◌, ◌≤◌, ◌+◌, IsOk, count_by, true, unwrap_or};
-ghost use Rattle.be_volume.specs.Ahead.{next_after, state_after};
-ghost use Rattle.be_volume.specs.Reading.{attribute, index_kind, index_kinds};
-ghost use Rattle.be_volume.specs.Volume.{State, steps};
+ghost use Rattle.be_change.specs.Imports.{attribute, index_kind, index_kinds, next_after};
+ghost use Rattle.be_change.specs.Imports.{state_after, steps, State};
 ghost use Rattle.be_change.specs.Left.{index_kind_left, index_left_by, is_new, left_by};
 
 use be_value::{Kind, Name, Value};

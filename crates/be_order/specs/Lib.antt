@@ -1,3 +1,4 @@
+pub mod Imports
 pub mod Asked
 pub mod Firsts
 pub mod Ordered

@@ -8,12 +8,8 @@
 //! applied to many nodes.
 ghost use Rattle.std.specs.Prelude.{◌≡◌, ◌++◌, ◌∷◌, [], None, OnErr, OnOk, IfErr, IfOk, IfSome};
 ghost use Rattle.std.specs.Prelude.{Some, filter, true};
-ghost use Rattle.std.specs.Option.{option_copied};
-ghost use Rattle.be_value.specs.declared.refusals.Refusal.TheVariants.{OutOfMemory};
-ghost use Rattle.be_query.specs.View.{formula};
-ghost use Rattle.be_volume.specs.Query.{sat};
-ghost use Rattle.be_volume.specs.Reading.{index_kind};
-ghost use Rattle.be_volume.specs.Volume.{State};
+ghost use Rattle.be_order.specs.Imports.{formula, index_kind, option_copied, sat, OutOfMemory};
+ghost use Rattle.be_order.specs.Imports.{State};
 ghost use Rattle.be_order.specs.Asked.{HasFront, IsAsked, IsPageOfRest, IsPart, IsTestOf};
 ghost use Rattle.be_order.specs.Asked.{true_after};
 ghost use Rattle.be_order.specs.Ordered.{cursor_bytes};

@@ -5,8 +5,7 @@
 //! all nodes that satisfy the condition. Or the whole answer can be found and sorted. The estimates
 //! only select the method, so a wrong estimate can't make a page wrong.
 ghost use Rattle.std.specs.Prelude.{◌≡◌};
-ghost use Rattle.be_plan.specs.Sources.{StillAnswers};
-ghost use Rattle.be_volume.specs.Volume.{State};
+ghost use Rattle.be_order.specs.Imports.{State, StillAnswers};
 
 use crate::OrderedSource;
 use be_plan::{KeyBounds, KeyRange};

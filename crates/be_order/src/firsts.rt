@@ -1,15 +1,8 @@
 //! The first nodes of an answer by node number, and arbitrary nodes of an answer.
 ghost use Rattle.std.specs.Prelude.{◌≡◌, ℕ, List, IfErr, IfOk, IfSome, OnOk, Some};
 ghost use Rattle.std.specs.Prelude.{filter, nat_le, take, true};
-ghost use Rattle.std.specs.Option.{option_copied};
-ghost use Rattle.be_value.specs.Refusal.{Answers};
-ghost use Rattle.be_value.specs.declared.refusals.Refusal.TheVariants.{OutOfMemory};
-ghost use Rattle.be_query.specs.Grammar.{Formula};
-ghost use Rattle.be_volume.specs.Query.{scan};
-ghost use Rattle.be_volume.specs.Reading.{index_kind};
-ghost use Rattle.be_volume.specs.Volume.{State};
-ghost use Rattle.be_plan.specs.Prepared.{Decides};
-ghost use Rattle.be_plan.specs.Walk.{AreAllOn};
+ghost use Rattle.be_order.specs.Imports.{index_kind, option_copied, scan, Answers, AreAllOn};
+ghost use Rattle.be_order.specs.Imports.{Decides, Formula, OutOfMemory, State};
 ghost use Rattle.be_order.specs.Firsts.{IsAnyOf, from_number};
 
 use crate::{OrderedKeys, OrderedSource};

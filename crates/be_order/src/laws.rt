@@ -3,12 +3,7 @@
 //! These functions do nothing; their contracts state the laws.
 ghost use Rattle.std.specs.Prelude.{◌≡◌, ◌≢◌, ◌<◌, ℕ, Bool, List, None, Ok, Some, drop, length};
 ghost use Rattle.std.specs.Prelude.{slice_index};
-ghost use Rattle.std.specs.declared.option.Option.{Option};
-ghost use Rattle.be_query.specs.Grammar.{Formula};
-ghost use Rattle.be_value.specs.declared.values.Kind.{Kind};
-ghost use Rattle.be_volume.specs.Reading.{index_kind};
-ghost use Rattle.be_volume.specs.Sound.{IsSound};
-ghost use Rattle.be_volume.specs.Volume.{State};
+ghost use Rattle.be_order.specs.Imports.{index_kind, Formula, IsSound, Kind, Option, State};
 ghost use Rattle.be_order.specs.Ordered.{Page, after, in_order, nodes_of, ordered, page_of};
 ghost use Rattle.be_order.specs.Pages.{ArePages, nodes_in};
 

@@ -4,9 +4,7 @@
 //! page. It is a position and not a count, so a page of a later snapshot continues from the same
 //! point, whatever has been written since.
 ghost use Rattle.std.specs.Prelude.{◌≡◌, OnErr, IfOk};
-ghost use Rattle.be_value.specs.Refusal.{Answers};
-ghost use Rattle.be_volume.specs.Reading.{index_kind};
-ghost use Rattle.be_volume.specs.Volume.{State};
+ghost use Rattle.be_order.specs.Imports.{index_kind, Answers, State};
 ghost use Rattle.be_order.specs.Ordered.{after, cursor_bytes, in_order, page, page_of, page_with};
 
 use crate::keys::{Index, keys_after, move_cursor, put_keys_in_order, put_nodes};

@@ -1,9 +1,6 @@
 //! Sources that walk an index in its order.
 ghost use Rattle.std.specs.Prelude.{◌≡◌, [], true, false, IfErr, IfOk};
-ghost use Rattle.std.specs.Option.{option_copied};
-ghost use Rattle.be_value.specs.declared.refusals.Refusal.TheVariants.{OutOfMemory};
-ghost use Rattle.be_volume.specs.Volume.{State};
-ghost use Rattle.be_plan.specs.Sources.{StillAnswers};
+ghost use Rattle.be_order.specs.Imports.{option_copied, OutOfMemory, State, StillAnswers};
 ghost use Rattle.be_order.specs.Ordered.{cursor_bytes};
 ghost use Rattle.be_order.specs.Walks.{HasWalked, IsEntry, IsPassing};
 

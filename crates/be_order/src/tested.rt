@@ -4,12 +4,8 @@
 //! on the order's own name. The strings in the keys then decide it. If all nodes that satisfy the
 //! condition are known, marks for these nodes decide it. In both cases, the walk reads no node.
 ghost use Rattle.std.specs.Prelude.{◌≡◌, IfErr, IfOk, IfSome, None, OnErr, Some};
-ghost use Rattle.std.specs.Option.{option_copied};
-ghost use Rattle.be_value.specs.declared.refusals.Refusal.TheVariants.{OutOfMemory};
-ghost use Rattle.be_query.specs.Grammar.{Formula};
-ghost use Rattle.be_query.specs.View.{formula};
-ghost use Rattle.be_volume.specs.Reading.{index_kind};
-ghost use Rattle.be_volume.specs.Volume.{State};
+ghost use Rattle.be_order.specs.Imports.{formula, index_kind, option_copied, Formula, OutOfMemory};
+ghost use Rattle.be_order.specs.Imports.{State};
 ghost use Rattle.be_order.specs.Asked.{IsPageOfRest, IsTestFor, Lists};
 ghost use Rattle.be_order.specs.Ordered.{cursor_bytes};
 

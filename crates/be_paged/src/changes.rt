@@ -3,29 +3,17 @@
 //! A node's attribute and its pair in an index change one after the other. Between the two changes,
 //! the contents encode a volume whose index and attribute disagree. So the invariant between
 //! changes is only that the trees are well formed, whatever pairs they hold.
-ghost use Rattle.std.specs.Option.{option_copied};
 ghost use Rattle.std.specs.Prelude.{◌≡◌, ℕ, ◌<◌, length, IsTrue, IfOk, IfErr, OnOk};
 ghost use Rattle.std.specs.Prelude.{OnErr, IfSome, IfNone, Some, None, option_map, true, is_some};
 ghost use Rattle.std.specs.Prelude.{List};
-ghost use Rattle.be_value.specs.Key.{key, IsValue};
-ghost use Rattle.be_value.specs.Value.{kind_of as kind_in, is_indexable};
-ghost use Rattle.be_value.specs.declared.values.Value.{Value as AnyValue};
-ghost use Rattle.be_pages.specs.Pages.{IsUnchanged, KeepsStart};
-ghost use Rattle.be_pages.specs.Refusal.{IsFullOf};
-ghost use Rattle.be_tree.specs.Counting.{TakesFewer, most_taken, one_of};
-ghost use Rattle.be_tree_reading.specs.Key.{payload_at};
-ghost use Rattle.be_tree_reading.specs.Tree.{BecomesTree, IsTree, level_of_root, pages, pairs};
-ghost use Rattle.be_volume.specs.Indices.{with_pair};
-ghost use Rattle.be_volume.specs.Reading.{attribute};
-ghost use Rattle.be_volume.specs.Sound.{IsSound};
-ghost use Rattle.be_volume.specs.Volume.{State};
-ghost use Rattle.be_volume.specs.declared.maps.Index.{Index as AnyIndex};
-ghost use Rattle.be_paged_reading.specs.Catalog.{IsIndexOf};
+ghost use Rattle.be_paged.specs.Imports.{attribute, contents, is_indexable, key, kind_in};
+ghost use Rattle.be_paged.specs.Imports.{level_of_root, most_taken, one_of, option_copied, pages};
+ghost use Rattle.be_paged.specs.Imports.{pairs, payload_at, with_pair, AnyIndex, AnyValue};
+ghost use Rattle.be_paged.specs.Imports.{BecomesTree, Encodes, IsFullOf, IsInHand, IsIndexOf};
+ghost use Rattle.be_paged.specs.Imports.{IsKnownIn, IsNamedAt, IsSound, IsTree, IsUnchanged};
+ghost use Rattle.be_paged.specs.Imports.{IsValue, KeepsStart, State, TakesFewer};
 ghost use Rattle.be_paged.specs.Changes.{IsReady, repaired, with_indices, key_turned};
-ghost use Rattle.be_paged_reading.specs.Page.{contents, IsNamedAt};
-ghost use Rattle.be_paged_reading.specs.Place.{IsKnownIn};
 ghost use Rattle.be_paged.specs.Stops.{Grows, GrowsTree, RefusesAt, RefusesNear, StopsTree};
-ghost use Rattle.be_paged_reading.specs.Version.{IsInHand, Encodes};
 
 use arrayvec::ArrayVec;
 use be_paged_reading::{Version, index_at, search, set_root, value_in};

@@ -1,11 +1,7 @@
 //! How many pages a version has.
-ghost use Rattle.std.specs.FinMap as map;
 ghost use Rattle.std.specs.Prelude.{ℕ, ◌+◌, ◌*◌, ◌≤◌, length};
-ghost use Rattle.be_pages.specs.declared.room.PageState.{PageState as AnyPageState};
-ghost use Rattle.be_volume.specs.Items.{items};
-ghost use Rattle.be_volume.specs.Volume.{State};
-ghost use Rattle.be_paged_reading.specs.Page.{reach};
-ghost use Rattle.be_paged_reading.specs.Version.{IsVersion};
+ghost use Rattle.std.specs.FinMap as map;
+ghost use Rattle.be_paged.specs.Imports.{items, reach, AnyPageState, IsVersion, State};
 
 /// A law: a version has at most its version page plus, for each tree, one page per five items and
 /// one for the remainder.

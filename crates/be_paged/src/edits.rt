@@ -5,15 +5,12 @@
 //! one thing about the state after such an error: the write holds few pages (`Stops`).
 ghost use Rattle.std.specs.Prelude.{◌≡◌, [], ◌+◌, ◌≤◌, ◌<◌, ◌^◌, All, length, IsTrue, IfOk};
 ghost use Rattle.std.specs.Prelude.{OnOk, IsOk};
-ghost use Rattle.be_volume.specs.Sound.{IsSound};
-ghost use Rattle.be_volume.specs.Volume.{State, step, steps};
 ghost use Rattle.be_volume.specs.declared.ops.Op.TheVariants as ops;
-ghost use Rattle.be_paged.specs.Changes.{Changes, IsBare, IsInHandFor, Reaches};
-ghost use Rattle.be_paged.specs.Changes.{SetsSameValue, Steps};
-ghost use Rattle.be_paged_reading.specs.Page.{contents};
-ghost use Rattle.be_paged_reading.specs.Place.{IsAsked, IsKnownIn};
+ghost use Rattle.be_paged.specs.Imports.{contents, step, steps, Encodes, IsAsked, IsInHand};
+ghost use Rattle.be_paged.specs.Imports.{IsKnownIn, IsSound, State};
+ghost use Rattle.be_paged.specs.Changes.{Changes, IsBare, IsInHandFor, Reaches, SetsSameValue};
+ghost use Rattle.be_paged.specs.Changes.{Steps};
 ghost use Rattle.be_paged.specs.Stops.{Grows, RefusesAt, RefusesNear, StopsList};
-ghost use Rattle.be_paged_reading.specs.Version.{IsInHand, Encodes};
 
 use crate::changes::change_entry;
 use arrayvec::ArrayVec;

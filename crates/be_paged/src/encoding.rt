@@ -1,6 +1,6 @@
 //! The encoding of a version page.
 ghost use Rattle.std.specs.Prelude.{◌≡◌, ℕ, ◌+◌, ◌*◌, ◌<◌};
-ghost use Rattle.be_paged_reading.specs.Page.{contents_of, IsVersionPage};
+ghost use Rattle.be_paged.specs.Imports.{contents_of, IsVersionPage};
 
 /// A law: the contents of a version page (its next number, roots and indices) determine every word
 /// that it uses. The function does nothing.

@@ -1,9 +1,6 @@
 //! The version page of an empty volume.
 ghost use Rattle.std.specs.Prelude.{◌≡◌, ℕ, ◌<◌, IsTrue, slice_index};
-ghost use Rattle.be_pages.specs.declared.room.PageState.{PageState};
-ghost use Rattle.be_pages.specs.Pages.{is_kept};
-ghost use Rattle.be_volume.specs.Volume.{empty};
-ghost use Rattle.be_paged_reading.specs.Version.{IsVersion};
+ghost use Rattle.be_paged.specs.Imports.{empty, is_kept, IsVersion, PageState};
 
 use be_pages::PAGE_WORDS;
 

@@ -4,11 +4,8 @@
 //! Each law is a function that does nothing; its contract is the law. A caller gets the law by
 //! calling the function.
 ghost use Rattle.std.specs.Prelude.{◌≡◌, ℕ};
-ghost use Rattle.be_pages.specs.declared.room.PageState.{PageState as AnyPageState};
-ghost use Rattle.be_pages.specs.Pages.{after_keep};
-ghost use Rattle.be_tree_reading.specs.Forest.{IsUndone, IsWriteStart};
-ghost use Rattle.be_volume.specs.Volume.{State};
-ghost use Rattle.be_paged_reading.specs.Version.{IsVersion};
+ghost use Rattle.be_paged.specs.Imports.{after_keep, AnyPageState, IsUndone, IsVersion};
+ghost use Rattle.be_paged.specs.Imports.{IsWriteStart, State};
 
 /// A version that existed when the write began encodes the same volume after the write is undone.
 #[tactic(auto, using(crate::proofs::StayingVersion::version_stays))]

@@ -1,18 +1,11 @@
 //! Writes: a list of operations on a version.
 ghost use Rattle.std.specs.Prelude.{◌≡◌, ◌+◌, ◌≤◌, ◌<◌, ◌^◌, [], ◌∷◌, length, All, IsTrue, IfOk};
 ghost use Rattle.std.specs.Prelude.{IfErr, OnErr};
-ghost use Rattle.std.specs.Result.{result_err};
-ghost use Rattle.be_pages.specs.Pages.{is_kept, IsUnchanged, Swaps};
-ghost use Rattle.be_pages.specs.declared.room.PageState.TheVariants.{Filled};
-ghost use Rattle.be_tree.specs.Counting.{TakesFewer};
-ghost use Rattle.be_volume.specs.Sound.{IsName};
-ghost use Rattle.be_volume.specs.Volume.{State, steps};
+ghost use Rattle.be_paged.specs.Imports.{contents, contents_of, is_kept, result_err, steps};
+ghost use Rattle.be_paged.specs.Imports.{AnswersFor, Filled, IsAsked, IsName, IsUnchanged};
+ghost use Rattle.be_paged.specs.Imports.{IsVersion, IsVersionPage, State, Swaps, TakesFewer};
 ghost use Rattle.be_paged.specs.Changes.{Applies, IsRefusedList};
-ghost use Rattle.be_paged_reading.specs.Facts.{AnswersFor};
-ghost use Rattle.be_paged_reading.specs.Place.{IsAsked};
 ghost use Rattle.be_paged.specs.Stops.{RefusesAt, TakesFew};
-ghost use Rattle.be_paged_reading.specs.Version.{IsVersion};
-ghost use Rattle.be_paged_reading.specs.Page.{contents, contents_of, IsVersionPage};
 
 use crate::edits::edit_all;
 use arrayvec::ArrayVec;

@@ -1,7 +1,6 @@
 //! A version as a source that walks indices in their order.
 ghost use Rattle.std.specs.Prelude.{◌≡◌};
-ghost use Rattle.be_volume.specs.Volume.{State};
-ghost use Rattle.be_paged_reading.specs.Version.{HasVersion, IsVersion};
+ghost use Rattle.be_paged_order.specs.Imports.{HasVersion, IsVersion, State};
 
 use crate::ways::way_of;
 use arrayvec::ArrayVec;
@@ -46,7 +45,7 @@ impl<L: Look> OrderedPages<L> {
 
 impl<L: Look> Source for OrderedPages<L> {
     ghost use Rattle.std.specs.Prelude.{ℕ};
-    ghost use Rattle.be_pages.specs.declared.room.PageState.{PageState as AnyPageState};
+    ghost use Rattle.be_paged_order.specs.Imports.{AnyPageState};
 
     ghost Kept = { L.Kept × ((ℕ → AnyPageState) × (ℕ → ℕ → ℕ)) };
 

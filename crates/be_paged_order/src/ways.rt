@@ -1,9 +1,6 @@
 //! Where a walk over an index begins and ends.
 ghost use Rattle.std.specs.Prelude.{◌≡◌, Some, true, false};
-ghost use Rattle.std.specs.Option.{option_copied};
-ghost use Rattle.std.specs.Ordering.{is_ge};
-ghost use Rattle.be_volume.specs.Maps.{name_cmp};
-ghost use Rattle.be_order.specs.Ordered.{cursor_bytes};
+ghost use Rattle.be_paged_order.specs.Imports.{cursor_bytes, is_ge, name_cmp, option_copied};
 ghost use Rattle.be_paged_order.specs.Ways.{IsWayOf, is_up_to};
 
 use be_order::OrderedKeys;

@@ -1,3 +1,4 @@
+pub mod Imports
 pub mod Entry
 pub mod Page
 pub mod Catalog

@@ -3,8 +3,7 @@
 //! All operations are checked before the first change is made. If the first operation in a list
 //! changes this attribute, it can use the result instead of looking up the attribute again.
 ghost use Rattle.std.specs.Prelude.{◌≡◌, ℕ, Some};
-ghost use Rattle.std.specs.Option.{option_or};
-ghost use Rattle.be_pages.specs.declared.room.PageState.{PageState as AnyPageState};
+ghost use Rattle.be_paged_reading.specs.Imports.{option_or, AnyPageState};
 ghost use Rattle.be_paged_reading.specs.Place.{IsAsked, IsKnownOf};
 
 use be_value::Name;

@@ -6,14 +6,10 @@
 ghost use Rattle.std.specs.Prelude.{◌≡◌, ◌+◌, ◌≤◌, ◌<◌, ℕ, IsTrue, IfOk, IfSome, IfNone, length};
 ghost use Rattle.std.specs.Prelude.{option_map, drop, slice_get, is_some, true, Some, None, List};
 ghost use Rattle.std.specs.FinMap as map;
-ghost use Rattle.be_pages.specs.Pages.{IsUnchanged, is_readable};
-ghost use Rattle.be_value.specs.Key.{IsValue};
-ghost use Rattle.be_value.specs.declared.values.Value.{Value as AnyValue};
-ghost use Rattle.be_tree_reading.specs.Cursor.{IsCursor, remaining};
-ghost use Rattle.be_tree_reading.specs.Page.{IsItem, IsReadableAt, item_at};
-ghost use Rattle.be_tree_reading.specs.Tree.{IsTree, pairs};
-ghost use Rattle.be_volume.specs.Maps.{Nodes as AllNodes, attributes_of};
-ghost use Rattle.be_volume.specs.Sound.{IsName};
+ghost use Rattle.be_paged_reading.specs.Imports.{attributes_of, is_readable, item_at, pairs};
+ghost use Rattle.be_paged_reading.specs.Imports.{remaining, AllNodes, AnyValue, IsCursor, IsItem};
+ghost use Rattle.be_paged_reading.specs.Imports.{IsName, IsReadableAt, IsTree, IsUnchanged};
+ghost use Rattle.be_paged_reading.specs.Imports.{IsValue};
 ghost use Rattle.be_paged_reading.specs.Catalog.{IsCatalog, catalog_key};
 ghost use Rattle.be_paged_reading.specs.Facts.{count_of};
 ghost use Rattle.be_paged_reading.specs.Place.{IsPlaceOf};

@@ -1,13 +1,9 @@
 //! The keys and payloads of the catalog.
 ghost use Rattle.std.specs.Prelude.{◌≡◌, ◌+◌, ◌≤◌, ◌<◌, ◌^◌, ℕ, List, ◌∷◌, length, Ok, Some};
 ghost use Rattle.std.specs.Prelude.{IsTrue, IsUtf8};
-ghost use Rattle.std.specs.Int.{to_be_bytes, w32, w64};
-ghost use Rattle.be_pages.specs.Pages.{IsUnchanged, is_readable};
-ghost use Rattle.be_tree_reading.specs.Page.{IsItem, item_at};
-ghost use Rattle.be_value.specs.Key.{IsValue};
-ghost use Rattle.be_value.specs.Name.{name_from, text_from};
-ghost use Rattle.be_value.specs.Value.{kind_of};
-ghost use Rattle.be_value.specs.declared.values.Value.{Value as AnyValue};
+ghost use Rattle.be_paged_reading.specs.Imports.{is_readable, item_at, kind_of, name_from};
+ghost use Rattle.be_paged_reading.specs.Imports.{text_from, to_be_bytes, w32, w64, AnyValue};
+ghost use Rattle.be_paged_reading.specs.Imports.{IsItem, IsUnchanged, IsValue};
 ghost use Rattle.be_paged_reading.specs.Catalog.{catalog_key as key_in_catalog};
 ghost use Rattle.be_paged_reading.specs.Catalog.{payload_of as payload};
 

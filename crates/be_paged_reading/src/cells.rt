@@ -3,19 +3,13 @@
 //! Each value gets a cell. The bytes of all strings are written one after another.
 ghost use Rattle.std.specs.Prelude.{◌≡◌, ◌+◌, ◌-◌, ◌*◌, ◌^◌, ◌<◌, ◌≤◌, ℕ, ℤ, List, [], ◌∷◌, ◌++◌};
 ghost use Rattle.std.specs.Prelude.{Ok, Err, Some, drop, length};
-ghost use Rattle.std.specs.Int.{cast_unsigned, w32, w64};
-ghost use Rattle.std.specs.Int.RustNames.{FitsSigned};
-ghost use Rattle.std.specs.declared.result.Result.{Result as AnyResult};
-ghost use Rattle.be_pages.specs.Pages.{IsUnchanged};
-ghost use Rattle.be_tree_reading.specs.Page.{IsReadableAt, item_at};
-ghost use Rattle.be_value.specs.Key.{IsValue};
-ghost use Rattle.be_value.specs.Value.{code_of};
-ghost use Rattle.be_value.specs.declared.refusals.Refusal.{Refusal as AnyRefusal};
-ghost use Rattle.be_value.specs.declared.values.Value.{Value as AnyValue};
+ghost use Rattle.be_paged_reading.specs.Imports.{cast_unsigned, code_of, item_at, w32, w64};
+ghost use Rattle.be_paged_reading.specs.Imports.{AnyRefusal, AnyResult, AnyValue, FitsSigned};
+ghost use Rattle.be_paged_reading.specs.Imports.{IsReadableAt, IsUnchanged, IsValue};
 ghost use Rattle.be_paged_reading.specs.Catalog.{catalog_key as key_in_catalog};
 ghost use Rattle.be_paged_reading.specs.Catalog.{payload_of as payload};
-ghost use Rattle.be_paged_reading.specs.Cells.{AreReported, IsFew, cell_of, data_in};
-ghost use Rattle.be_paged_reading.specs.Cells.{data_of, name_in, over};
+ghost use Rattle.be_paged_reading.specs.Cells.{AreReported, IsFew, cell_of, data_in, data_of};
+ghost use Rattle.be_paged_reading.specs.Cells.{name_in, over};
 ghost use Rattle.be_paged_reading.specs.declared.cells.Cell.{Cell as AnyCell};
 
 use crate::catalog::{kind_at, number32_at, number64_at};

@@ -5,14 +5,10 @@
 //! bytes of a string are copied. If the caller prepares the comparison before testing many items,
 //! the string isn't decoded either.
 ghost use Rattle.std.specs.Prelude.{◌≡◌, ◌+◌, ◌≤◌, ℕ, List, ◌∷◌, IfSome, Ok, IsTrue, IsUtf8};
-ghost use Rattle.std.specs.Option.{option_copied};
-ghost use Rattle.be_pages.specs.Pages.{IsUnchanged, is_readable};
-ghost use Rattle.be_query.specs.View.{literal as literal_of};
-ghost use Rattle.be_tree_reading.specs.Page.{IsItem, item_at};
-ghost use Rattle.be_value.specs.Key.{IsValue};
-ghost use Rattle.be_value.specs.Name.{text_from};
-ghost use Rattle.be_value.specs.declared.values.Value.{Value as AnyValue};
-ghost use Rattle.be_volume.specs.Query.{holds, holds_of_number, holds_of_text, literal_number};
+ghost use Rattle.be_paged_reading.specs.Imports.{holds, holds_of_number, holds_of_text};
+ghost use Rattle.be_paged_reading.specs.Imports.{is_readable, item_at, literal_number, literal_of};
+ghost use Rattle.be_paged_reading.specs.Imports.{option_copied, text_from, AnyValue, IsItem};
+ghost use Rattle.be_paged_reading.specs.Imports.{IsUnchanged, IsValue};
 ghost use Rattle.be_paged_reading.specs.Catalog.{payload_of as payload};
 
 use crate::catalog::{kind_at, number32_at, number64_at};

@@ -1,8 +1,8 @@
 //! The indices of a loaded version, in ascending order of their names.
 ghost use Rattle.std.specs.Prelude.{◌≡◌, All, ◌<◌, ◌≤◌, IfOk, IfErr, map, length, slice_index_or};
+ghost use Rattle.be_paged_reading.specs.Imports.{IsName};
 ghost use Rattle.be_paged_reading.specs.Entries.{with_root};
 ghost use Rattle.be_paged_reading.specs.Entry.{Entry as AnyEntry};
-ghost use Rattle.be_volume.specs.Sound.{IsName};
 ghost use Rattle.be_paged_reading.specs.Page.{IsNamedAt, IsGapAt};
 
 use crate::entry::Entry;

@@ -1,9 +1,7 @@
 //! An index as it is stored on a version page.
 ghost use Rattle.std.specs.Prelude.{◌≡◌, ℕ, ◌+◌, ◌<◌, ◌≤◌, IsTrue, slice_index};
-ghost use Rattle.be_pages.specs.Pages.{IsUnchanged, is_readable, OnlyWrites};
-ghost use Rattle.be_pages.specs.declared.room.PageState.TheVariants.{Filled};
-ghost use Rattle.be_volume.specs.Maps.{name_cmp};
-ghost use Rattle.be_volume.specs.Sound.{IsName};
+ghost use Rattle.be_paged_reading.specs.Imports.{is_readable, name_cmp, Filled, IsName};
+ghost use Rattle.be_paged_reading.specs.Imports.{IsUnchanged, OnlyWrites};
 ghost use Rattle.be_paged_reading.specs.Entry.{Entry as AnyEntry};
 ghost use Rattle.be_paged_reading.specs.Page.{kind_numbered as kind_of_number, entry_at, IsEntry};
 
@@ -27,7 +25,7 @@ pub struct Entry {
 
 impl Model for Entry {
     ghost use Rattle.std.specs.Prelude.{◌≤◌, slice_index};
-    ghost use Rattle.be_tree_reading.specs.Page.{bytes_at};
+    ghost use Rattle.be_paged_reading.specs.Imports.{bytes_at};
     ghost use Rattle.be_paged_reading.specs.Entry.{Entry as AnyEntry, HaveText};
 
     ghost Value = { AnyEntry };

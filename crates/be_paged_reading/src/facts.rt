@@ -5,11 +5,8 @@
 //! that changes this attribute next doesn't have to look it up again.
 ghost use Rattle.std.specs.Prelude.{◌≡◌, true};
 ghost use Rattle.std.specs.FinMap as map;
-ghost use Rattle.be_pages.specs.Pages.{IsUnchanged};
-ghost use Rattle.be_tree_reading.specs.Tree.{IsTree};
-ghost use Rattle.be_volume.specs.Maps.{attributes_of};
-ghost use Rattle.be_volume.specs.Sound.{IsSound};
-ghost use Rattle.be_volume.specs.Volume.{State};
+ghost use Rattle.be_paged_reading.specs.Imports.{attributes_of, IsSound, IsTree, IsUnchanged};
+ghost use Rattle.be_paged_reading.specs.Imports.{State};
 ghost use Rattle.be_paged_reading.specs.Facts.{AnswersFor, IsCounted, count_of as count_in};
 ghost use Rattle.be_paged_reading.specs.Page.{contents};
 
@@ -94,7 +91,7 @@ fn is_bare(version: &Version, counted: Option<(u64, Option<usize>)>, node: u64) 
 impl<L: Look> Facts for PageFacts<'_, L> {
     ghost use Rattle.std.specs.Prelude.{ℕ};
     ghost use base.Fml.{GName};
-    ghost use Rattle.be_pages.specs.declared.room.PageState.{PageState as AnyPageState};
+    ghost use Rattle.be_paged_reading.specs.Imports.{AnyPageState};
     ghost use Rattle.be_paged_reading.specs.Page.{contents};
     ghost use Rattle.be_paged_reading.specs.Facts.{FactsOf};
 

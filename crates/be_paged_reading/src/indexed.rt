@@ -4,11 +4,8 @@
 //! attribute. For signed 64-bit numbers, such as sizes and times, the key is built directly from
 //! the words of the number. All other values are decoded first.
 ghost use Rattle.std.specs.Prelude.{◌≡◌, ◌≤◌, ◌++◌, is_some, length};
-ghost use Rattle.std.specs.Int.{to_be_bytes, w64};
-ghost use Rattle.be_pages.specs.Pages.{IsUnchanged};
-ghost use Rattle.be_tree_reading.specs.Key.{payload_at};
-ghost use Rattle.be_tree_reading.specs.Page.{IsReadableAt};
-ghost use Rattle.be_tree_reading.specs.Tree.{IsTree, pairs};
+ghost use Rattle.be_paged_reading.specs.Imports.{pairs, payload_at, to_be_bytes, w64, IsReadableAt};
+ghost use Rattle.be_paged_reading.specs.Imports.{IsTree, IsUnchanged};
 ghost use Rattle.be_paged_reading.specs.Source.{DecidesPair};
 
 use crate::catalog::{kind_at, number64_at, value_at};

@@ -7,12 +7,9 @@
 //! several dozen.
 ghost use Rattle.std.specs.Prelude.{◌≡◌, ◌∷◌, ◌+◌, ◌≤◌, [], IsTrue, IfNone, IfOk, IfSome, false};
 ghost use Rattle.std.specs.Prelude.{take, true};
-ghost use Rattle.std.specs.Int.{from_be_bytes, to_be_bytes, w64};
-ghost use Rattle.be_pages.specs.Pages.{IsUnchanged, is_readable};
-ghost use Rattle.be_tree_reading.specs.Cursor.{IsCursor, remaining};
-ghost use Rattle.be_tree_reading.specs.Page.{IsItem, item_at};
-ghost use Rattle.be_tree_reading.specs.Range.{pairs_from};
-ghost use Rattle.be_tree_reading.specs.Tree.{IsTree, pairs};
+ghost use Rattle.be_paged_reading.specs.Imports.{from_be_bytes, is_readable, item_at, pairs};
+ghost use Rattle.be_paged_reading.specs.Imports.{pairs_from, remaining, to_be_bytes, w64, IsCursor};
+ghost use Rattle.be_paged_reading.specs.Imports.{IsItem, IsTree, IsUnchanged};
 ghost use Rattle.be_paged_reading.specs.Nodes.{is_mark, marked};
 
 use be_pages::Look;

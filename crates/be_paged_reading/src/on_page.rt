@@ -7,13 +7,11 @@
 //! name is compared first.
 ghost use Rattle.std.specs.Prelude.{◌≡◌, ◌+◌, ◌<◌, ◌≤◌, IsTrue, length, map, slice_index};
 ghost use Rattle.std.specs.Prelude.{slice_index_or, true};
-ghost use Rattle.std.specs.Int.{to_be_bytes, w64};
-ghost use Rattle.std.specs.List.{range_with_len};
-ghost use Rattle.be_volume.specs.Maps.{name_cmp};
-ghost use Rattle.be_pages.specs.Pages.{IsUnchanged, is_readable};
+ghost use Rattle.be_paged_reading.specs.Imports.{is_readable, name_cmp, range_with_len};
+ghost use Rattle.be_paged_reading.specs.Imports.{to_be_bytes, w64, IsUnchanged};
 ghost use Rattle.be_paged_reading.specs.Entry.{Entry as AnyEntry};
-ghost use Rattle.be_paged_reading.specs.Page.{contents_of, entry_at, IsEntry};
-ghost use Rattle.be_paged_reading.specs.Page.{IsNamedAt, IsVersionPage};
+ghost use Rattle.be_paged_reading.specs.Page.{contents_of, entry_at, IsEntry, IsNamedAt};
+ghost use Rattle.be_paged_reading.specs.Page.{IsVersionPage};
 ghost use Rattle.be_paged_reading.specs.Source.{IsFound, IsKnown};
 ghost use Rattle.be_paged_reading.specs.Version.{HasVersion};
 

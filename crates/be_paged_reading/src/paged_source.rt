@@ -6,15 +6,9 @@
 //! by leaf, and strings are tested the same way, without unpacking keys. A query uses the same
 //! index repeatedly, so the reader remembers the last index that it found.
 ghost use Rattle.std.specs.Prelude.{◌≡◌, true, IfErr, IfOk, OnOk};
-ghost use Rattle.be_pages.specs.Pages.{IsUnchanged};
-ghost use Rattle.be_plan.specs.KeyTests.{reads_texts};
-ghost use Rattle.be_plan.specs.Sources.{StillAnswers};
-ghost use Rattle.be_tree_reading.specs.Cursor.{IsCursor, remaining};
-ghost use Rattle.be_tree_reading.specs.Range.{pairs_from};
-ghost use Rattle.be_tree_reading.specs.Tree.{IsTree, pairs};
-ghost use Rattle.be_value.specs.declared.refusals.Refusal.TheVariants.{OutOfMemory};
-ghost use Rattle.be_value.specs.declared.values.Kind.TheVariants.{Cstr};
-ghost use Rattle.be_volume.specs.Volume.{State};
+ghost use Rattle.be_paged_reading.specs.Imports.{pairs, pairs_from, reads_texts, remaining, Cstr};
+ghost use Rattle.be_paged_reading.specs.Imports.{IsCursor, IsTree, IsUnchanged, OutOfMemory, State};
+ghost use Rattle.be_paged_reading.specs.Imports.{StillAnswers};
 ghost use Rattle.be_paged_reading.specs.Page.{contents_of};
 ghost use Rattle.be_paged_reading.specs.Source.{HasNumbers, HasPassing, IsIndexOf, LiesAfter};
 ghost use Rattle.be_paged_reading.specs.Version.{HasVersion, IsVersion};
@@ -206,7 +200,7 @@ impl<L: Look> PagedSource<L> {
 
 impl<L: Look> Source for PagedSource<L> {
     ghost use Rattle.std.specs.Prelude.{ℕ};
-    ghost use Rattle.be_pages.specs.declared.room.PageState.{PageState as AnyPageState};
+    ghost use Rattle.be_paged_reading.specs.Imports.{AnyPageState};
     ghost use Rattle.be_paged_reading.specs.Source.{SourceOf};
 
     ghost Kept = { L.Kept × ((ℕ → AnyPageState) × (ℕ → ℕ → ℕ)) };

@@ -5,13 +5,8 @@
 //! pair in an index belongs to an attribute.
 ghost use Rattle.std.specs.Prelude.{◌≡◌, IfOk, None, true};
 ghost use Rattle.std.specs.FinMap as map;
-ghost use Rattle.std.specs.Option.{option_map};
-ghost use Rattle.be_pages.specs.Pages.{IsUnchanged};
-ghost use Rattle.be_volume_state.specs.Rebuilding.{is_held};
-ghost use Rattle.be_value.specs.declared.refusals.Refusal.TheVariants.{NoNode};
-ghost use Rattle.be_volume.specs.Keys.{IsKey};
-ghost use Rattle.be_volume.specs.Reading.{index_kinds};
-ghost use Rattle.be_volume.specs.Volume.{State};
+ghost use Rattle.be_paged_reading.specs.Imports.{index_kinds, is_held, option_map, IsKey};
+ghost use Rattle.be_paged_reading.specs.Imports.{IsUnchanged, NoNode, State};
 ghost use Rattle.be_paged_reading.specs.Version.{HasVersion, IsVersion};
 
 use crate::on_page::find_index;
@@ -59,7 +54,7 @@ impl<L: Look> PagedWhole<L> {
 
 impl<L: Look> Whole for PagedWhole<L> {
     ghost use Rattle.std.specs.Prelude.{ℕ};
-    ghost use Rattle.be_pages.specs.declared.room.PageState.{PageState as AnyPageState};
+    ghost use Rattle.be_paged_reading.specs.Imports.{AnyPageState};
     ghost use Rattle.be_paged_reading.specs.Version.{HasVersion, IsVersion};
 
     ghost Kept = { L.Kept × ((ℕ → AnyPageState) × (ℕ → ℕ → ℕ)) };

@@ -4,14 +4,10 @@
 //! page, until enough keys have passed or the way ends.
 ghost use Rattle.std.specs.Prelude.{◌≡◌, ◌+◌, ◌≤◌, ◌++◌, ℕ, List, [], IfOk, IsTrue, OnOk};
 ghost use Rattle.std.specs.Prelude.{false, length, take, true};
-ghost use Rattle.be_pages.specs.Pages.{IsUnchanged, is_readable};
-ghost use Rattle.be_tree_reading.specs.Page.{IsItem, item_at};
-ghost use Rattle.be_tree_reading.specs.Pair.{Pair};
-ghost use Rattle.be_tree_reading.specs.Tree.{IsTree, pairs};
-ghost use Rattle.be_tree_reading.specs.Walk.{IsLeaf, IsWalk, StaysFalse, ahead, end_of_way};
-ghost use Rattle.be_tree_reading.specs.Walk.{is_on_way, items_ahead};
-ghost use Rattle.be_tree_reading.specs.Way.{walk_of};
-ghost use Rattle.be_tree_reading.specs.Words.{IsFirstOf};
+ghost use Rattle.be_paged_reading.specs.Imports.{ahead, end_of_way, is_on_way, is_readable};
+ghost use Rattle.be_paged_reading.specs.Imports.{item_at, items_ahead, pairs, walk_of, IsFirstOf};
+ghost use Rattle.be_paged_reading.specs.Imports.{IsItem, IsLeaf, IsTree, IsUnchanged, IsWalk, Pair};
+ghost use Rattle.be_paged_reading.specs.Imports.{StaysFalse};
 ghost use Rattle.be_paged_reading.specs.KeyTests.{AreTestable, IsTestable, node_if, nodes_passing};
 ghost use Rattle.be_paged_reading.specs.KeyTests.{passing_on};
 

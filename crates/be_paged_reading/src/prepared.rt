@@ -4,13 +4,9 @@
 //! there is compared first. The range is already computed, and the nodes of its keys are the
 //! answer, so neither a plan nor an index reader is needed.
 ghost use Rattle.std.specs.Prelude.{◌≡◌, ◌<◌, List, ℕ, true, Ok, Some, IfOk, IfErr, IfSome, OnOk};
-ghost use Rattle.std.specs.Option.{option_copied};
-ghost use Rattle.std.specs.List.Sorted.{IsStrictlyIncreasing};
-ghost use Rattle.be_value.specs.declared.refusals.Refusal.TheVariants.{OutOfMemory};
-ghost use Rattle.be_pages.specs.Pages.{IsUnchanged};
-ghost use Rattle.be_volume.specs.Query.{scan};
-ghost use Rattle.be_volume.specs.Volume.{State};
-ghost use Rattle.be_plan.specs.Walk.{AreAllOn, HasNodes, HasOnly, Keeps};
+ghost use Rattle.be_paged_reading.specs.Imports.{option_copied, scan, AreAllOn, HasNodes, HasOnly};
+ghost use Rattle.be_paged_reading.specs.Imports.{IsStrictlyIncreasing, IsUnchanged, Keeps};
+ghost use Rattle.be_paged_reading.specs.Imports.{OutOfMemory, State};
 ghost use Rattle.be_paged_reading.specs.Page.{contents_of};
 ghost use Rattle.be_paged_reading.specs.Source.{IsFound};
 ghost use Rattle.be_paged_reading.specs.Version.{HasVersion, IsVersion};

@@ -1,17 +1,10 @@
 //! Reads a volume from its version page.
 ghost use Rattle.std.specs.Prelude.{◌≡◌, IsOk, IfErr, IfSome, Ok, is_some};
 ghost use Rattle.std.specs.FinMap as map;
-ghost use Rattle.std.specs.Option.{option_copied};
-ghost use Rattle.be_pages.specs.Pages.{IsUnchanged};
-ghost use Rattle.be_query.specs.Grammar.{Leaf};
-ghost use Rattle.be_query.specs.View.{literal};
-ghost use Rattle.be_tree_reading.specs.Tree.{IsTree, pairs};
-ghost use Rattle.be_volume.specs.Maps.{Nodes as AllNodes, attributes_of};
-ghost use Rattle.be_value.specs.Refusal.{Answers};
-ghost use Rattle.be_value.specs.declared.refusals.Refusal.TheVariants.{OutOfMemory};
-ghost use Rattle.be_volume.specs.Query.{sat};
-ghost use Rattle.be_volume.specs.Reading.{attribute, attributes_at, index_kinds};
-ghost use Rattle.be_volume.specs.Volume.{State};
+ghost use Rattle.be_paged_reading.specs.Imports.{attribute, attributes_at, attributes_of};
+ghost use Rattle.be_paged_reading.specs.Imports.{index_kinds, literal, option_copied, pairs, sat};
+ghost use Rattle.be_paged_reading.specs.Imports.{AllNodes, Answers, IsTree, IsUnchanged, Leaf};
+ghost use Rattle.be_paged_reading.specs.Imports.{OutOfMemory, State};
 ghost use Rattle.be_paged_reading.specs.Catalog.{IsCatalog, catalog_key as key_in_catalog};
 ghost use Rattle.be_paged_reading.specs.Catalog.{value_at};
 ghost use Rattle.be_paged_reading.specs.Page.{contents_of};

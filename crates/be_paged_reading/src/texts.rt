@@ -5,17 +5,13 @@
 //! node is read only if the string passes.
 ghost use Rattle.std.specs.Prelude.{◌≡◌, ◌+◌, ◌-◌, ◌*◌, ◌<◌, ◌≤◌, ◌++◌, IsTrue, IfErr, IfOk, OnOk};
 ghost use Rattle.std.specs.Prelude.{false, length, take, drop};
-ghost use Rattle.std.specs.Int.{to_be_bytes, w64};
-ghost use Rattle.std.specs.List.{list_any};
-ghost use Rattle.std.specs.Option.{option_copied};
-ghost use Rattle.be_pages.specs.Pages.{IsUnchanged, is_readable};
-ghost use Rattle.be_plan.specs.Texts.{text_in};
-ghost use Rattle.be_tree_reading.specs.Cursor.{IsCursor, remaining};
-ghost use Rattle.be_tree_reading.specs.Page.{IsItem, bytes_at, item_at, items_of, words_for};
-ghost use Rattle.be_tree_reading.specs.Range.{HasFirst, is_past, pairs_from};
-ghost use Rattle.be_tree_reading.specs.Tree.{IsTree, IsTreeAt, pairs};
-ghost use Rattle.be_paged_reading.specs.Texts.{AreTexts, IsTextKey};
-ghost use Rattle.be_paged_reading.specs.Texts.{node_if_passing, nodes_passing_to};
+ghost use Rattle.be_paged_reading.specs.Imports.{bytes_at, is_past, is_readable, item_at, items_of};
+ghost use Rattle.be_paged_reading.specs.Imports.{list_any, option_copied, pairs, pairs_from};
+ghost use Rattle.be_paged_reading.specs.Imports.{remaining, text_in, to_be_bytes, w64, words_for};
+ghost use Rattle.be_paged_reading.specs.Imports.{HasFirst, IsCursor, IsItem, IsTree, IsTreeAt};
+ghost use Rattle.be_paged_reading.specs.Imports.{IsUnchanged};
+ghost use Rattle.be_paged_reading.specs.Texts.{AreTexts, IsTextKey, node_if_passing};
+ghost use Rattle.be_paged_reading.specs.Texts.{nodes_passing_to};
 
 use be_pages::Look;
 use be_plan::TextTest;

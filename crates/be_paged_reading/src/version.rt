@@ -1,8 +1,7 @@
 //! Reads and writes version pages.
 ghost use Rattle.std.specs.Prelude.{◌≡◌, ◌≢◌, ℕ, ◌+◌, ◌<◌, [], All, IsTrue};
-ghost use Rattle.be_volume.specs.Sound.{IsName};
-ghost use Rattle.be_pages.specs.Pages.{is_readable, is_taken, IsUnchanged, SetsStateAt};
-ghost use Rattle.be_pages.specs.declared.room.PageState.TheVariants.{Filled};
+ghost use Rattle.be_paged_reading.specs.Imports.{is_readable, is_taken, Filled, IsName};
+ghost use Rattle.be_paged_reading.specs.Imports.{IsUnchanged, SetsStateAt};
 ghost use Rattle.be_paged_reading.specs.Page.{contents, contents_of, IsVersionPage};
 
 use crate::entry::Entry;

@@ -1,3 +1,4 @@
+pub mod Imports
 pub mod Bounding
 pub mod Cover
 pub mod Explain

@@ -5,12 +5,8 @@
 //! under `&&`, such as the two ends of a range: their index is looked up once, and no cover is
 //! built. For any other side with an `&&`, picks are chosen as if it were a query of its own.
 ghost use Rattle.std.specs.Prelude.{◌≡◌, ◌≤◌, true, OnOk, IfOk, IfErr};
-ghost use Rattle.std.specs.List.Sorted.{IsStrictlyIncreasing};
-ghost use Rattle.be_value.specs.Refusal.{Answers};
-ghost use Rattle.be_query.specs.Grammar.{comparisons};
-ghost use Rattle.be_query.specs.View.{formula};
-ghost use Rattle.be_volume.specs.Query.{covered, scan};
-ghost use Rattle.be_volume.specs.Volume.{State};
+ghost use Rattle.be_plan.specs.Imports.{comparisons, covered, formula, scan, Answers};
+ghost use Rattle.be_plan.specs.Imports.{IsStrictlyIncreasing, State};
 ghost use Rattle.be_plan.specs.Walk.{AddsTrue, AreAllOn, Collects, HasAllTrue, IsNoAnswer};
 
 use crate::Source;

@@ -4,9 +4,7 @@
 //! query. Comparisons on the index's own name bound the walk, and each node is tested only against
 //! the rest of the query.
 ghost use Rattle.std.specs.Prelude.{◌≡◌, List, ℕ};
-ghost use Rattle.std.specs.Option.{option_copied, option_map};
-ghost use Rattle.be_query.specs.Grammar.{comparisons};
-ghost use Rattle.be_query.specs.View.{formula};
+ghost use Rattle.be_plan.specs.Imports.{comparisons, formula, option_copied, option_map};
 ghost use Rattle.be_plan.specs.Bounding.{Bounding, HasAtMost};
 ghost use Rattle.be_plan.specs.Narrow.{Within};
 
@@ -26,7 +24,7 @@ pub struct KeyBounds {
 
 impl Model for KeyBounds {
     ghost use Rattle.std.specs.Prelude.{ℕ, List};
-    ghost use Rattle.std.specs.declared.option.Option.{Option};
+    ghost use Rattle.be_plan.specs.Imports.{Option};
     ghost use Rattle.be_plan.specs.Narrow.{high_of};
 
     ghost Value = { List ℕ × Option (List ℕ) };

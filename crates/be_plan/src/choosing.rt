@@ -6,12 +6,8 @@
 //! side, as in the Be File System (Giampaolo, "Practical File System Design", on queries).
 ghost use Rattle.std.specs.Prelude.{◌≡◌, ◌≤◌, ◌<◌, ◌+◌, ◌*◌, ◌∷◌, ◌++◌, [], IfOk, IfErr, IfSome};
 ghost use Rattle.std.specs.Prelude.{◌⊎◌, true, false, Some, None, if◌then◌else◌};
-ghost use Rattle.be_value.specs.Refusal.{Answers};
-ghost use Rattle.be_value.specs.declared.refusals.Refusal.TheVariants.{OutOfMemory, NotCovered};
-ghost use Rattle.be_query.specs.Grammar.{comparisons};
-ghost use Rattle.be_query.specs.View.{formula, literal};
-ghost use Rattle.be_volume.specs.Query.{covered, has_index};
-ghost use Rattle.be_volume.specs.Volume.{State};
+ghost use Rattle.be_plan.specs.Imports.{comparisons, covered, formula, has_index, literal, Answers};
+ghost use Rattle.be_plan.specs.Imports.{NotCovered, OutOfMemory, State};
 ghost use Rattle.be_plan.specs.Explain.{are_places};
 ghost use Rattle.be_plan.specs.Sources.{StillAnswers};
 ghost use Rattle.be_plan.specs.Cover.{chosen, choice, covers, cheaper, score_of};

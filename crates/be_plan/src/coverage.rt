@@ -3,11 +3,7 @@
 //! `run` accepts any picks that cover the query. Those from `choose_from` always do; use `covers`
 //! to check picks from elsewhere.
 ghost use Rattle.std.specs.Prelude.{◌≡◌, ◌≤◌, ◌+◌};
-ghost use Rattle.std.specs.List.{list_all};
-ghost use Rattle.be_query.specs.Grammar.{comparisons};
-ghost use Rattle.be_query.specs.View.{formula};
-ghost use Rattle.be_volume.specs.Query.{has_index};
-ghost use Rattle.be_volume.specs.Volume.{State};
+ghost use Rattle.be_plan.specs.Imports.{comparisons, formula, has_index, list_all, State};
 ghost use Rattle.be_plan.specs.Cover.{covers, covers_part, rests_on};
 
 use crate::choosing::count;

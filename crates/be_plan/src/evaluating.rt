@@ -3,9 +3,7 @@
 //! The source evaluates each comparison on the value that the comparison sees. On an indexed name
 //! that is the value in the index; on any other name it is the attribute.
 ghost use Rattle.std.specs.Prelude.{◌≡◌, Some};
-ghost use Rattle.be_query.specs.View.{formula};
-ghost use Rattle.be_volume.specs.Query.{sees, sat};
-ghost use Rattle.be_volume.specs.Volume.{State};
+ghost use Rattle.be_plan.specs.Imports.{formula, sat, sees, State};
 ghost use Rattle.be_plan.specs.Sources.{StillAnswers};
 ghost use Rattle.be_plan.specs.Walk.{asks_name};
 

@@ -1,9 +1,6 @@
 //! Explaining which comparisons a cover picks.
 ghost use Rattle.std.specs.Prelude.{◌≡◌, ◌≤◌, true, IfOk, IfErr};
-ghost use Rattle.std.specs.String.{string_bytes};
-ghost use Rattle.be_value.specs.declared.refusals.Refusal.TheVariants.{OutOfMemory};
-ghost use Rattle.be_query.specs.Grammar.{comparisons};
-ghost use Rattle.be_query.specs.View.{formula};
+ghost use Rattle.be_plan.specs.Imports.{comparisons, formula, string_bytes, OutOfMemory};
 ghost use Rattle.be_plan.specs.Explain.{are_places, explanation, picked_text, text_at};
 
 use crate::Cover;

@@ -1,10 +1,7 @@
 //! Choosing picks from a list of indices, such as the `indices` of a version.
 ghost use Rattle.std.specs.Prelude.{◌≡◌, ◌≤◌, ◌+◌, ◌*◌, IfOk, IfErr, IfSome, ◌⊎◌, true, false};
-ghost use Rattle.be_value.specs.Refusal.{Answers};
-ghost use Rattle.be_value.specs.declared.refusals.Refusal.TheVariants.{OutOfMemory, NotCovered};
-ghost use Rattle.be_query.specs.Grammar.{comparisons};
-ghost use Rattle.be_query.specs.View.{formula};
-ghost use Rattle.be_volume.specs.Query.{rests};
+ghost use Rattle.be_plan.specs.Imports.{comparisons, formula, rests, Answers, NotCovered};
+ghost use Rattle.be_plan.specs.Imports.{OutOfMemory};
 ghost use Rattle.be_plan.specs.Explain.{are_places};
 ghost use Rattle.be_plan.specs.Cover.{chosen, choice, covers, is_listed};
 

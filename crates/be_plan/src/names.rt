@@ -1,7 +1,6 @@
 //! The name that all comparisons of a query share.
 ghost use Rattle.std.specs.Prelude.{◌≡◌, true, IfSome};
-ghost use Rattle.std.specs.Option.{option_copied};
-ghost use Rattle.be_query.specs.View.{formula};
+ghost use Rattle.be_plan.specs.Imports.{formula, option_copied};
 ghost use Rattle.be_plan.specs.Walk.{AreAllOn};
 
 use be_query::Tree;

@@ -3,9 +3,7 @@
 //! The source only borrows the volume, so it allocates no memory and forwards each call. The nodes
 //! of a range are found by stepping from key to key.
 ghost use Rattle.std.specs.Prelude.{◌≡◌, OnOk, IfErr};
-ghost use Rattle.std.specs.Option.{option_copied};
-ghost use Rattle.be_value.specs.declared.refusals.Refusal.TheVariants.{OutOfMemory};
-ghost use Rattle.be_volume.specs.Sound.{IsSound};
+ghost use Rattle.be_plan.specs.Imports.{option_copied, IsSound, OutOfMemory};
 ghost use Rattle.be_plan.specs.Narrow.{is_above};
 ghost use Rattle.be_plan.specs.Walk.{HasNodes, HasOnly, Keeps};
 
@@ -41,7 +39,7 @@ pub fn volume_source(volume: &Volume) -> VolumeSource<'_>
 }
 
 impl Source for VolumeSource<'_> {
-    ghost use Rattle.be_volume.specs.Volume.{State};
+    ghost use Rattle.be_plan.specs.Imports.{State};
     ghost use Rattle.be_plan.specs.Sources.{IsVolume};
 
     ghost Kept = { State };

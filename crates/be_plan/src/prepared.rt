@@ -4,7 +4,7 @@
 //! index, and the range of keys to read depends only on the query and the kind of the index. A
 //! prepared query therefore keeps that range, along with the place where the index was last found.
 ghost use Rattle.std.specs.Prelude.{◌≡◌, true, IfSome};
-ghost use Rattle.std.specs.Option.{option_copied};
+ghost use Rattle.be_plan.specs.Imports.{option_copied};
 ghost use Rattle.be_plan.specs.Narrow.{high_of};
 ghost use Rattle.be_plan.specs.Prepared.{Decides};
 ghost use Rattle.be_plan.specs.Walk.{AreAllOn};
@@ -33,8 +33,7 @@ pub struct PreparedQuery {
 
 impl Model for PreparedQuery {
     ghost use Rattle.std.specs.Prelude.{IfSome};
-    ghost use Rattle.be_query.specs.Coded.{coded_formula};
-    ghost use Rattle.be_query.specs.Grammar.{Formula};
+    ghost use Rattle.be_plan.specs.Imports.{coded_formula, Formula};
     ghost use Rattle.be_plan.specs.Narrow.{high_of};
     ghost use Rattle.be_plan.specs.Prepared.{DecidesIf};
     ghost use Rattle.be_plan.specs.Walk.{AreAllOn};

@@ -5,9 +5,7 @@
 //! concatenated. They are copied only if the range changes, and then directly to their final
 //! location.
 ghost use Rattle.std.specs.Prelude.{◌≡◌, ◌+◌, ◌≤◌, true, false, List, [], ◌++◌, ℕ, length};
-ghost use Rattle.std.specs.Option.{option_copied};
-ghost use Rattle.std.specs.Ordering.{is_lt, is_gt};
-ghost use Rattle.be_volume.specs.Maps.{name_cmp};
+ghost use Rattle.be_plan.specs.Imports.{is_gt, is_lt, name_cmp, option_copied};
 ghost use Rattle.be_plan.specs.Narrow.{IsFrom, IsIn, IsTo, KeepsFrom, KeepsTo, high_of, is_above};
 
 use arrayvec::ArrayVec;
@@ -26,9 +24,7 @@ struct Bound {
 
 impl Model for Bound {
     ghost use Rattle.std.specs.Prelude.{ℕ};
-    ghost use Rattle.std.specs.Coded.{coded_ℕ};
-    ghost use Rattle.std.specs.Option.{option_map_or};
-    ghost use Rattle.arrayvec.specs.ArrayVec.{ArrayVec as Items, array_vec_code};
+    ghost use Rattle.be_plan.specs.Imports.{array_vec_code, coded_ℕ, option_map_or, Items};
 
     ghost Value = { Items ℕ };
 

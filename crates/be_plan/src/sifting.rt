@@ -11,18 +11,11 @@
 //! `walks`.
 ghost use Rattle.std.specs.Prelude.{◌≡◌, ◌⊎◌, ◌<◌, ◌≤◌, ℕ, true, Some, OnOk, IfErr, IfOk};
 ghost use Rattle.std.specs.Prelude.{IfSome, length, slice_index};
-ghost use Rattle.std.specs.Option.{option_copied, option_map};
-ghost use Rattle.std.specs.List.{Contains};
-ghost use Rattle.std.specs.List.Sorted.{IsStrictlyIncreasing};
-ghost use Rattle.be_value.specs.declared.refusals.Refusal.TheVariants.{OutOfMemory};
-ghost use Rattle.be_query.specs.View.{formula};
-ghost use Rattle.be_volume.specs.Query.{sat};
-ghost use Rattle.be_volume.specs.Reading.{index_kind};
-ghost use Rattle.be_volume.specs.Volume.{State};
+ghost use Rattle.be_plan.specs.Imports.{formula, index_kind, option_copied, option_map, sat};
+ghost use Rattle.be_plan.specs.Imports.{Contains, IsStrictlyIncreasing, OutOfMemory, State};
 ghost use Rattle.be_plan.specs.Narrow.{high_of};
-ghost use Rattle.be_plan.specs.Walk.{AddsTrueOf, AreAllOn, AreOnIndex, Collects};
-ghost use Rattle.be_plan.specs.Walk.{HasAllTrue, HasTrueOf, HasWithin, IsNodeWithin, Keeps};
-ghost use Rattle.be_plan.specs.Walk.{LeavesInIndex};
+ghost use Rattle.be_plan.specs.Walk.{AddsTrueOf, AreAllOn, AreOnIndex, Collects, HasAllTrue};
+ghost use Rattle.be_plan.specs.Walk.{HasTrueOf, HasWithin, IsNodeWithin, Keeps, LeavesInIndex};
 
 use crate::evaluating::{asks_name, is_true};
 use crate::names::only_name;

@@ -7,15 +7,8 @@
 //! Contracts are stated for every volume in that relation, and the caller, who knows the volume,
 //! supplies it.
 ghost use Rattle.std.specs.Prelude.{◌≡◌, true, false, OnOk, IfErr, IfOk};
-ghost use Rattle.std.specs.Option.{option_copied, option_map};
-ghost use Rattle.be_value.specs.declared.refusals.Refusal.TheVariants.{OutOfMemory};
-ghost use Rattle.be_query.specs.Grammar.{Leaf};
-ghost use Rattle.be_query.specs.View.{literal};
-ghost use Rattle.be_volume.specs.Query.{sat};
-ghost use Rattle.be_volume.specs.Reading.{attribute, index_kind};
-ghost use Rattle.be_volume.specs.Volume.{State};
-ghost use Rattle.be_volume.specs.Keys.{IsKey, IsNextKey};
-ghost use Rattle.be_volume.specs.Sound.{IsSound};
+ghost use Rattle.be_plan.specs.Imports.{attribute, index_kind, literal, option_copied, option_map};
+ghost use Rattle.be_plan.specs.Imports.{sat, IsKey, IsNextKey, IsSound, Leaf, OutOfMemory, State};
 ghost use Rattle.be_plan.specs.Sources.{StillAnswers};
 ghost use Rattle.be_plan.specs.Walk.{HasNodes, HasOnly, HasOnlyTrue, HasWithin, Keeps};
 

@@ -7,8 +7,7 @@
 //! the first, each search continues where the previous one ended, and all searches together visit
 //! each `||` once.
 ghost use Rattle.std.specs.Prelude.{◌≡◌, ◌≤◌, ◌<◌, ◌+◌};
-ghost use Rattle.be_query.specs.Grammar.{Formula, comparisons};
-ghost use Rattle.be_query.specs.View.{formula};
+ghost use Rattle.be_plan.specs.Imports.{comparisons, formula, Formula};
 ghost use Rattle.be_plan.specs.Spine.{IsFrontOf, IsUnderOr, LiesIn};
 
 use crate::choosing::count;

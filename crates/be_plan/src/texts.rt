@@ -4,9 +4,7 @@
 //! compiled once and then matched against the bytes of the keys. No string is decoded or copied out
 //! of a key.
 ghost use Rattle.std.specs.Prelude.{◌≡◌, IsUtf8, IfOk, IfErr};
-ghost use Rattle.be_value.specs.declared.refusals.Refusal.TheVariants.{OutOfMemory};
-ghost use Rattle.be_query.specs.View.{literal};
-ghost use Rattle.be_volume.specs.Query.{holds_of_text};
+ghost use Rattle.be_plan.specs.Imports.{holds_of_text, literal, OutOfMemory};
 ghost use Rattle.be_plan.specs.Texts.{text_in};
 
 use be_byte_pattern::BytePattern;
@@ -31,8 +29,7 @@ pub struct TextTest<'q> {
 }
 
 impl<'q> Model for TextTest<'q> {
-    ghost use Rattle.be_query.specs.Grammar.{Literal as AnyLiteral};
-    ghost use Rattle.be_query.specs.declared.tree.Cmp.{Cmp as Operator};
+    ghost use Rattle.be_plan.specs.Imports.{AnyLiteral, Operator};
     ghost use Rattle.be_plan.specs.Texts.{literal_of};
 
     ghost Value = { Operator × AnyLiteral };

@@ -10,19 +10,9 @@
 //! node against the query. It reads one key more than it tests. For walks that leave only
 //! comparisons on other names, see `sifting`.
 ghost use Rattle.std.specs.Prelude.{◌≡◌, ◌⊎◌, ◌<◌, ◌^◌, ℕ, true, Some, OnOk, IfErr, IfSome};
-ghost use Rattle.std.specs.Option.{option_copied, option_map};
-ghost use Rattle.std.specs.List.{Contains};
-ghost use Rattle.be_value.specs.Key.{key as key_bytes};
-ghost use Rattle.be_value.specs.declared.refusals.Refusal.TheVariants.{OutOfMemory};
-ghost use Rattle.be_value.specs.declared.values.Kind.TheVariants.{Cstr};
-ghost use Rattle.be_value.specs.declared.values.Value.{Value as AnyValue};
-ghost use Rattle.be_query.specs.Grammar.{Leaf};
-ghost use Rattle.be_query.specs.View.{formula, literal};
-ghost use Rattle.be_volume.specs.Keys.{IsKey};
-ghost use Rattle.be_volume.specs.Query.{sat};
-ghost use Rattle.be_volume.specs.Reading.{index_kind};
-ghost use Rattle.be_volume.specs.Sound.{IsSound};
-ghost use Rattle.be_volume.specs.Volume.{State};
+ghost use Rattle.be_plan.specs.Imports.{formula, index_kind, key_bytes, literal, option_copied};
+ghost use Rattle.be_plan.specs.Imports.{option_map, sat, AnyValue, Contains, Cstr, IsKey, IsSound};
+ghost use Rattle.be_plan.specs.Imports.{Leaf, OutOfMemory, State};
 ghost use Rattle.be_plan.specs.Narrow.{high_of};
 ghost use Rattle.be_plan.specs.Texts.{IsKeyOf};
 ghost use Rattle.be_plan.specs.Walk.{Collects, HasOnlyTrue, HasWithin, IsKeyOfKind, IsNodeWithin};

@@ -1,3 +1,4 @@
+pub mod Imports
 pub mod Gates
 pub mod Output
 pub mod Lines

@@ -8,11 +8,10 @@
 ghost use Rattle.std.specs.Prelude.{◌≡◌, ◌≤◌, Ok, List, Option, length, vec_len};
 ghost use Rattle.be_script_runner.specs.Output as spec;
 ghost use Rattle.be_script_language.specs.Request as requests;
+ghost use Rattle.be_script_runner.specs.Imports.{reply_of, request_of, LiveQuery};
 ghost use Rattle.be_script_runner.specs.Store.{Store, Joins};
-ghost use Rattle.be_script_language.specs.View.{request_of, reply_of};
 ghost use Rattle.be_script_runner.specs.View.{RepliesToAny, session, queued_ops, unbatched};
 ghost use Rattle.be_script_runner.specs.View.{batched, watched};
-ghost use Rattle.be_store.specs.Live.{LiveQuery};
 
 use crate::client::Client;
 use crate::stores::Server;

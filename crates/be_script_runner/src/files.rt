@@ -1,7 +1,7 @@
 //! Reads scripts from files.
 ghost use Rattle.std.specs.Prelude.{◌≡◌, ◌≤◌, ◌<◌, ◌^◌, false, length, nat_lt, vec_len, IfOk};
 ghost use Rattle.std.specs.Prelude.{IfErr};
-ghost use Rattle.std.specs.List.{list_any};
+ghost use Rattle.be_script_runner.specs.Imports.{list_any};
 ghost use Rattle.be_script_runner.specs.Run.{IsEarly};
 
 use crate::RunFault;

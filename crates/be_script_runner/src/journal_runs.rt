@@ -1,14 +1,12 @@
 //! Runs that also write their journal.
 ghost use Rattle.std.specs.Prelude.{◌≡◌, ◌≤◌, ◌^◌, ◌↔◌, ◌∷◌, [], true, length, IfOk, IfErr, OnOk};
 ghost use Rattle.std.specs.Prelude.{OnErr, IfSome, Err};
-ghost use Rattle.be_journal.specs.Journal.{IsLegal};
 ghost use Rattle.be_script_runner.specs.Run as spec;
+ghost use Rattle.be_script_runner.specs.Imports.{entries, AreBad, CanEncodeEach, IsLegal, IsPassOf};
+ghost use Rattle.be_script_runner.specs.Imports.{IsWithin};
 ghost use Rattle.be_script_runner.specs.Store.{start};
 ghost use Rattle.be_script_runner.specs.JournalRuns.{IsReportedInPart, IsReportedRun};
 ghost use Rattle.be_script_runner.specs.JournalRuns.{JournalRunLeaves};
-ghost use Rattle.be_store.specs.Passes.{IsPassOf};
-ghost use Rattle.be_table.specs.Rule.{AreBad, IsWithin, entries};
-ghost use Rattle.be_table.specs.Versions.{CanEncodeEach};
 
 use crate::gates::OpenGate;
 use crate::races::put_result;

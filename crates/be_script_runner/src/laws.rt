@@ -1,34 +1,21 @@
 //! Laws that the definitions satisfy. Each function has an empty body; its contract is the law.
 ghost use Rattle.std.specs.Prelude.{◌≡◌, ◌≢◌, ◌≤◌, ◌∷◌, [], ◌++◌, ℕ, All, Bool, List, Ok, Some};
 ghost use Rattle.std.specs.Prelude.{None, length};
-ghost use Rattle.std.specs.Option.{option_map};
-ghost use Rattle.std.specs.declared.option.Option.{Option};
-ghost use Rattle.be_value.specs.declared.values.Kind.{Kind};
-ghost use Rattle.be_query.specs.Grammar.{Formula};
-ghost use Rattle.be_volume.specs.Reading.{index_kind};
-ghost use Rattle.be_volume.specs.Sound.{IsSound};
-ghost use Rattle.be_volume.specs.Volume.{State};
-ghost use Rattle.be_order.specs.Ordered.{Page, page};
-ghost use Rattle.be_script_language.specs.Page.{key_at};
+ghost use Rattle.be_script_runner.specs.Imports.{dump, index_kind, key_at, lines_of, option_map};
+ghost use Rattle.be_script_runner.specs.Imports.{page, replay, state_dump, state_ops, AnyEntry};
+ghost use Rattle.be_script_runner.specs.Imports.{CanBeJournal, CanBeOp, Formula, IsLegal, IsSound};
+ghost use Rattle.be_script_runner.specs.Imports.{Kind, Knowledge, Limits, Option, Page, Reply};
+ghost use Rattle.be_script_runner.specs.Imports.{Request, State};
 ghost use Rattle.be_script_runner.specs.Pages.{last_pair};
-ghost use Rattle.be_journal_text.specs.Dump.{dump, state_dump};
-ghost use Rattle.be_journal_text.specs.History.{CanBeJournal, CanBeOp};
-ghost use Rattle.be_journal.specs.Journal.{IsLegal, replay};
-ghost use Rattle.be_journal.specs.declared.entries.Entry.{Entry as AnyEntry};
 ghost use Rattle.be_script_runner.specs.Output.{IsOutputTo, Outputs, Session, Replies, Serves};
+ghost use Rattle.be_script_runner.specs.Output.{opening};
 ghost use Rattle.be_script_runner.specs.Lines.{IsServedBy, LeadTo};
 ghost use Rattle.be_script_runner.specs.Order.{FollowOneOrder};
-ghost use Rattle.be_script_runner.specs.Output.{opening};
 ghost use Rattle.be_script_runner.specs.Race.{IsRace};
 ghost use Rattle.be_script_runner.specs.Served.{known};
-ghost use Rattle.be_table.specs.declared.limits.Limits.{Limits};
-ghost use Rattle.be_table.specs.declared.pass.Knowledge.{Knowledge};
-ghost use Rattle.be_script_language.specs.Reply.{Reply};
-ghost use Rattle.be_script_language.specs.Request.{Request, lines_of};
 ghost use Rattle.be_script_runner.specs.Store.{Store, Joins, start};
 ghost use Rattle.be_script_runner.specs.Strict.{IsStrictOutput};
 ghost use Rattle.be_script_runner.specs.JournalRuns.{MakesVolume, dump_output, made};
-ghost use Rattle.be_volume_state.specs.Rebuilding.{state_ops};
 
 /// In a store with one pass, nobody else writes, so the store is always as its pass left it.
 pub fn nobody_joins()

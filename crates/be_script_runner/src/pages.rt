@@ -1,10 +1,8 @@
 //! Reads pages of a query's answer in the version that a pass has pinned.
 ghost use Rattle.std.specs.Prelude.{◌≡◌, ℕ};
-ghost use Rattle.be_order.specs.Ordered.{cursor_bytes};
-ghost use Rattle.be_script_language.specs.Page.{page_found};
 ghost use Rattle.be_script_runner.specs.Pages as spec;
-ghost use Rattle.be_store.specs.Passes.{HasRead, IsPassOf, IsPinnedTo, volume_pinned};
-ghost use Rattle.be_value.specs.Refusal.{Answers};
+ghost use Rattle.be_script_runner.specs.Imports.{cursor_bytes, page_found, volume_pinned, Answers};
+ghost use Rattle.be_script_runner.specs.Imports.{HasRead, IsPassOf, IsPinnedTo};
 
 use arrayvec::ArrayVec;
 use be_query::Query;

@@ -4,12 +4,12 @@
 //! knows after it: calls to the store led there from what the pass knew before, and the reply is
 //! about the store that the pass then shows.
 ghost use Rattle.std.specs.Prelude.{◌≡◌, ◌≤◌, OnOk, Some, length};
+ghost use Rattle.be_script_runner.specs.Imports.{IsPassOf};
 ghost use Rattle.be_script_runner.specs.Gates.{AreReported, line_count};
 ghost use Rattle.be_script_runner.specs.Lines.{IsAnsweredBy, IsServedBy};
 ghost use Rattle.be_script_runner.specs.Run.{Wrote};
 ghost use Rattle.be_script_runner.specs.Served.{known};
 ghost use Rattle.be_script_runner.specs.View.{session, queued_ops};
-ghost use Rattle.be_store.specs.Passes.{IsPassOf};
 
 use crate::RunFault;
 use crate::client::Client;

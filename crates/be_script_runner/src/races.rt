@@ -13,19 +13,13 @@
 //! agree with that journal.
 ghost use Rattle.std.specs.Prelude.{◌≡◌, ◌≤◌, ◌<◌, ℕ, ◌^◌, ◌++◌, ◌↔◌, true, false, length, vec_len};
 ghost use Rattle.std.specs.Prelude.{map, IfOk, IfErr, OnOk, OnErr, Ok, Err, get_or, nat_lt};
-ghost use Rattle.std.specs.Io.KnownBytes.{Appends};
-ghost use Rattle.std.specs.List.{list_any};
-ghost use Rattle.be_journal.specs.Journal.{IsLegal};
-ghost use Rattle.be_journal.specs.Text.{result_text};
+ghost use Rattle.be_script_runner.specs.Imports.{list_any, result_text, string_bytes, Appends};
+ghost use Rattle.be_script_runner.specs.Imports.{AreBad, AreNew, IsLegal, IsPassOf, IsWithin};
 ghost use Rattle.be_script_runner.specs.Gates.{AreAllReported, AreReported, line_count};
 ghost use Rattle.be_script_runner.specs.Race.{IsOutcome, AreFirstTexts, AreServedThrough, IsNew};
 ghost use Rattle.be_script_runner.specs.Race.{IsRace, RaceLeaves, bytes_of, pass_line};
 ghost use Rattle.be_script_runner.specs.Race.{replies_text};
 ghost use Rattle.be_script_runner.specs.Run.{Wrote, IsFrontOf, IsLate};
-ghost use Rattle.be_store.specs.Passes.{IsPassOf};
-ghost use Rattle.std.specs.String.{string_bytes};
-ghost use Rattle.be_table.specs.Rule.{AreBad, IsWithin};
-ghost use Rattle.be_table.specs.Works.{AreNew};
 
 use crate::gates::Gate;
 use crate::runs::{MAX_SCRIPT, put, serve_pass};

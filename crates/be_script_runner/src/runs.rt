@@ -6,18 +6,15 @@
 //! write failed, it ends after a whole reply.
 ghost use Rattle.std.specs.Prelude.{◌≡◌, ◌<◌, ◌≤◌, ◌^◌, ◌↔◌, ◌∷◌, [], length, vec_len, position};
 ghost use Rattle.std.specs.Prelude.{IfOk, OnOk, IfErr, IfSome, OnErr, IfNone, Err};
-ghost use Rattle.std.specs.Io.KnownBytes.{Appends};
-ghost use Rattle.be_journal.specs.Journal.{by_pass};
+ghost use Rattle.be_script_runner.specs.Output as outputs;
+ghost use Rattle.be_script_runner.specs.Run as spec;
+ghost use Rattle.be_script_runner.specs.Imports.{by_pass, entries, lines_of, Appends, AreBad};
+ghost use Rattle.be_script_runner.specs.Imports.{IsPassOf};
 ghost use Rattle.be_script_runner.specs.Gates.{AreReported, line_count};
 ghost use Rattle.be_script_runner.specs.Lines.{IsServedBy};
-ghost use Rattle.be_script_runner.specs.Output as outputs;
 ghost use Rattle.be_script_runner.specs.Own.{IsPartOf, operations, write_ops};
-ghost use Rattle.be_script_language.specs.Request.{lines_of};
-ghost use Rattle.be_script_runner.specs.Run as spec;
 ghost use Rattle.be_script_runner.specs.Store.{start};
 ghost use Rattle.be_script_runner.specs.View.{session, queued_ops};
-ghost use Rattle.be_store.specs.Passes.{IsPassOf};
-ghost use Rattle.be_table.specs.Rule.{AreBad, entries};
 
 use crate::answers::answer;
 use crate::client::Client;

@@ -1,11 +1,8 @@
 //! Writes a version as a script.
-ghost use Rattle.std.specs.Io.KnownBytes.{Appends};
 ghost use Rattle.std.specs.Prelude.{◌≡◌, All, IfErr, OnOk, OnErr};
-ghost use Rattle.be_journal_text.specs.Dump.{state_dump};
-ghost use Rattle.be_journal_text.specs.History.{CanBeOp};
+ghost use Rattle.be_script_runner.specs.Imports.{state_dump, state_ops, Appends, CanBeOp};
 ghost use Rattle.be_script_runner.specs.Run.{Wrote, IsFrontOf, IsLate};
 ghost use Rattle.be_script_runner.specs.Store.{Joins, viewed};
-ghost use Rattle.be_volume_state.specs.Rebuilding.{state_ops};
 
 use crate::RunFault;
 use crate::runs::put;

@@ -1,8 +1,6 @@
 //! The source of a script's bytes.
-ghost use Rattle.std.specs.Io.{ReadsAtMost};
-ghost use Rattle.std.specs.Io.KnownBytes.{ReadConsumes};
 ghost use Rattle.std.specs.Prelude.{ℕ, ◌+◌, List};
-ghost use Rattle.std.specs.declared.option.Option.{Option};
+ghost use Rattle.be_script_runner.specs.Imports.{Option, ReadConsumes, ReadsAtMost};
 
 use std::io;
 use std::io::Read;

@@ -4,12 +4,9 @@
 //! version: the operations that rebuild the version, list by list. The whole script is built before
 //! any of it is written, so if memory runs out, nothing is written.
 ghost use Rattle.std.specs.Prelude.{◌≡◌, ◌<◌, ◌++◌, [], ℕ, All, IfOk, OnOk, length, true, false};
-ghost use Rattle.std.specs.String.{string_bytes};
-ghost use Rattle.be_journal_text.specs.Dump.{cut_lines, state_dump};
-ghost use Rattle.be_journal_text.specs.History.{CanBeOp};
-ghost use Rattle.be_volume_state.specs.Places.{left};
-ghost use Rattle.be_volume_state.specs.Rebuilding.{state_ops};
-ghost use Rattle.be_store.specs.Passes.{HasRead, IsPassOf, IsPinnedTo, volume_pinned};
+ghost use Rattle.be_script_runner.specs.Imports.{cut_lines, left, state_dump, state_ops};
+ghost use Rattle.be_script_runner.specs.Imports.{string_bytes, volume_pinned, CanBeOp, HasRead};
+ghost use Rattle.be_script_runner.specs.Imports.{IsPassOf, IsPinnedTo};
 
 use be_journal_text::push_write;
 use be_store::{Pass, Store};

@@ -7,22 +7,11 @@
 //! is a shared store served from one of its passes.
 ghost use Rattle.std.specs.Prelude.{◌≡◌, ◌≤◌, true, All, List, Ok, None, IsSome, is_some, length};
 ghost use Rattle.std.specs.Prelude.{IfOk, IfErr, OnOk, if◌then◌else◌};
-ghost use Rattle.std.specs.String.{string_bytes};
-ghost use Rattle.be_journal_text.specs.Dump.{state_dump};
-ghost use Rattle.be_journal_text.specs.History.{CanBeOp};
-ghost use Rattle.be_plan.specs.Cover.{chosen};
-ghost use Rattle.be_plan.specs.Explain.{are_places};
-ghost use Rattle.be_script_language.specs.Page.{page_found};
-ghost use Rattle.be_store.specs.History.{IsLastReason};
-ghost use Rattle.be_store.specs.Passes.{IsPassOf};
-ghost use Rattle.be_value.specs.Refusal.{Answers};
-ghost use Rattle.be_value.specs.declared.refusals.Refusal.TheVariants.{OutOfMemory};
-ghost use Rattle.be_value.specs.declared.refusals.Refusal.{Refusal as AnyRefusal};
-ghost use Rattle.be_volume.specs.declared.ops.Op.{Op as AnyOp};
-ghost use Rattle.be_volume.specs.Query.{scan, has_index};
-ghost use Rattle.be_volume.specs.Reading.{attribute, attributes_at, index_kinds};
-ghost use Rattle.be_table.specs.Rule.{IsWithin};
-ghost use Rattle.be_volume_state.specs.Rebuilding.{state_ops};
+ghost use Rattle.be_script_runner.specs.Imports.{are_places, attribute, attributes_at, chosen};
+ghost use Rattle.be_script_runner.specs.Imports.{has_index, index_kinds, page_found, scan};
+ghost use Rattle.be_script_runner.specs.Imports.{state_dump, state_ops, string_bytes, Answers};
+ghost use Rattle.be_script_runner.specs.Imports.{AnyOp, AnyRefusal, CanBeOp, IsLastReason};
+ghost use Rattle.be_script_runner.specs.Imports.{IsPassOf, IsWithin, OutOfMemory};
 ghost use Rattle.be_script_runner.specs.Lines.{LeadTo};
 ghost use Rattle.be_script_runner.specs.Pages.{page_read};
 ghost use Rattle.be_script_runner.specs.Served.{known, seat_of};
@@ -286,9 +275,8 @@ impl<'a> PassServer<'a> {
 
 impl<'a> Server for PassServer<'a> {
     ghost use Rattle.std.specs.Prelude.{ℕ};
+    ghost use Rattle.be_script_runner.specs.Imports.{Knowledge, Opened};
     ghost use Rattle.be_script_runner.specs.Served.{IsRefusedBy, seat_of};
-    ghost use Rattle.be_table.specs.Place.{Opened};
-    ghost use Rattle.be_table.specs.declared.pass.Knowledge.{Knowledge};
 
     ghost Kept = { Opened × ℕ × Knowledge };
 

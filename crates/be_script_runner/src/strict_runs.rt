@@ -3,18 +3,15 @@
 //! Each line runs and its reply is written, as in any run. Once a reply says that its line wasn't
 //! carried out, no further line runs and no further reply is written. Then the store is closed and
 //! its journal is returned.
-ghost use Rattle.std.specs.Option.{option_map};
 ghost use Rattle.std.specs.Prelude.{◌≡◌, ◌≤◌, ◌^◌, ◌↔◌, length, IfOk, OnOk, IfErr, IfSome, OnErr};
 ghost use Rattle.std.specs.Prelude.{if◌then◌else◌};
-ghost use Rattle.std.specs.String.{string_bytes};
-ghost use Rattle.be_journal.specs.Journal.{IsLegal};
-ghost use Rattle.be_script_language.specs.View.{reply_of};
-ghost use Rattle.be_script_runner.specs.Output.{IsFrontOfOutput};
 ghost use Rattle.be_script_runner.specs.Run as spec;
-ghost use Rattle.be_script_runner.specs.Store.{start};
 ghost use Rattle.be_script_runner.specs.Strict as strict;
+ghost use Rattle.be_script_runner.specs.Imports.{option_map, reply_of, string_bytes, AreBad};
+ghost use Rattle.be_script_runner.specs.Imports.{IsLegal, IsWithin};
+ghost use Rattle.be_script_runner.specs.Output.{IsFrontOfOutput};
+ghost use Rattle.be_script_runner.specs.Store.{start};
 ghost use Rattle.be_script_runner.specs.View.{session, queued_ops};
-ghost use Rattle.be_table.specs.Rule.{AreBad, IsWithin};
 
 use crate::answers::answer;
 use crate::client::Client;

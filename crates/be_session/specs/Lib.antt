@@ -1,3 +1,4 @@
+pub mod Imports
 pub mod Changes
 pub mod Cursors
 pub mod Fault

@@ -1,13 +1,11 @@
 //! Changes made through calls of a session, which begin, collect, read and end them without a
 //! callback.
 ghost use Rattle.std.specs.Prelude.{◌≡◌, IfErr, IfOk, false, true};
-ghost use Rattle.be_change.specs.Ending.{Begins, IsNotBegun};
+ghost use Rattle.be_session.specs.Imports.{Begins, HasRead, IsNotBegun, IsPinnedTo, OutOfMemory};
 ghost use Rattle.be_session.specs.Changes.{Abandons, Collects, CollectsMeant, EndsChange};
 ghost use Rattle.be_session.specs.Changes.{IsNotCollected, IsUncollected, IsUnwrittenChange};
 ghost use Rattle.be_session.specs.Changes.{ReadsChanged, WritesChange};
 ghost use Rattle.be_session.specs.declared.faults.Fault.TheVariants.{Refused};
-ghost use Rattle.be_store.specs.Passes.{HasRead, IsPinnedTo};
-ghost use Rattle.be_value.specs.declared.refusals.Refusal.TheVariants.{OutOfMemory};
 
 use crate::lists::one;
 use crate::session::is_batch;

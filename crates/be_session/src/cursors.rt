@@ -1,6 +1,6 @@
 //! Positions in an order, as other languages hold them.
 ghost use Rattle.std.specs.Prelude.{◌≡◌, ◌≤◌, IfErr, IfOk, IfSome, None, length};
-ghost use Rattle.be_order.specs.Ordered.{cursor_bytes};
+ghost use Rattle.be_session.specs.Imports.{cursor_bytes};
 ghost use Rattle.be_session.specs.Cursors.{IsCursorOf, IsLong, cursor_key};
 ghost use Rattle.be_session.specs.declared.faults.Fault.TheVariants.{BadCursor};
 

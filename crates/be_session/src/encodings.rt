@@ -1,7 +1,7 @@
 //! Attributes, indices and operations as they are returned to other languages: as operations, with
 //! the bytes that contain their parts.
 ghost use Rattle.std.specs.Prelude.{◌≡◌, ◌++◌, IfOk, IfErr, IfSome, length, map};
-ghost use Rattle.be_value.specs.declared.refusals.Refusal.TheVariants.{OutOfMemory};
+ghost use Rattle.be_session.specs.Imports.{OutOfMemory};
 ghost use Rattle.be_session.specs.Operations.{AreEncoded, IsMeantBy, ArePartsWithin, ReportNodes};
 ghost use Rattle.be_session.specs.Operations.{ReportsNode, both_parts, makes, part, sets};
 ghost use Rattle.be_session.specs.declared.faults.Fault.TheVariants.{Refused};

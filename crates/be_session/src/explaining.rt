@@ -1,8 +1,6 @@
 //! Formats the index cover from which a query would be answered.
 ghost use Rattle.std.specs.Prelude.{◌≡◌, Bool, List, Ok, true, ℕ, string_bytes};
-ghost use Rattle.be_value.specs.Refusal.{Answers};
-ghost use Rattle.be_plan.specs.Cover.{chosen};
-ghost use Rattle.be_plan.specs.Explain.{are_places};
+ghost use Rattle.be_session.specs.Imports.{are_places, chosen, Answers};
 ghost use Rattle.be_session.specs.Explained.{explanation_where};
 
 use be_store::{Cover, Query, Refusal, explain};

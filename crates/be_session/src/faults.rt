@@ -1,6 +1,6 @@
 //! Why a call of a session did nothing.
 ghost use Rattle.std.specs.Prelude.{◌≡◌};
-ghost use Rattle.be_value.specs.declared.refusals.Refusal.TheVariants.{OutOfMemory};
+ghost use Rattle.be_session.specs.Imports.{OutOfMemory};
 ghost use Rattle.be_session.specs.Fault.{fault_carried, fault_code, fault_of, fault_of_collecting};
 ghost use Rattle.be_session.specs.declared.faults.Fault.TheVariants.{Refused, WrongKind};
 

@@ -1,8 +1,7 @@
 //! Names that are checked once and kept, and the limit on the cells that a call can return.
 ghost use Rattle.std.specs.Prelude.{◌≡◌, ◌*◌, ◌^◌, ◌<◌, ◌≤◌, true, false, IfErr, IfOk, Ok, IsUtf8};
-ghost use Rattle.be_paged_reading.specs.Cells.{name_in};
+ghost use Rattle.be_session.specs.Imports.{name_from, name_in};
 ghost use Rattle.be_session.specs.Meaning.{IsNoName};
-ghost use Rattle.be_value.specs.Name.{name_from};
 
 use crate::Fault;
 use crate::meanings::name;

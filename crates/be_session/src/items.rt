@@ -1,6 +1,6 @@
 //! Predicates in reverse Polish notation, as other languages encode them.
 ghost use Rattle.std.specs.Prelude.{◌≡◌, ◌<◌, ℕ, List, IfOk, IfErr, map};
-ghost use Rattle.be_query.specs.Rpn.{item_of};
+ghost use Rattle.be_session.specs.Imports.{item_of};
 ghost use Rattle.be_session.specs.Items.{AreItemsMeant, AreItemsInvalid, IsBuilt, IsItemMeant};
 ghost use Rattle.be_session.specs.Items.{IsItemInvalid, IsNoItem, IsUnbuilt, item_reported};
 ghost use Rattle.be_session.specs.Operations.{part};

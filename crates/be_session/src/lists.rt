@@ -1,8 +1,7 @@
 //! Lists of operations as other languages encode them.
 ghost use Rattle.std.specs.Prelude.{◌≡◌, ◌+◌, ◌<◌, ◌≤◌, IfOk, IfErr, IfSome, IfNone, length};
 ghost use Rattle.be_session.specs.Operations.{AreMeant, ArePartsWithin, IsInvalid, IsInvalidAt};
-ghost use Rattle.be_session.specs.Operations.{IsMeantBy};
-ghost use Rattle.be_session.specs.Operations.{IsWriteCount, part};
+ghost use Rattle.be_session.specs.Operations.{IsMeantBy, IsWriteCount, part};
 
 use crate::meanings::operation;
 use crate::{Fault, ListFault};

@@ -1,10 +1,7 @@
 //! Operations and values as other languages encode them, in numbers and bytes.
-ghost use Rattle.std.specs.Int.{cast_signed, w32, w64};
-ghost use Rattle.std.specs.Int.RustNames.{FitsSigned};
 ghost use Rattle.std.specs.Prelude.{◌≡◌, ◌≢◌, ◌<◌, ◌^◌, Ok, IfOk, IfErr, IfSome, IfNone, IsUtf8};
-ghost use Rattle.be_value.specs.Name.{name_from};
-ghost use Rattle.be_value.specs.Value.{code_of};
-ghost use Rattle.be_value.specs.declared.values.Kind.{Kind as AnyKind};
+ghost use Rattle.be_session.specs.Imports.{cast_signed, code_of, name_from, w32, w64, AnyKind};
+ghost use Rattle.be_session.specs.Imports.{FitsSigned};
 ghost use Rattle.be_session.specs.Meaning.{HasNoMore, IsMeant, IsValueMeant, IsNoName};
 ghost use Rattle.be_session.specs.Meaning.{IsNoOperation, IsNoValue};
 ghost use Rattle.be_session.specs.declared.faults.Fault.TheVariants.{NotUtf8, NoKind, NoValue};

@@ -1,21 +1,15 @@
 //! Calls that read parts of a live query's answer, or refresh the query from what was written.
 ghost use Rattle.std.specs.Prelude.{◌≡◌, ◌≤◌, ℕ, [], IfErr, IfOk, Ok, OnErr, OnOk, Some};
-ghost use Rattle.be_order.specs.Firsts.{IsAnyOf, from_number};
-ghost use Rattle.be_order.specs.Ordered.{cursor_bytes, page, page_with};
-ghost use Rattle.be_paged_reading.specs.Cells.{name_in};
+ghost use Rattle.be_session.specs.Imports.{cursor_bytes, from_number, index_kind, name_in, page};
+ghost use Rattle.be_session.specs.Imports.{page_with, pinned_number, scan, volume_pinned, HasRead};
+ghost use Rattle.be_session.specs.Imports.{IsAnyOf, IsLiveOf, IsPinnedTo, Learns, LocksAtMostOnce};
+ghost use Rattle.be_session.specs.Imports.{NoSuchIndex};
 ghost use Rattle.be_session.specs.Meaning.{IsNoName};
 ghost use Rattle.be_session.specs.Ordering.{AreUnread, IsNoPage, IsPageRead};
 ghost use Rattle.be_session.specs.Prepared.{RefreshesAtPin, StaysUnrefreshed};
 ghost use Rattle.be_session.specs.Sitting.{IsUnanswered, IsUnread};
 ghost use Rattle.be_session.specs.declared.faults.Fault.{Fault as AnyFault};
 ghost use Rattle.be_session.specs.declared.faults.Fault.TheVariants.{Refused};
-ghost use Rattle.be_store.specs.History.{Learns, LocksAtMostOnce};
-ghost use Rattle.be_store.specs.Live.{IsLiveOf};
-ghost use Rattle.be_store.specs.Passes.{HasRead, IsPinnedTo, volume_pinned};
-ghost use Rattle.be_table.specs.Seats.{pinned_number};
-ghost use Rattle.be_value.specs.declared.refusals.Refusal.TheVariants.{NoSuchIndex};
-ghost use Rattle.be_volume.specs.Query.{scan};
-ghost use Rattle.be_volume.specs.Reading.{index_kind};
 
 use crate::meanings::name;
 use crate::{Cursor, Fault, Session};

@@ -2,9 +2,7 @@
 //! order.
 ghost use Rattle.std.specs.Prelude.{◌≡◌, ◌<◌, ◌+◌, ◌↔◌, IfSome, IsSome, MatchOption, vec_capacity};
 ghost use Rattle.std.specs.Prelude.{vec_len};
-ghost use Rattle.be_table.specs.Rule.{newcomer};
-ghost use Rattle.be_table.specs.Works.{AreNew};
-ghost use Rattle.be_store.specs.Passes.{IsPassOf};
+ghost use Rattle.be_session.specs.Imports.{newcomer, AreNew, IsPassOf};
 
 use be_store::{Pass, Store};
 

@@ -1,18 +1,11 @@
 //! Queries that are parsed once and kept for repeated use.
 ghost use Rattle.std.specs.Prelude.{◌≡◌, ◌≤◌, ℕ, [], Ok, IfOk, IfErr, OnErr, OnOk, string_bytes};
-ghost use Rattle.be_value.specs.declared.refusals.Refusal.TheVariants.{OutOfMemory};
-ghost use Rattle.be_query.specs.Grammar.{Formula, IsTextOf};
-ghost use Rattle.be_query.specs.Printing.{or_text};
-ghost use Rattle.be_volume.specs.Query.{scan};
-ghost use Rattle.be_order.specs.Firsts.{IsAnyOf, from_number};
-ghost use Rattle.be_paged_reading.specs.Cells.{name_in};
-ghost use Rattle.be_table.specs.Seats.{pinned_number};
-ghost use Rattle.be_store.specs.History.{Learns, LocksAtMostOnce};
-ghost use Rattle.be_store.specs.Live.{IsLiveOf};
-ghost use Rattle.be_store.specs.Passes.{HasRead, IsPinnedTo, volume_pinned};
+ghost use Rattle.be_session.specs.Imports.{from_number, name_in, or_text, pinned_number, scan};
+ghost use Rattle.be_session.specs.Imports.{volume_pinned, Formula, HasRead, IsAnyOf, IsLiveOf};
+ghost use Rattle.be_session.specs.Imports.{IsPinnedTo, IsTextOf, Learns, LocksAtMostOnce};
+ghost use Rattle.be_session.specs.Imports.{OutOfMemory};
 ghost use Rattle.be_session.specs.Items.{IsBuilt, IsUnbuilt};
-ghost use Rattle.be_session.specs.Prepared.{IsUnasked, KeepsRefresh, KeepsUnrefreshed};
-ghost use Rattle.be_session.specs.Prepared.{with_found};
+ghost use Rattle.be_session.specs.Prepared.{IsUnasked, KeepsRefresh, KeepsUnrefreshed, with_found};
 ghost use Rattle.be_session.specs.Ordering.{AreUnread, IsNoPage, IsPageRead};
 ghost use Rattle.be_session.specs.Sitting.{IsNoQuery, IsUnread, IsUnrefreshed};
 ghost use Rattle.be_session.specs.declared.faults.Fault.TheVariants.{Refused};

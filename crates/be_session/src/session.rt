@@ -2,31 +2,20 @@
 ghost use Rattle.std.specs.Prelude.{◌≡◌, ◌⊎◌, ◌≤◌, ◌<◌, ◌+◌, ◌*◌, ◌^◌, ℕ, [], None, Ok, IsOk, IfOk};
 ghost use Rattle.std.specs.Prelude.{IfErr, OnErr, OnOk, false, is_some, length, map as each};
 ghost use Rattle.std.specs.Prelude.{string_bytes, true, vec_len};
-ghost use Rattle.be_value.specs.declared.refusals.Refusal.{Refusal as AnyRefusal};
-ghost use Rattle.be_value.specs.declared.refusals.Refusal.TheVariants.{OutOfMemory};
-ghost use Rattle.be_query.specs.Grammar.{IsTextOf};
-ghost use Rattle.be_volume.specs.Query.{scan};
-ghost use Rattle.be_volume.specs.Reading.{attribute, attributes_at, index_kinds};
-ghost use Rattle.be_journal.specs.Journal.{IsLegal};
-ghost use Rattle.be_paged_reading.specs.Cells.{IsReadInto, ReportsColumns, name_in};
-ghost use Rattle.be_paged_reading.specs.Nodes.{nodes_from};
-ghost use Rattle.be_table.specs.Rule.{IsWithin, entries, newcomer, one_step_on};
-ghost use Rattle.be_table.specs.Seats.{pinned_number};
-ghost use Rattle.be_table.specs.Steps.{IsPass};
-ghost use Rattle.be_table.specs.Works.{AreNew, FoundHeld, IsOpenRefused, IsWitnessOf};
-ghost use Rattle.be_store.specs.Conditional.{AcceptsAt};
-ghost use Rattle.be_store.specs.History.{Accepts, IsUnreported, Learns, LocksAndUnlocks, Pins};
-ghost use Rattle.be_store.specs.History.{Unpins};
-ghost use Rattle.be_store.specs.History.{entries_from, text_seen};
-ghost use Rattle.be_store.specs.Passes.{HasRead, IsPassOf, IsPinnedTo, volume_pinned};
-ghost use Rattle.be_store.specs.Statuses.{ReportsStatus};
+ghost use Rattle.be_session.specs.Imports.{attribute, attributes_at, entries, entries_from};
+ghost use Rattle.be_session.specs.Imports.{index_kinds, name_in, newcomer, nodes_from, one_step_on};
+ghost use Rattle.be_session.specs.Imports.{pinned_number, scan, text_seen, volume_pinned, Accepts};
+ghost use Rattle.be_session.specs.Imports.{AcceptsAt, AnyRefusal, AreNew, FoundHeld, HasRead};
+ghost use Rattle.be_session.specs.Imports.{IsLegal, IsOpenRefused, IsPass, IsPassOf, IsPinnedTo};
+ghost use Rattle.be_session.specs.Imports.{IsReadInto, IsTextOf, IsUnreported, IsWithin};
+ghost use Rattle.be_session.specs.Imports.{IsWitnessOf, Learns, LocksAndUnlocks, OutOfMemory, Pins};
+ghost use Rattle.be_session.specs.Imports.{ReportsColumns, ReportsStatus, Unpins};
 ghost use Rattle.be_session.specs.Explained.{explanation_in};
 ghost use Rattle.be_session.specs.Finishing.{IsFinished, IsNotLast, IsUnfinished};
 ghost use Rattle.be_session.specs.Prepared.{RefreshesAtPin, StaysUnrefreshed};
 ghost use Rattle.be_session.specs.Sitting.{AtPin, HasMet, IsHandedOut, IsPinned, IsTakenFrom};
-ghost use Rattle.be_session.specs.Sitting.{IsUnwritten};
-ghost use Rattle.be_session.specs.Sitting.{IsUnwrittenIf, IsNoQuery, IsOpened, IsUnpinnedAt};
-ghost use Rattle.be_session.specs.Sitting.{IsUnrefreshed, Joins, ReadAnswers};
+ghost use Rattle.be_session.specs.Sitting.{IsUnwritten, IsUnwrittenIf, IsNoQuery, IsOpened};
+ghost use Rattle.be_session.specs.Sitting.{IsUnpinnedAt, IsUnrefreshed, Joins, ReadAnswers};
 ghost use Rattle.be_session.specs.States.{unreported, waiting};
 ghost use Rattle.be_session.specs.declared.faults.Fault.TheVariants.{AlreadyPinned, BadCount};
 ghost use Rattle.be_session.specs.declared.faults.Fault.TheVariants.{NoPass, NotPinned, Refused};
@@ -62,8 +51,7 @@ impl Model for Session {
     ghost Value = { Sitting };
 
     ghost use Rattle.std.specs.Prelude.{vec_len};
-    ghost use Rattle.be_table.specs.Works.{AreNew};
-    ghost use Rattle.be_store.specs.Passes.{IsPassOf};
+    ghost use Rattle.be_session.specs.Imports.{AreNew, IsPassOf};
 
     ghost view = { λ s. record {
       store = s.shared.value;

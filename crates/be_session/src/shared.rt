@@ -1,10 +1,7 @@
 //! What a store's sessions share: the store, and the passes that were given back.
 ghost use Rattle.std.specs.Prelude.{◌≡◌, ◌≤◌, ◌<◌, ◌+◌, ◌^◌, ℕ, IfOk, IfSome, length, map, true};
 ghost use Rattle.std.specs.Prelude.{vec_capacity, vec_len};
-ghost use Rattle.be_table.specs.History.{StartsWith};
-ghost use Rattle.be_table.specs.Steps.{Has};
-ghost use Rattle.be_table.specs.Works.{AllAt, AreNew, knows_of};
-ghost use Rattle.be_store.specs.Passes.{IsPassOf};
+ghost use Rattle.be_session.specs.Imports.{knows_of, AllAt, AreNew, Has, IsPassOf, StartsWith};
 ghost use Rattle.be_session.specs.Finishing.{IsFinishedBy};
 ghost use Rattle.be_session.specs.Sitting.{AreAllSeats, IsUnpinnedOf, MayWaitAt};
 
@@ -142,7 +139,7 @@ pub(crate) struct Shared {
 }
 
 impl Model for Shared {
-    ghost use Rattle.be_table.specs.Place.{Opened};
+    ghost use Rattle.be_session.specs.Imports.{Opened};
     ghost use Rattle.be_session.specs.Sitting.{AreAllSeats};
 
     ghost Value = { Opened };

@@ -20,9 +20,7 @@ pub struct StatePlace {
 
 impl StatePlace {
     ghost use Rattle.std.specs.Prelude.{◌≡◌, IfOk, IfErr};
-    ghost use Rattle.be_value.specs.declared.refusals.Refusal.TheVariants.{OutOfMemory};
-    ghost use Rattle.be_volume.specs.Volume.{State};
-    ghost use Rattle.be_volume_state.specs.Rebuilding.{state_ops};
+    ghost use Rattle.be_session.specs.Imports.{state_ops, OutOfMemory, State};
     ghost use Rattle.be_session.specs.Operations.{AreEncoded};
     ghost use Rattle.be_session.specs.States.{WaitAfter, unread, unreported, waiting};
     ghost use Rattle.be_session.specs.declared.faults.Fault.TheVariants.{Refused};

@@ -1,3 +1,4 @@
+pub mod Imports
 pub mod Passes
 pub mod Capacity
 pub mod Finding

@@ -1,13 +1,8 @@
 //! Queries on a version, through any page reader.
-ghost use Rattle.std.specs.List.Sorted.{IsStrictlyIncreasing};
 ghost use Rattle.std.specs.Prelude.{◌≡◌, ◌⊎◌, true, false, IfOk, IfErr};
-ghost use Rattle.be_value.specs.Refusal.{Answers};
-ghost use Rattle.be_value.specs.declared.refusals.Refusal.TheVariants.{OutOfMemory, NotCovered};
-ghost use Rattle.be_volume.specs.Query.{scan, has_index, covered};
-ghost use Rattle.be_volume.specs.Volume.{State};
-ghost use Rattle.be_plan.specs.Cover.{chosen, covers};
-ghost use Rattle.be_plan.specs.Explain.{are_places};
-ghost use Rattle.be_paged_reading.specs.Version.{IsVersion};
+ghost use Rattle.be_store.specs.Imports.{are_places, chosen, covered, covers, has_index, scan};
+ghost use Rattle.be_store.specs.Imports.{Answers, IsStrictlyIncreasing, IsVersion, NotCovered};
+ghost use Rattle.be_store.specs.Imports.{OutOfMemory, State};
 ghost use Rattle.be_store.specs.Finding.{Finds};
 
 use be_paged::{answer_decided, source};

@@ -1,13 +1,9 @@
 //! Evaluates a query at individual nodes, and updates an ascending list with the results.
-ghost use Rattle.std.specs.List.Sorted.{IsStrictlyIncreasing};
 ghost use Rattle.std.specs.Prelude.{◌≡◌, ◌==◌, ◌≤◌, ◌<◌, ◌+◌, ◌++◌, ◌&&◌, ◌||◌, ◌∷◌, [], ℕ, not};
 ghost use Rattle.std.specs.Prelude.{filter, length};
 ghost use Rattle.std.specs.Prelude.{OnOk, IfErr, if◌then◌else◌, vec_capacity, vec_len};
-ghost use Rattle.be_value.specs.declared.refusals.Refusal.TheVariants.{OutOfMemory};
-ghost use Rattle.be_query.specs.View.{formula};
-ghost use Rattle.be_volume.specs.Query.{sat};
-ghost use Rattle.be_volume.specs.Volume.{State};
-ghost use Rattle.be_paged_reading.specs.Version.{IsVersion};
+ghost use Rattle.be_store.specs.Imports.{formula, sat, IsStrictlyIncreasing, IsVersion};
+ghost use Rattle.be_store.specs.Imports.{OutOfMemory, State};
 ghost use Rattle.be_store.specs.Live.{is_among};
 
 use crate::answers::Updates;

@@ -1,7 +1,6 @@
 //! Reads many attributes in one call, into the caller's buffers.
 ghost use Rattle.std.specs.Prelude.{◌≡◌, ◌*◌, ◌^◌, ◌≤◌, ℕ, length, map as each};
-ghost use Rattle.be_volume.specs.Reading.{attribute};
-ghost use Rattle.be_paged_reading.specs.Cells.{IsReadInto, ReportsColumns, name_in};
+ghost use Rattle.be_store.specs.Imports.{attribute, name_in, IsReadInto, ReportsColumns};
 ghost use Rattle.be_store.specs.Passes.{HasRead, IsPassOf, IsPinnedTo, volume_pinned};
 
 use crate::{Pass, Store};

@@ -5,10 +5,10 @@
 //! again. No update is ever lost in this way. A batch can also name the nodes that it creates
 //! itself, because `Store::next` returns their numbers.
 ghost use Rattle.std.specs.Prelude.{◌≡◌, ◌≤◌, [], IfOk, IfErr, OnErr, length};
+ghost use Rattle.be_store.specs.Imports.{OutOfMemory};
 ghost use Rattle.be_store.specs.Conditional.{AcceptsAt, IsLastUnapplied, IsUnapplied, was_held};
 ghost use Rattle.be_store.specs.Passes.{IsPassOf};
 ghost use Rattle.be_store.specs.declared.conditional.ApplyIfError.TheVariants.{Refused};
-ghost use Rattle.be_value.specs.declared.refusals.Refusal.TheVariants.{OutOfMemory};
 
 use crate::tries::{back_off, is_busy, longer};
 use crate::writing::write_if;

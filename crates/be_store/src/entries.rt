@@ -1,7 +1,6 @@
 //! Reads journal entries while the lock is held.
 ghost use Rattle.std.specs.Prelude.{◌≡◌, IfErr, IfOk};
-ghost use Rattle.be_value.specs.declared.refusals.Refusal.TheVariants.{OutOfMemory};
-ghost use Rattle.be_table.specs.Rule.{entries};
+ghost use Rattle.be_store.specs.Imports.{entries, OutOfMemory};
 ghost use Rattle.be_store.specs.History.{entries_from};
 
 use be_journal::Entry;

@@ -5,21 +5,10 @@
 //! The laws about the only pass relate what that pass knows before and after a call. `alone` shows
 //! that a given pass is the only one.
 ghost use Rattle.std.specs.Prelude.{◌≡◌, ◌≤◌, ◌<◌, ◌++◌, ℕ, List, IsOk, length};
-ghost use Rattle.be_value.specs.declared.refusals.Refusal.{Refusal};
-ghost use Rattle.be_value.specs.declared.refusals.Refusal.TheVariants.{Full};
-ghost use Rattle.be_volume.specs.Ahead.{state_after};
-ghost use Rattle.be_volume.specs.Volume.{empty, steps};
-ghost use Rattle.be_volume.specs.declared.ops.Done.{Done};
-ghost use Rattle.be_volume.specs.declared.ops.Op.{Op};
-ghost use Rattle.be_journal.specs.Journal.{IsLegal, by_pass};
-ghost use Rattle.be_volume_state.specs.Rebuilding.{state_ops};
-ghost use Rattle.be_table.specs.History.{AreOfPasses, StartsWith};
-ghost use Rattle.be_table.specs.Rule.{entries, newcomer};
-ghost use Rattle.be_table.specs.Steps.{IsPass};
-ghost use Rattle.be_table.specs.Versions.{CanEncodeEach};
-ghost use Rattle.be_table.specs.declared.limits.Limits.{Limits};
-ghost use Rattle.be_table.specs.declared.pass.Commit.{Commit};
-ghost use Rattle.be_table.specs.declared.pass.Knowledge.{Knowledge};
+ghost use Rattle.be_store.specs.Imports.{by_pass, empty, entries, newcomer, state_after, state_ops};
+ghost use Rattle.be_store.specs.Imports.{steps, AreOfPasses, CanEncodeEach, Commit, Done, Full};
+ghost use Rattle.be_store.specs.Imports.{IsLegal, IsPass, Knowledge, Limits, Op, Refusal};
+ghost use Rattle.be_store.specs.Imports.{StartsWith};
 ghost use Rattle.be_store.specs.Alone.{IsAlone, WritesNext};
 ghost use Rattle.be_store.specs.Calls.{Calls};
 ghost use Rattle.be_store.specs.Capacity.{HasLargePool, IsAtCurrent, IsOut, NoneIsEarlier};

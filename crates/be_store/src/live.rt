@@ -1,18 +1,13 @@
 //! Live queries, which report how an answer has changed since the last refresh.
-ghost use Rattle.std.specs.List.Sorted.{IsStrictlyIncreasing};
 ghost use Rattle.std.specs.Prelude.{◌≡◌, ◌≢◌, ◌⊎◌, ◌<◌, ◌≤◌, ◌-◌, ◌++◌, ℕ, [], IfOk, IfErr, OnOk};
 ghost use Rattle.std.specs.Prelude.{Err, OnErr, None, drop, false, get_or, length, take, true};
-ghost use Rattle.be_value.specs.declared.refusals.Refusal.TheVariants.{OutOfMemory};
-ghost use Rattle.be_value.specs.Refusal.{Answers};
-ghost use Rattle.be_volume.specs.Query.{scan};
+ghost use Rattle.be_store.specs.Imports.{cursor_bytes, entries, from_number, page, page_with, scan};
+ghost use Rattle.be_store.specs.Imports.{Answers, AnyEntry, IsAnyOf, IsStrictlyIncreasing};
+ghost use Rattle.be_store.specs.Imports.{OutOfMemory};
 ghost use Rattle.be_store.specs.History.{Learns, LocksAtMostOnce};
 ghost use Rattle.be_store.specs.Live.{IsAnswerBut, IsLiveOf, Refreshes, without};
-ghost use Rattle.be_table.specs.Rule.{entries};
-ghost use Rattle.be_journal.specs.declared.entries.Entry.{Entry as AnyEntry};
 ghost use Rattle.be_store.specs.Named.{NamesAmong};
 ghost use Rattle.be_store.specs.Passes.{IsPassOf, IsPinnedTo, HasRead, volume_pinned};
-ghost use Rattle.be_order.specs.Firsts.{IsAnyOf, from_number};
-ghost use Rattle.be_order.specs.Ordered.{cursor_bytes, page, page_with};
 
 use crate::answers::Updates;
 use crate::changed::{ask_each, put_in, take_out};
@@ -45,8 +40,7 @@ pub struct Live {
 }
 
 impl Model for Live {
-    ghost use Rattle.std.specs.List.Sorted.{IsStrictlyIncreasing};
-    ghost use Rattle.std.specs.Option.{option_map};
+    ghost use Rattle.be_store.specs.Imports.{option_map, IsStrictlyIncreasing};
     ghost use Rattle.be_store.specs.Live.{LiveQuery, coded_live};
     ghost use Rattle.be_store.specs.Marks.{IsMarked};
 

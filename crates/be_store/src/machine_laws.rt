@@ -8,24 +8,15 @@
 //! last law is the main statement (`specs/OneHistory.antt`); example_history is a program that
 //! ensures it.
 ghost use Rattle.std.specs.Prelude.{◌≡◌, ◌+◌, ℕ, List, None, Some, length, map, take};
-ghost use Rattle.be_journal.specs.declared.entries.Entry.{Entry};
-ghost use Rattle.be_journal.specs.Journal.{Agrees};
-ghost use Rattle.be_table.specs.History.{StartsWith};
-ghost use Rattle.be_table.specs.Rule.{entries, newcomer, one_step_on};
-ghost use Rattle.be_table.specs.Steps.{entry_by, met};
-ghost use Rattle.be_table.specs.declared.limits.Limits.{Limits};
-ghost use Rattle.be_table.specs.declared.pass.Commit.{Commit};
-ghost use Rattle.be_table.specs.declared.pass.Knowledge.{Knowledge};
-ghost use Rattle.be_volume.specs.Volume.{State};
-ghost use Rattle.be_volume.specs.declared.ops.Done.{Done};
-ghost use Rattle.be_volume.specs.declared.ops.Op.{Op};
+ghost use Rattle.be_store.specs.Imports.{entries, entry_by, met, newcomer, one_step_on, Agrees};
+ghost use Rattle.be_store.specs.Imports.{Commit, Done, Entry, Knowledge, Limits, Op, StartsWith};
+ghost use Rattle.be_store.specs.Imports.{State};
 ghost use Rattle.be_store.specs.Calls.{Call, Calls, PassCalls, known_after, views_known};
 ghost use Rattle.be_store.specs.Conditional.{AcceptsAt, IsUnapplied};
 ghost use Rattle.be_store.specs.History.{Accepts, Learns, Pins, Unpins};
 ghost use Rattle.be_store.specs.SmallMachine.{AreSteps, Closes, PassView, first_view, state_of};
 ghost use Rattle.be_store.specs.SmallMachine.{Step, Apply, Learn, Pin, Unpin, Read};
-ghost use Rattle.be_store.specs.OneHistory.{IsOneHistory, PassRun, ReadsPrefix, steps_of};
-ghost use Rattle.be_store.specs.OneHistory.{views_of};
+ghost use Rattle.be_store.specs.OneHistory.{IsOneHistory, PassRun, ReadsPrefix, steps_of, views_of};
 ghost use Rattle.be_store.specs.Passes.{HasRead, IsPinnedTo, volume_pinned};
 ghost use Rattle.be_store.specs.declared.conditional.ApplyIfError.{ApplyIfError};
 ghost use Rattle.be_store.specs.declared.conditional.ApplyIfError.TheVariants.{Conflict};

@@ -2,10 +2,8 @@
 //!
 //! As long as no index is created or removed, a query's answer can change only at these nodes. The
 //! numbers are collected in place, so no memory is allocated.
-ghost use Rattle.std.specs.List.Sorted.{IsStrictlyIncreasing};
 ghost use Rattle.std.specs.Prelude.{◌≡◌, ◌≤◌, ◌<◌, ℕ, true, get_or, length};
-ghost use Rattle.be_journal.specs.declared.entries.Entry.{Entry as AnyEntry};
-ghost use Rattle.be_table.specs.Rule.{entries};
+ghost use Rattle.be_store.specs.Imports.{entries, AnyEntry, IsStrictlyIncreasing};
 ghost use Rattle.be_store.specs.History.{Learns, LocksAtMostOnce};
 ghost use Rattle.be_store.specs.Live.{is_among};
 ghost use Rattle.be_store.specs.Named.{AreNamedAmong, IsNamedAmong, NamesAmong, node_named};

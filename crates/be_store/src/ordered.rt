@@ -1,15 +1,9 @@
 //! Returns parts of a prepared query's answer: a page in the order of an index, the first nodes by
 //! number, or a few arbitrary nodes.
 ghost use Rattle.std.specs.Prelude.{◌≡◌, ◌⊎◌, ℕ, Err, OnErr, OnOk, IfErr};
-ghost use Rattle.be_order.specs.Firsts.{IsAnyOf, from_number};
-ghost use Rattle.be_order.specs.Ordered.{cursor_bytes, page, page_with};
-ghost use Rattle.be_paged_reading.specs.Version.{IsVersion};
+ghost use Rattle.be_store.specs.Imports.{cursor_bytes, from_number, index_kind, page, page_with};
+ghost use Rattle.be_store.specs.Imports.{scan, Answers, IsAnyOf, IsVersion, OutOfMemory, State};
 ghost use Rattle.be_store.specs.Passes.{HasRead, IsPassOf, IsPinnedTo, volume_pinned};
-ghost use Rattle.be_value.specs.Refusal.{Answers};
-ghost use Rattle.be_value.specs.declared.refusals.Refusal.TheVariants.{OutOfMemory};
-ghost use Rattle.be_volume.specs.Query.{scan};
-ghost use Rattle.be_volume.specs.Reading.{index_kind};
-ghost use Rattle.be_volume.specs.Volume.{State};
 
 use crate::{Pass, Store};
 use arrayvec::ArrayVec;

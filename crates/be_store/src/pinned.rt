@@ -3,27 +3,19 @@
 //! A pin that is never released holds the pages of its version for as long as the store lives. A
 //! function that can return early with `?` should therefore query through a `Pinned`, which unpins
 //! when it is dropped.
-ghost use Rattle.std.specs.List.Sorted.{IsStrictlyIncreasing};
 ghost use Rattle.std.specs.Prelude.{◌≡◌, ◌⊎◌, ◌<◌, ◌≤◌, ◌++◌, ◌*◌, ◌^◌, ℕ, true, false, [], None};
 ghost use Rattle.std.specs.Prelude.{Ok, Err, IsOk, IfOk, IfErr, IfNone, IfSome, OnErr, OnOk};
 ghost use Rattle.std.specs.Prelude.{length, map as each};
-ghost use Rattle.be_value.specs.Refusal.{Answers};
-ghost use Rattle.be_value.specs.declared.refusals.Refusal.TheVariants.{OutOfMemory, NotCovered};
-ghost use Rattle.be_volume.specs.Query.{scan, has_index, covered};
-ghost use Rattle.be_volume.specs.Reading.{attribute, attributes_at, index_kind, index_kinds};
-ghost use Rattle.be_order.specs.Firsts.{IsAnyOf, from_number};
-ghost use Rattle.be_order.specs.Ordered.{cursor_bytes, page, page_with};
-ghost use Rattle.be_volume_state.specs.Places.{given, left};
-ghost use Rattle.be_plan.specs.Cover.{chosen, covers};
-ghost use Rattle.be_plan.specs.Explain.{are_places};
-ghost use Rattle.be_paged_reading.specs.Cells.{IsReadInto, ReportsColumns, name_in};
-ghost use Rattle.be_paged_reading.specs.Nodes.{nodes_from};
-ghost use Rattle.be_table.specs.Seats.{pinned_number};
-ghost use Rattle.be_table.specs.Works.{IsSeatOf};
+ghost use Rattle.be_store.specs.Imports.{are_places, attribute, attributes_at, chosen, covered};
+ghost use Rattle.be_store.specs.Imports.{covers, cursor_bytes, from_number, given, has_index};
+ghost use Rattle.be_store.specs.Imports.{index_kind, index_kinds, left, name_in, nodes_from, page};
+ghost use Rattle.be_store.specs.Imports.{page_with, pinned_number, scan, Answers, IsAnyOf};
+ghost use Rattle.be_store.specs.Imports.{IsReadInto, IsSeatOf, IsStrictlyIncreasing, NotCovered};
+ghost use Rattle.be_store.specs.Imports.{OutOfMemory, ReportsColumns};
 ghost use Rattle.be_store.specs.History.{Learns, LocksAtMostOnce, Pins, Unpins};
 ghost use Rattle.be_store.specs.Live.{IsLiveOf, Refreshes};
-ghost use Rattle.be_store.specs.Passes.{IsAtRest, IsAtRest-prop, IsPassOf, IsPinnedTo};
-ghost use Rattle.be_store.specs.Passes.{HasRead, volume_pinned};
+ghost use Rattle.be_store.specs.Passes.{IsAtRest, IsAtRest-prop, IsPassOf, IsPinnedTo, HasRead};
+ghost use Rattle.be_store.specs.Passes.{volume_pinned};
 
 use crate::answers::{Answer, Updates};
 use crate::{Live, Pass, Store};

@@ -1,8 +1,6 @@
 //! Reads the operations that rebuild a version, through any page reader.
 ghost use Rattle.std.specs.Prelude.{◌≡◌, ◌<◌, ◌≤◌, ◌++◌, [], IfNone, IfOk, IfSome, length};
-ghost use Rattle.be_volume.specs.Volume.{State};
-ghost use Rattle.be_volume_state.specs.Places.{given, left};
-ghost use Rattle.be_paged_reading.specs.Version.{IsVersion};
+ghost use Rattle.be_store.specs.Imports.{given, left, IsVersion, State};
 
 use be_paged::whole;
 use be_pages::Look;

@@ -32,7 +32,7 @@ pub struct Store {
 }
 
 impl Model for Store {
-    ghost use Rattle.be_table.specs.Place.{Opened};
+    ghost use Rattle.be_store.specs.Imports.{Opened};
 
     ghost Value = { Opened };
 
@@ -40,28 +40,17 @@ impl Model for Store {
 }
 
 impl Store {
-    ghost use Rattle.std.specs.List.Sorted.{IsStrictlyIncreasing};
     ghost use Rattle.std.specs.Prelude.{All};
-    ghost use Rattle.be_value.specs.Refusal.{Answers};
-    ghost use Rattle.be_value.specs.declared.refusals.Refusal.TheVariants.{OutOfMemory, NotCovered};
-    ghost use Rattle.be_volume.specs.Query.{scan, has_index, covered};
-    ghost use Rattle.be_volume.specs.Reading.{attribute, attributes_at, index_kinds};
-    ghost use Rattle.be_journal.specs.Journal.{IsLegal};
-    ghost use Rattle.be_volume_state.specs.Places.{given, left};
-    ghost use Rattle.be_plan.specs.Cover.{chosen, covers};
-    ghost use Rattle.be_plan.specs.Explain.{are_places};
-    ghost use Rattle.be_paged_reading.specs.Nodes.{nodes_from};
-    ghost use Rattle.be_paged_reading.specs.Version.{IsVersion};
-    ghost use Rattle.be_table.specs.History.{StartsWith, AreOfPasses};
-    ghost use Rattle.be_table.specs.Reading.{pinned_page_state, word_of_page};
-    ghost use Rattle.be_table.specs.Rule.{IsWithin, entries, one_step_on};
-    ghost use Rattle.be_table.specs.Seats.{pinned_number};
-    ghost use Rattle.be_table.specs.Steps.{Has, KeepsSeen, longer, met, unpins, with_history};
-    ghost use Rattle.be_table.specs.Trace.{HasTrace};
-    ghost use Rattle.be_table.specs.Versions.{CanEncodeEach};
-    ghost use Rattle.be_table.specs.Works.{AllAt, AreNew, FoundHeld, IsOpenRefused, IsWitnessOf};
-    ghost use Rattle.be_table.specs.Works.{Moves, TakesLock, knows_of};
     ghost use Rattle.be_table.specs.declared.pass.Move.TheVariants as moves;
+    ghost use Rattle.be_store.specs.Imports.{are_places, attribute, attributes_at, chosen, covered};
+    ghost use Rattle.be_store.specs.Imports.{covers, entries, given, has_index, index_kinds};
+    ghost use Rattle.be_store.specs.Imports.{knows_of, left, longer, met, nodes_from, one_step_on};
+    ghost use Rattle.be_store.specs.Imports.{pinned_number, pinned_page_state, scan, unpins};
+    ghost use Rattle.be_store.specs.Imports.{with_history, word_of_page, AllAt, Answers, AreNew};
+    ghost use Rattle.be_store.specs.Imports.{AreOfPasses, CanEncodeEach, FoundHeld, Has, HasTrace};
+    ghost use Rattle.be_store.specs.Imports.{IsLegal, IsOpenRefused, IsStrictlyIncreasing};
+    ghost use Rattle.be_store.specs.Imports.{IsVersion, IsWithin, IsWitnessOf, KeepsSeen, Moves};
+    ghost use Rattle.be_store.specs.Imports.{NotCovered, OutOfMemory, StartsWith, TakesLock};
     ghost use Rattle.be_store.specs.Calls.{AreInOneTrace, HasWrites, ReadsFronts};
     ghost use Rattle.be_store.specs.Statuses.{ReportsStatus};
 

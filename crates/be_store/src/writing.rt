@@ -1,17 +1,9 @@
 //! Makes a single write while the lock is held.
 ghost use Rattle.std.specs.Prelude.{◌≡◌, [], ◌+◌, ◌^◌, ◌<◌, ◌≤◌, IfOk, IfErr, OnErr, false};
 ghost use Rattle.std.specs.Prelude.{length};
-ghost use Rattle.be_volume.specs.Volume.{State};
-ghost use Rattle.be_paged.specs.Changes.{Applies, IsRefusedList};
-ghost use Rattle.be_paged.specs.Stops.{TakesFew};
-ghost use Rattle.be_paged_reading.specs.Version.{IsVersion};
-ghost use Rattle.be_table.specs.Place.{Work};
-ghost use Rattle.be_table.specs.Reading.{open_of, page_state_among, page_state_in_work};
-ghost use Rattle.be_table.specs.Reading.{word_of_page};
-ghost use Rattle.be_table.specs.Reading.{words_of};
-ghost use Rattle.be_table.specs.Trace.{upto_lock};
-ghost use Rattle.be_table.specs.Works.{IsFull, TakesLock};
-ghost use Rattle.be_table.specs.declared.pass.Knowledge.{Knowledge};
+ghost use Rattle.be_store.specs.Imports.{open_of, page_state_among, page_state_in_work, upto_lock};
+ghost use Rattle.be_store.specs.Imports.{word_of_page, words_of, Applies, IsFull, IsRefusedList};
+ghost use Rattle.be_store.specs.Imports.{IsVersion, Knowledge, State, TakesFew, TakesLock, Work};
 ghost use Rattle.be_store.specs.Conditional.{WritesIf};
 ghost use Rattle.be_store.specs.Writing.{Begins, HasRoomAtFull, ScansEarly, Writes};
 

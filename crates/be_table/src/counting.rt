@@ -1,16 +1,13 @@
 //! How the versions and an open write share the pool when no page is left.
-ghost use Rattle.std.specs.FinMap as map;
 ghost use Rattle.std.specs.Prelude.{ℕ, ◌+◌, ◌*◌, ◌≤◌, List, length};
-ghost use Rattle.be_core.specs.Machine.{has};
+ghost use Rattle.std.specs.FinMap as map;
+ghost use Rattle.be_table.specs.Imports.{has, in_hand, items, State};
 ghost use Rattle.be_table.specs.Counts.{count_below, reached};
 ghost use Rattle.be_table.specs.Reading.{page_state_among};
 ghost use Rattle.be_table.specs.Rule.{reach_at};
 ghost use Rattle.be_table.specs.Versions.{EncodesVolume};
 ghost use Rattle.be_table.specs.Works.{HoldsStill, IsSpent};
 ghost use Rattle.be_table.specs.declared.pass.Knowledge.{Knowledge};
-ghost use Rattle.be_tree.specs.Counting.{in_hand};
-ghost use Rattle.be_volume.specs.Items.{items};
-ghost use Rattle.be_volume.specs.Volume.{State};
 
 use be_paged::version_pages;
 

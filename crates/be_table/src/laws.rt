@@ -16,9 +16,8 @@ ghost use Rattle.be_table.specs.Laws.{AttestIsNoEvent, JoinIsNoEvent, ArrivalIsN
 ghost use Rattle.be_table.specs.Laws.{EventsAreMoves, RunsAreSound, FrontsRun, UnusedAreZero};
 ghost use Rattle.be_table.specs.Laws.{UnusedStayZero, LockIsItsEvent, ScanIsItsEvent};
 ghost use Rattle.be_table.specs.Laws.{FillIsItsEvent, FoundFillIsItsEvent, OwnReadIsNoEvent};
-ghost use Rattle.be_table.specs.Laws.{TakeIsItsEvent};
-ghost use Rattle.be_table.specs.Laws.{LookIsItsEvent, AnnounceIsItsEvent, LookAgainIsItsEvent};
-ghost use Rattle.be_table.specs.Laws.{UnpinIsItsEvent, PinnedReadIsItsEvent};
+ghost use Rattle.be_table.specs.Laws.{TakeIsItsEvent, LookIsItsEvent, AnnounceIsItsEvent};
+ghost use Rattle.be_table.specs.Laws.{LookAgainIsItsEvent, UnpinIsItsEvent, PinnedReadIsItsEvent};
 ghost use Rattle.be_table.specs.declared.writer_state.WriterState.{WriterState};
 ghost use Rattle.be_table.specs.declared.limits.Limits.{Limits};
 ghost use Rattle.be_table.specs.declared.pass.Commit.{Commit};

@@ -3,7 +3,7 @@
 //! Its readable pages are those of the version, with the words that they had when it was published.
 //! Each read is one load, and no other call takes a step.
 ghost use Rattle.std.specs.Prelude.{◌≡◌, ◌<◌, IsTrue, slice_index};
-ghost use Rattle.be_pages.specs.Pages.{is_readable};
+ghost use Rattle.be_table.specs.Imports.{is_readable};
 ghost use Rattle.be_table.specs.Reading.{pinned_page_state};
 ghost use Rattle.be_table.specs.Rule.{one_step_on, word_place};
 

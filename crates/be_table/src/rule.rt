@@ -151,7 +151,7 @@ impl Play<Option<WriterState>, View> for GiveUp {
 /// The entry and the version page of a step that publishes. Each call chooses them.
 pub(crate) trait NextVersion {
     ghost use Rattle.std.specs.Prelude.{ℕ};
-    ghost use Rattle.be_journal.specs.declared.entries.Entry.{Entry};
+    ghost use Rattle.be_table.specs.Imports.{Entry};
 
     ghost entry: { Entry };
 

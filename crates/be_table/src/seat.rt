@@ -4,8 +4,7 @@
 //! is available only to the owner of its seat. Along with that right it carries the pass's number,
 //! how much of the journal the pass has seen, and its pin.
 ghost use Rattle.std.specs.Prelude.{◌≡◌, ℕ, ◌<◌, true, false, [], length, IsTrue};
-ghost use Rattle.be_core.specs.Machine.{has};
-ghost use Rattle.be_core.specs.declared.event.Phase.TheVariants.{Pinned};
+ghost use Rattle.be_table.specs.Imports.{has, Pinned};
 ghost use Rattle.be_table.specs.Rule.{alone, pass_of, page_at, reach_at};
 
 use crate::marks::Marks;
@@ -39,7 +38,7 @@ impl Model for Seat {
 
 impl Seat {
     ghost use Rattle.std.specs.Prelude.{take};
-    ghost use Rattle.be_journal.specs.Journal.{replay};
+    ghost use Rattle.be_table.specs.Imports.{replay};
     ghost use Rattle.be_table.specs.Reading.{word_of_page};
     ghost use Rattle.be_table.specs.Rule.{entries};
     ghost use Rattle.be_table.specs.Seats.{IsReported, pin_of, pinned_number};

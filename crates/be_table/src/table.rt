@@ -6,7 +6,7 @@
 //! 528 + 512 p + i.
 ghost use Rattle.std.specs.Prelude.{◌≡◌, ℕ, ◌<◌, false, length, map, MatchResult, IsTrue};
 ghost use Rattle.std.specs.Prelude.{slice_index};
-ghost use Rattle.be_core.specs.Machine.{has};
+ghost use Rattle.be_table.specs.Imports.{has};
 ghost use Rattle.be_table.specs.Rule.{one_step_on, reach_at, word_place, page_at};
 
 use crate::deal::{deal, gather, lay_first};
@@ -66,10 +66,8 @@ impl Model for VersionTable {
 
 impl VersionTable {
     ghost use Rattle.std.specs.Prelude.{[], ◌∷◌, take};
-    ghost use Rattle.be_core.specs.declared.event.Phase.TheVariants.{Pinned};
-    ghost use Rattle.be_volume.specs.Volume.{empty};
-    ghost use Rattle.be_journal.specs.Journal.{IsLegal, replay};
-    ghost use Rattle.be_paged_reading.specs.Version.{IsVersion};
+    ghost use Rattle.be_table.specs.declared.pass.Move.TheVariants as moves;
+    ghost use Rattle.be_table.specs.Imports.{empty, replay, IsLegal, IsVersion, Pinned};
     ghost use Rattle.be_table.specs.History.{StartsWith, AreOfPasses};
     ghost use Rattle.be_table.specs.Reading.{pinned_page_state, word_of_page};
     ghost use Rattle.be_table.specs.Rule.{IsWithin, entries};
@@ -80,7 +78,6 @@ impl VersionTable {
     ghost use Rattle.be_table.specs.Works.{IsSeatOf, IsWitnessOf, SeesMore, TakesLock, FoundHeld};
     ghost use Rattle.be_table.specs.Works.{PinsCurrent, Moves, AreNew, IsOpenRefused, AllAt};
     ghost use Rattle.be_table.specs.Works.{knows_of};
-    ghost use Rattle.be_table.specs.declared.pass.Move.TheVariants as moves;
 
     /// Creates a table with an empty journal, and returns it with its passes' seats in the order of
     /// their numbers. Version 0 consists only of page 0, which holds `first` and encodes the empty

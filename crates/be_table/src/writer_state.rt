@@ -3,10 +3,8 @@
 //! The pass that holds the lock owns the writer state and changes it as plain data. It contains no
 //! volume: the pages are the volume.
 ghost use Rattle.std.specs.Prelude.{◌≡◌, ◌≤◌, ℕ, count_by, map, length};
-ghost use Rattle.be_pages.specs.PagePool.{places};
-ghost use Rattle.be_pages.specs.Place.{is_retired, retired_at, undone_place, swept_place};
-ghost use Rattle.be_pages.specs.Place.{published_place};
-ghost use Rattle.be_journal.specs.Journal.{Grows, extended, with_room};
+ghost use Rattle.be_table.specs.Imports.{extended, is_retired, places, published_place, retired_at};
+ghost use Rattle.be_table.specs.Imports.{swept_place, undone_place, with_room, Grows};
 
 use be_journal::Journal;
 use be_paged::Version;

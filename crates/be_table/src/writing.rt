@@ -7,9 +7,9 @@ ghost use Rattle.std.specs.Prelude.{map, get_or, slice_index, IsTrue, List, IfOk
 ghost use Rattle.std.specs.Prelude.{IfNone, ◌≢◌, Ok, string_bytes, ◌≡◌, ◌≤◌, All, suc, ◌+◌, ◌*◌};
 ghost use Rattle.std.specs.Prelude.{◌^◌, ◌<◌, true, false, [], ◌∷◌, length, count_by, None};
 ghost use Rattle.std.specs.Prelude.{MatchResult, ℕ};
-ghost use Rattle.be_pages.specs.Place.{is_in_hand, is_held_page, is_retired, place_of, given_place};
-ghost use Rattle.be_pages.specs.declared.room.PageState.TheVariants.{Taken, Filled as Full};
-ghost use Rattle.be_volume.specs.Sound.{IsOperation};
+ghost use Rattle.be_table.specs.declared.pass.Move.TheVariants as moves;
+ghost use Rattle.be_table.specs.Imports.{given_place, is_held_page, is_in_hand, is_retired};
+ghost use Rattle.be_table.specs.Imports.{place_of, Full, IsOperation, Taken};
 ghost use Rattle.be_table.specs.Reading.{page_state_among};
 ghost use Rattle.be_table.specs.Rule.{Reaches, alone, announce_word, pass_of, one_step_on};
 ghost use Rattle.be_table.specs.Rule.{word_place, current_word};
@@ -17,14 +17,12 @@ ghost use Rattle.be_table.specs.Statuses.{FindsOldest, LieAt, Reports};
 ghost use Rattle.be_table.specs.Steps.{AreFound, take_moves, fill_moves, given_moves, given_of};
 ghost use Rattle.be_table.specs.Steps.{scans_of, NoneRetiredLater, IsPass, IsFound, MayPublish};
 ghost use Rattle.be_table.specs.Steps.{publishes, MayBeFilled, MayReadAnnouncement, IsPart};
-ghost use Rattle.be_table.specs.Steps.{fills_word, with_history};
-ghost use Rattle.be_table.specs.Steps.{takes_page, gives_up, scans, scans_out, scans_all};
-ghost use Rattle.be_table.specs.Steps.{lowest_found, IsLowestAnnounced, IsOwnLowest};
-ghost use Rattle.be_table.specs.Steps.{UnreachedAreFree};
+ghost use Rattle.be_table.specs.Steps.{fills_word, with_history, takes_page, gives_up, scans};
+ghost use Rattle.be_table.specs.Steps.{scans_out, scans_all, lowest_found, IsLowestAnnounced};
+ghost use Rattle.be_table.specs.Steps.{IsOwnLowest, UnreachedAreFree};
 ghost use Rattle.be_table.specs.Trace.{Makes, upto_lock};
 ghost use Rattle.be_table.specs.Working.{HasWorked, MakesForReason};
 ghost use Rattle.be_table.specs.Works.{due_after, HasReasonToScan, Moves};
-ghost use Rattle.be_table.specs.declared.pass.Move.TheVariants as moves;
 
 use crate::limits::Limits;
 use crate::marks::Marks;
@@ -80,16 +78,9 @@ impl<'a> Model for Writing<'a> {
 }
 
 impl<'a> Writing<'a> {
-    ghost use Rattle.be_value.specs.Refusal.{Answers};
-    ghost use Rattle.be_value.specs.declared.refusals.Refusal.TheVariants.{OutOfMemory};
-    ghost use Rattle.be_core.specs.Machine.{bit};
-    ghost use Rattle.be_pages.specs.Pages.{is_kept, times};
-    ghost use Rattle.be_pages.specs.Refusal.{IsFullOf};
-    ghost use Rattle.be_volume.specs.Ahead.{state_after};
-    ghost use Rattle.be_journal.specs.Journal.{Agrees, replay};
-    ghost use Rattle.be_journal.specs.Text.{lines_from};
-    ghost use Rattle.be_paged_reading.specs.Page.{reach};
-    ghost use Rattle.be_paged_reading.specs.Version.{IsVersion};
+    ghost use Rattle.be_table.specs.Imports.{bit, is_kept, lines_from, reach, replay, state_after};
+    ghost use Rattle.be_table.specs.Imports.{times, Agrees, Answers, IsFullOf, IsVersion};
+    ghost use Rattle.be_table.specs.Imports.{OutOfMemory};
     ghost use Rattle.be_table.specs.Reading.{word_of_page};
     ghost use Rattle.be_table.specs.Rule.{page_at, entries};
     ghost use Rattle.be_table.specs.Seats.{pin_of};

@@ -1,3 +1,4 @@
+pub mod Imports
 pub mod Owned
 pub mod Lent
 pub mod Places

@@ -1,12 +1,8 @@
 //! Writes the answers and explanations of queries for C.
 ghost use Rattle.std.specs.Prelude.{◌≡◌, ◌⊎◌, ℕ, List, IfErr, IfOk, false, length, string_bytes};
 ghost use Rattle.std.specs.Prelude.{true};
-ghost use Rattle.std.specs.declared.option.Option.{Option as AnyOption};
-ghost use Rattle.std.specs.declared.result.Result.{Result as AnyResult};
-ghost use Rattle.be_query.specs.Grammar.{IsTextOf};
-ghost use Rattle.be_session.specs.Sitting.{AtPin, IsNoQuery, ReadAnswers};
-ghost use Rattle.be_session.specs.declared.faults.Fault.{Fault as AnyFault};
-ghost use Rattle.be_value.specs.declared.refusals.Refusal.{Refusal as AnyRefusal};
+ghost use Rattle.bestore_c.specs.Imports.{AnyFault, AnyOption, AnyRefusal, AnyResult, AtPin};
+ghost use Rattle.bestore_c.specs.Imports.{IsNoQuery, IsTextOf, ReadAnswers};
 ghost use Rattle.bestore_c.specs.Calls.{IsClosed, PutsOutAtPin, Refuses};
 ghost use Rattle.bestore_c.specs.Places.{over};
 

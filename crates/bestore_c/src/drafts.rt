@@ -1,6 +1,6 @@
 //! Changes that are held by C: reading through a change, and taking a change out of its handle.
 ghost use Rattle.std.specs.Prelude.{◌≡◌, ◌⊎◌, ℕ, None, Some};
-ghost use Rattle.be_store.specs.Passes.{HasRead};
+ghost use Rattle.bestore_c.specs.Imports.{HasRead};
 ghost use Rattle.bestore_c.specs.Calls.{Shown};
 ghost use Rattle.bestore_c.specs.Drafts.{ShowsChanged};
 

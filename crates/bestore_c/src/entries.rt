@@ -1,11 +1,7 @@
 //! A journal entry in the form in which C reads it.
-ghost use Rattle.std.specs.Option.{option_copied};
 ghost use Rattle.std.specs.Prelude.{◌≡◌, IfErr, IfOk, OnErr, OnOk, length, slice_get};
-ghost use Rattle.be_store.specs.History.{IsUnreported, Learns, LocksAndUnlocks};
-ghost use Rattle.be_session.specs.declared.faults.Fault.TheVariants.{Refused};
-ghost use Rattle.be_table.specs.Rule.{entries};
-ghost use Rattle.be_value.specs.declared.refusals.Refusal.{Refusal as AnyRefusal};
-ghost use Rattle.be_value.specs.declared.refusals.Refusal.TheVariants.{OutOfMemory};
+ghost use Rattle.bestore_c.specs.Imports.{entries, option_copied, AnyRefusal, IsUnreported, Learns};
+ghost use Rattle.bestore_c.specs.Imports.{LocksAndUnlocks, OutOfMemory, Refused};
 ghost use Rattle.bestore_c.specs.Calls.{IsEntryPutOut};
 
 use crate::handle::Counts;

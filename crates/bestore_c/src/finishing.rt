@@ -1,6 +1,6 @@
 //! Closes a store, and returns the text of its journal.
 ghost use Rattle.std.specs.Prelude.{◌≡◌, ◌⊎◌, ◌≤◌, IfErr, IfOk, length, string_bytes};
-ghost use Rattle.be_store.specs.History.{Learns, LocksAndUnlocks, text_seen};
+ghost use Rattle.bestore_c.specs.Imports.{text_seen, Learns, LocksAndUnlocks};
 ghost use Rattle.bestore_c.specs.Finishing.{IsEnd, IsNoEnd};
 
 use crate::asking::put_text;

@@ -1,15 +1,8 @@
 //! Returns lists in the form of the operations that would create them.
 ghost use Rattle.std.specs.Prelude.{◌≡◌, ◌⊎◌, ℕ, List, IfOk, IfErr, length};
-ghost use Rattle.std.specs.declared.option.Option.{Option as AnyOption};
-ghost use Rattle.std.specs.declared.result.Result.{Result as AnyResult};
-ghost use Rattle.be_session.specs.Operations.{AreEncoded, makes, sets};
-ghost use Rattle.be_session.specs.Sitting.{AtPin, ReadAnswers};
-ghost use Rattle.be_session.specs.declared.faults.Fault.TheVariants.{Refused};
-ghost use Rattle.be_value.specs.declared.refusals.Refusal.{Refusal as AnyRefusal};
-ghost use Rattle.be_value.specs.declared.refusals.Refusal.TheVariants.{OutOfMemory};
-ghost use Rattle.be_value.specs.declared.values.Kind.{Kind as AnyKind};
-ghost use Rattle.be_value.specs.declared.values.Value.{Value as AnyValue};
-ghost use Rattle.be_volume.specs.declared.ops.Op.{Op as AnyOp};
+ghost use Rattle.bestore_c.specs.Imports.{makes, sets, AnyKind, AnyOp, AnyOption, AnyRefusal};
+ghost use Rattle.bestore_c.specs.Imports.{AnyResult, AnyValue, AreEncoded, AtPin, OutOfMemory};
+ghost use Rattle.bestore_c.specs.Imports.{ReadAnswers, Refused};
 ghost use Rattle.bestore_c.specs.Calls.{IsPutOut, Listed};
 ghost use Rattle.bestore_c.specs.Places.{over};
 

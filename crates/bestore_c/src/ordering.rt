@@ -1,8 +1,6 @@
 //! Reads the answers of prepared queries, whole or in parts, and refreshes prepared queries.
 ghost use Rattle.std.specs.Prelude.{◌≡◌, ◌⊎◌, IfErr, OnOk, length};
-ghost use Rattle.be_paged_reading.specs.Cells.{name_in};
-ghost use Rattle.be_session.specs.Fault.{fault_code};
-ghost use Rattle.be_store.specs.Live.{IsLiveOf};
+ghost use Rattle.bestore_c.specs.Imports.{fault_code, name_in, IsLiveOf};
 ghost use Rattle.bestore_c.specs.Calls.{HasOnlyRead, Refreshed, Refuses};
 ghost use Rattle.bestore_c.specs.Ordering.{AnyFew, First, Ordered, RefreshedByWrites, more_in};
 ghost use Rattle.bestore_c.specs.Places.{over};

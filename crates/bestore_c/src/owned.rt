@@ -3,9 +3,7 @@
 //! The type of the pointer doesn't mention the session, so the struct can be stored in memory that
 //! C passes.
 ghost use Rattle.std.specs.Prelude.{◌≡◌, Option, None, Some, is_some, true};
-ghost use Rattle.std.specs.contracts.impls.GlobalAllocator.TheImpl.{ghosts};
-ghost use Rattle.be_session.specs.declared.session.Session.{Session};
-ghost use Rattle.be_session.specs.contracts.session.Session.{the_row};
+ghost use Rattle.bestore_c.specs.Imports.{ghosts, the_row, Session};
 ghost use Rattle.bestore_c.specs.Owned.{may_own};
 
 use crate::loose::Loose;
@@ -28,7 +26,7 @@ impl Model for Owned {
 unsafe impl Send for Owned {}
 
 impl Owned {
-    ghost use Rattle.std.specs.Borrow.{sem};
+    ghost use Rattle.bestore_c.specs.Imports.{sem};
     ghost use Rattle.bestore_c.specs.Lent.{LendsSession};
 
     /// Lends the owned session. When the borrow ends, the handle owns the session as it is then.

@@ -1,9 +1,8 @@
 //! The content of a change handle: a boxed change that is kept as a pointer, or nothing. As in
 //! `owned`, the struct can be stored in memory that C passes.
 ghost use Rattle.std.specs.Prelude.{◌≡◌, Option, None, Some, is_some, true};
-ghost use Rattle.std.specs.contracts.impls.GlobalAllocator.TheImpl.{ghosts};
-ghost use Rattle.be_change.specs.declared.changes.Change.{Change};
 ghost use Rattle.be_change.specs.contracts.changes.Change.{the_row};
+ghost use Rattle.bestore_c.specs.Imports.{ghosts, Change};
 ghost use Rattle.bestore_c.specs.Owned.{may_own};
 
 use crate::loose::Loose;
@@ -26,7 +25,7 @@ impl Model for OwnedDraft {
 unsafe impl Send for OwnedDraft {}
 
 impl OwnedDraft {
-    ghost use Rattle.std.specs.Borrow.{sem};
+    ghost use Rattle.bestore_c.specs.Imports.{sem};
     ghost use Rattle.bestore_c.specs.Lent.{LendsDraft};
 
     /// Lends the owned change. When the borrow ends, the handle owns the change as it is then.

@@ -1,9 +1,8 @@
 //! The content of a place handle: a boxed place that is kept as a pointer, or nothing. As in
 //! `owned`, the struct can be stored in memory that C passes.
 ghost use Rattle.std.specs.Prelude.{◌≡◌, Option, None, Some, is_some, true};
-ghost use Rattle.std.specs.contracts.impls.GlobalAllocator.TheImpl.{ghosts};
-ghost use Rattle.be_session.specs.declared.states.StatePlace.{StatePlace};
 ghost use Rattle.be_session.specs.contracts.states.StatePlace.{the_row};
+ghost use Rattle.bestore_c.specs.Imports.{ghosts, StatePlace};
 ghost use Rattle.bestore_c.specs.Owned.{may_own};
 
 use crate::loose::Loose;
@@ -24,7 +23,7 @@ impl Model for OwnedPlace {
 }
 
 impl OwnedPlace {
-    ghost use Rattle.std.specs.Borrow.{sem};
+    ghost use Rattle.bestore_c.specs.Imports.{sem};
     ghost use Rattle.bestore_c.specs.Lent.{LendsPlace};
 
     /// Lends the owned place. When the borrow ends, the handle owns the place as it is then.

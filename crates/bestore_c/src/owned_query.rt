@@ -1,11 +1,8 @@
 //! The content of a prepared query's handle: a boxed prepared query that is kept as a pointer, or
 //! nothing. As in `owned`, the struct can be stored in memory that C passes.
 ghost use Rattle.std.specs.Prelude.{◌≡◌, Option, None, Some, is_some, true};
-ghost use Rattle.std.specs.Coded.{coded_option};
-ghost use Rattle.std.specs.contracts.impls.GlobalAllocator.TheImpl.{ghosts};
-ghost use Rattle.be_session.specs.Prepared.{coded_prepared};
-ghost use Rattle.be_session.specs.declared.preparing.Prepared.{Prepared};
 ghost use Rattle.be_session.specs.contracts.preparing.Prepared.{the_row};
+ghost use Rattle.bestore_c.specs.Imports.{coded_option, coded_prepared, ghosts, Prepared};
 ghost use Rattle.bestore_c.specs.Owned.{may_own};
 
 use crate::loose::Loose;
@@ -26,7 +23,7 @@ impl Model for OwnedQuery {
 }
 
 impl OwnedQuery {
-    ghost use Rattle.std.specs.Borrow.{sem};
+    ghost use Rattle.bestore_c.specs.Imports.{sem};
     ghost use Rattle.bestore_c.specs.Lent.{LendsQuery};
 
     /// Lends the owned query. When the borrow ends, the handle owns the query as it is then.

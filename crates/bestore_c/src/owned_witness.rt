@@ -1,9 +1,8 @@
 //! The content of a witness handle: a boxed witness that is kept as a pointer, or nothing. As in
 //! `owned`, the struct can be stored in memory that C passes.
 ghost use Rattle.std.specs.Prelude.{◌≡◌, Option, None, Some, is_some, true};
-ghost use Rattle.std.specs.contracts.impls.GlobalAllocator.TheImpl.{ghosts};
-ghost use Rattle.be_table.specs.declared.witness.Witness.{Witness};
 ghost use Rattle.be_table.specs.contracts.witness.Witness.{the_row};
+ghost use Rattle.bestore_c.specs.Imports.{ghosts, Witness};
 ghost use Rattle.bestore_c.specs.Owned.{may_own};
 
 use crate::loose::Loose;
@@ -26,7 +25,7 @@ impl Model for OwnedWitness {
 unsafe impl Send for OwnedWitness {}
 
 impl OwnedWitness {
-    ghost use Rattle.std.specs.Borrow.{sem};
+    ghost use Rattle.bestore_c.specs.Imports.{sem};
     ghost use Rattle.bestore_c.specs.Lent.{LendsWitness};
 
     /// Lends the owned witness. When the borrow ends, the handle owns the witness as it is then.

@@ -3,10 +3,7 @@
 //! The bytes of a value are copied from its page directly to the caller's memory. The pin is
 //! checked first, so the proof needs only what the session says about a pinned read.
 ghost use Rattle.std.specs.Prelude.{◌≡◌, ◌⊎◌};
-ghost use Rattle.be_paged_reading.specs.Cells.{name_in};
-ghost use Rattle.be_store.specs.Passes.{volume_pinned};
-ghost use Rattle.be_table.specs.Seats.{pinned_number};
-ghost use Rattle.be_volume.specs.Reading.{attribute};
+ghost use Rattle.bestore_c.specs.Imports.{attribute, name_in, pinned_number, volume_pinned};
 ghost use Rattle.bestore_c.specs.Calls.{HasOnlyRead, Shown};
 
 use crate::handle::Attribute;

@@ -1,6 +1,6 @@
 //! What a call that did nothing returns: the code of an error, and the number that goes with it.
 ghost use Rattle.std.specs.Prelude.{◌≡◌};
-ghost use Rattle.be_session.specs.Fault.{fault_code};
+ghost use Rattle.bestore_c.specs.Imports.{fault_code};
 ghost use Rattle.bestore_c.specs.Calls.{Refuses};
 
 use be_session::{Fault, ListFault};

@@ -1,9 +1,6 @@
 //! Returns the operations that rebuild a version, one list at a time.
 ghost use Rattle.std.specs.Prelude.{◌≡◌, ◌⊎◌, ◌≤◌, [], OnOk, length, true};
-ghost use Rattle.be_store.specs.Passes.{volume_pinned};
-ghost use Rattle.be_session.specs.States.{unreported, waiting};
-ghost use Rattle.be_table.specs.Seats.{pinned_number};
-ghost use Rattle.be_volume.specs.Volume.{State};
+ghost use Rattle.bestore_c.specs.Imports.{pinned_number, unreported, volume_pinned, waiting, State};
 ghost use Rattle.bestore_c.specs.Calls.{HasOnlyRead};
 ghost use Rattle.bestore_c.specs.States.{ReportsNext, ReportsState, unreported_at};
 

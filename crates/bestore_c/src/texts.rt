@@ -2,15 +2,9 @@
 //! query. These calls take no handle.
 ghost use Rattle.std.specs.Prelude.{◌≡◌, ◌⊎◌, ◌≢◌, ℕ, List, IfErr, IfOk, None, false, length, map};
 ghost use Rattle.std.specs.Prelude.{string_bytes};
-ghost use Rattle.be_query.specs.Faults.{fault};
-ghost use Rattle.be_query.specs.Grammar.{Formula, IsTextOf};
-ghost use Rattle.be_query_text.specs.Cases.{MatchesAnyCase};
-ghost use Rattle.be_query_text.specs.Described.{described, leaves, reported};
-ghost use Rattle.be_query_text.specs.Encoded.{Encodes, IsOneToken};
-ghost use Rattle.be_query_text.specs.Places.{places};
-ghost use Rattle.be_session.specs.Sitting.{IsNoQuery};
-ghost use Rattle.be_session.specs.declared.faults.Fault.{Fault as AnyFault};
-ghost use Rattle.be_value.specs.Name.{has_nul};
+ghost use Rattle.bestore_c.specs.Imports.{described, fault, has_nul, leaves, places, reported};
+ghost use Rattle.bestore_c.specs.Imports.{AnyFault, Encodes, Formula, IsNoQuery, IsOneToken};
+ghost use Rattle.bestore_c.specs.Imports.{IsTextOf, MatchesAnyCase};
 ghost use Rattle.bestore_c.specs.Calls.{Refuses};
 ghost use Rattle.bestore_c.specs.Places.{over};
 ghost use Rattle.bestore_c.specs.Texts.{Lists, ListsComparisons, MakesText};
