@@ -10,6 +10,7 @@ ghost use Rattle.be_order.specs.Imports.{State, StillAnswers};
 use crate::OrderedSource;
 use be_plan::{KeyBounds, KeyRange};
 use be_query::{Cmp, Comparison, Literal, Tree};
+use be_value::Name;
 
 /// A probe of a node reads its attribute or looks for it in an index. It takes as many instructions
 /// as walking over this many keys.
@@ -91,28 +92,37 @@ fn is_loose(comparison: &Comparison) -> bool {
     }
 }
 
-/// Returns the cost of a comparison. `whole` is the comparison together with everything that `&&`
-/// joins to it.
-fn cost_of_comparison<S: OrderedSource>(
+/// Returns the approximate number of keys that a part of a query allows in the index of a name, or
+/// `None` if there is no index.
+fn keys_allowed<S: OrderedSource>(
     source: &mut S,
     bounds: &mut KeyBounds,
     whole: &Tree,
-    comparison: &Comparison,
-) -> Cost
+    name: &Name,
+) -> Option<u64>
     requires { (volume : State) × S.answers_for source.old volume }
     ensures stays { S.kept source.new ≡ S.kept source.old }
     ensures answers { StillAnswers S.answers_for source.old source.new }
     ensures still { (volume : State) × S.answers_for source.new volume }
 {
-    let Some(kind) = source.kind_of(&comparison.name) else {
+    let Some(kind) = source.kind_of(name) else {
+        return None;
+    };
+    let _rest = bounds.narrow(whole, name, kind);
+    Some(source.about(bounds.keys(name)))
+}
+
+/// Returns the cost of a comparison. `keys` is the approximate number of keys that the comparison
+/// and everything that `&&` joins to it allow in the index of its name, or `None` if there is no
+/// index.
+fn cost_of_comparison(comparison: &Comparison, keys: Option<u64>) -> Cost {
+    let Some(keys) = keys else {
         return Cost {
             keys: u64::MAX,
             hits: u64::MAX,
             asking: 1,
         };
     };
-    let _rest = bounds.narrow(whole, &comparison.name, kind);
-    let keys = source.about(bounds.keys(&comparison.name));
     if is_loose(comparison) {
         return Cost {
             keys: keys.saturating_mul(KEYS_A_TEXT),
@@ -141,7 +151,10 @@ fn cost_of<S: OrderedSource>(
     ensures still { (volume : State) × S.answers_for source.new volume }
 {
     match tree {
-        Tree::Leaf(comparison) => cost_of_comparison(source, bounds, whole, comparison),
+        Tree::Leaf(comparison) => {
+            let keys = keys_allowed(source, bounds, whole, &comparison.name);
+            cost_of_comparison(comparison, keys)
+        }
         Tree::And(a, b) => {
             let left = cost_of(source, bounds, a, whole);
             let right = cost_of(source, bounds, b, whole);

@@ -7,7 +7,6 @@ ghost use Rattle.be_order.specs.Firsts.{IsAnyOf, from_number};
 
 use crate::{OrderedKeys, OrderedSource};
 use be_plan::{KeyRange, PreparedQuery, Source, answer_into};
-use be_query::Query;
 use be_value::{Kind, Refusal};
 use std::alloc::Global;
 
@@ -26,50 +25,6 @@ fn keep_from(numbers: &mut Vec<u64>, first: u64, most: usize)
 /// Returns `NotCovered` if the indices don't cover the query. After an error the source still
 /// represents the volume, but the content of the list is unspecified. The call costs as much as
 /// finding the whole answer.
-pub fn first_by_number<S: Source>(
-    alloc: Global,
-    query: &Query,
-    source: &mut S,
-    first: u64,
-    most: usize,
-    found: &mut Vec<u64>,
-) -> Result<(), Refusal>
-    ghost volume: { State }
-    requires { S.answers_for source.old volume }
-    ensures answer { Answers (λ _. found.new.items) result
-        (from_number volume query.now first most) }
-    ensures stays { S.kept source.new ≡ S.kept source.old }
-    ensures answers { S.answers_for source.new volume }
-{
-    answer_into(alloc, query, source, found)?;
-    keep_from(found, first, most);
-    Ok(())
-}
-
-/// Replaces the content of a list with `most` distinct nodes that satisfy the query, or with all of
-/// them if there are fewer. It is unspecified which nodes are chosen. The errors and their effects
-/// are the same as for `first_by_number`.
-pub fn any_into<S: Source>(
-    alloc: Global,
-    query: &Query,
-    source: &mut S,
-    most: usize,
-    found: &mut Vec<u64>,
-) -> Result<(), Refusal>
-    ghost volume: { State }
-    requires { S.answers_for source.old volume }
-    ensures any { OnOk result (IsAnyOf (scan volume query.now) most found.new.items) }
-    ensures refused { IfErr result (λ e. Answers (λ _. found.new.items) result
-        (scan volume query.now)) }
-    ensures stays { S.kept source.new ≡ S.kept source.old }
-    ensures answers { S.answers_for source.new volume }
-{
-    answer_into(alloc, query, source, found)?;
-    found.truncate(most);
-    Ok(())
-}
-
-/// Does what `first_by_number` does, for a prepared query.
 pub fn first_prepared_into<S: Source>(
     alloc: Global,
     prepared: &mut PreparedQuery,
@@ -86,7 +41,9 @@ pub fn first_prepared_into<S: Source>(
     ensures stays { S.kept source.new ≡ S.kept source.old }
     ensures answers { S.answers_for source.new volume }
 {
-    first_by_number(alloc, prepared.query(), source, first, most, found)
+    answer_into(alloc, prepared.query(), source, found)?;
+    keep_from(found, first, most);
+    Ok(())
 }
 
 /// Prepares the query's range for the index of the name that all its comparisons are on. Returns
@@ -142,7 +99,9 @@ fn walk_any<S: OrderedSource>(
     Ok(walked)
 }
 
-/// Does what `any_into` does, for a prepared query.
+/// Replaces the content of a list with `most` distinct nodes that satisfy the query, or with all of
+/// them if there are fewer. It is unspecified which nodes are chosen. The errors and their effects
+/// are the same as for `first_prepared_into`.
 ///
 /// If the range of one index decides the query and the source walks in order, the first nodes in
 /// the range are returned. This costs a walk over as many keys as there are nodes returned, and
@@ -171,5 +130,7 @@ pub fn any_prepared_into<S: OrderedSource>(
             }
         }
     }
-    any_into(alloc, prepared.query(), source, most, found)
+    answer_into(alloc, prepared.query(), source, found)?;
+    found.truncate(most);
+    Ok(())
 }

@@ -16,7 +16,7 @@ mod prepared;
 mod sources;
 mod tested;
 
-pub use firsts::{any_into, any_prepared_into, first_by_number, first_prepared_into};
+pub use firsts::{any_prepared_into, first_prepared_into};
 pub use laws::{next_page_goes_on, pages_are_the_whole};
 pub use pages::{Order, ordered_into};
 pub use prepared::ordered_prepared_into;

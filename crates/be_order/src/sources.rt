@@ -5,7 +5,7 @@ ghost use Rattle.be_order.specs.Ordered.{cursor_bytes};
 ghost use Rattle.be_order.specs.Walks.{HasWalked, IsEntry, IsPassing};
 
 use arrayvec::ArrayVec;
-use be_plan::{KeyRange, KeyTest, Source};
+use be_plan::{KeyRange, KeyTest, Source, VolumeSource};
 use be_value::Refusal;
 
 /// The keys in a range of an index that come strictly after a cursor, in either direction.
@@ -77,3 +77,6 @@ pub trait OrderedSource: Source {
         u64::MAX
     }
 }
+
+/// A plain volume doesn't walk in order, so its answers are sorted.
+impl OrderedSource for VolumeSource<'_> {}

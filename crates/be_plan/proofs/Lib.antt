@@ -8,6 +8,7 @@ pub mod Ends
 pub mod Fronts
 pub mod Integers
 pub mod Leaving
+pub mod Left
 pub mod LongTexts
 pub mod Marked
 mod Meeting

@@ -9,6 +9,7 @@ use Rattle.be_value.specs.declared.refusals.Refusal.TheVariants.{OutOfMemory, No
 use Rattle.be_value.specs.declared.values.Kind.{Kind}
 use Rattle.be_value.specs.declared.values.Value.{Value}
 use Rattle.be_query.specs.Grammar.{Formula, Leaf, And, Or}
+use Rattle.be_query.specs.View.{formula}
 use Rattle.be_plan.specs.Cover.{Comparison, leaves}
 use Rattle.be_volume.specs.Maps.{name_cmp}
 use Rattle.be_volume.specs.Query.{covered, sat, sees}
@@ -16,7 +17,8 @@ use Rattle.be_volume.specs.Volume.{State}
 use Rattle.be_volume.specs.Keys.{IsKey, IsNextKey}
 use Rattle.be_volume.specs.PairKeys.{is_at_or_after}
 use Rattle.be_volume.specs.Reading.{index_kind}
-use Rattle.be_plan.specs.Narrow.{Within, Allows, LeavesRest}
+use Rattle.be_plan.specs.Narrow.{Within, Allows, LeavesRest, high_of}
+use Rattle.be_plan.specs.declared.walks.Walk.{Walk}
 
 -- At least one comparison of the formula is on this name.
 abbrev pub asks_name : Formula → List ℕ → Bool
@@ -86,6 +88,15 @@ HasWanted s Wanted name low high found = (k : List ℕ) (h : IsKey s name k) →
 -- Every node that satisfies the formula and has a key from `low` to `high` has been found.
 abbrev pub HasWithin : State → Formula → List ℕ → List ℕ → Option (List ℕ) → List ℕ → Type 0
 HasWithin s f = HasWanted s (λ n. sat s f n ≡ true)
+
+-- The list loses no node, and every node added to it satisfies the walk's tree.
+abbrev pub CollectsFor : State → Walk → List ℕ → List ℕ → Type 0
+CollectsFor s walk = Collects s (formula walk.tree.now)
+
+-- Every node that satisfies the walk's tree and has a key in its range has been found.
+abbrev pub HasWalked : State → Walk → List ℕ → Type 0
+HasWalked s walk = HasWithin s (formula walk.tree.now) walk.index.name.now walk.range.now.low.items
+    (high_of walk.range.now)
 
 -- Every node with a key from `low` to `high` has been found.
 abbrev pub HasNodes : State → List ℕ → List ℕ → Option (List ℕ) → List ℕ → Type 0

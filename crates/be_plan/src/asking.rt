@@ -7,7 +7,7 @@
 ghost use Rattle.std.specs.Prelude.{◌≡◌, ◌≤◌, true, OnOk, IfOk, IfErr};
 ghost use Rattle.be_plan.specs.Imports.{comparisons, covered, formula, scan, Answers};
 ghost use Rattle.be_plan.specs.Imports.{IsStrictlyIncreasing, State};
-ghost use Rattle.be_plan.specs.Walk.{AddsTrue, AreAllOn, Collects, HasAllTrue, IsNoAnswer};
+ghost use Rattle.be_plan.specs.Walk.{AddsTrue, Collects, HasAllTrue, IsNoAnswer};
 
 use crate::Source;
 use crate::choosing::choose_by_source;
@@ -18,34 +18,8 @@ use crate::sifting::walk_index;
 use crate::sorting::put_in_order;
 use crate::walks::{Index, ROOM};
 use be_query::{Query, Tree};
-use be_value::{Name, Refusal};
+use be_value::Refusal;
 use std::alloc::Global;
-
-/// Adds the nodes that match a side of the query in which all comparisons are on one name.
-fn collect_named<S: Source>(
-    alloc: Global,
-    source: &mut S,
-    range: &mut Range,
-    tree: &Tree,
-    name: &Name,
-    found: &mut Vec<u64>,
-) -> Result<(), Refusal>
-    ghost volume: { State }
-    requires answers { S.answers_for source.old volume }
-    requires named { AreAllOn (formula tree.now) name.now }
-    ensures stays { S.kept source.new ≡ S.kept source.old }
-    ensures answers { S.answers_for source.new volume }
-    ensures collects { Collects volume (formula tree.now) found.old.items found.new.items }
-    ensures has { OnOk result (HasAllTrue volume (formula tree.now) found.new.items) }
-    ensures covered { OnOk result (covered volume (formula tree.now) ≡ true) }
-    ensures refused { IfErr result (λ e. IsNoAnswer volume (formula tree.now) e) }
-{
-    let Some(kind) = source.kind_of(name) else {
-        return Err(Refusal::NotCovered);
-    };
-    let index = Index { name, kind };
-    walk_index(alloc, source, range, tree, index, found)
-}
 
 /// Adds the nodes that match a side of the query, using picks chosen for it from the source's
 /// indices. This is a separate function so that comparisons on one name need no stack space for a
@@ -71,7 +45,7 @@ fn collect_chosen<S: Source>(
     let Some(cover) = choose_by_source(alloc, tree, source)? else {
         return Err(Refusal::NotCovered);
     };
-    walk_picks(alloc, source, range, tree, cover.picks.as_slice(), found)
+    walk_picks(alloc, source, range, tree, &cover, found)
 }
 
 /// Adds the nodes that match a side of an `||`.
@@ -92,10 +66,13 @@ fn collect_side<S: Source>(
     ensures covered { OnOk result (covered volume (formula tree.now) ≡ true) }
     ensures refused { IfErr result (λ e. IsNoAnswer volume (formula tree.now) e) }
 {
-    match only_name(tree) {
-        Some(name) => collect_named(alloc, source, range, tree, name, found),
-        None => collect_chosen(alloc, source, range, tree, found),
-    }
+    let Some(name) = only_name(tree) else {
+        return collect_chosen(alloc, source, range, tree, found);
+    };
+    let Some(kind) = source.kind_of(name) else {
+        return Err(Refusal::NotCovered);
+    };
+    walk_index(alloc, source, range, tree, Index { name, kind }, found)
 }
 
 /// Adds the nodes that match the tree, one side of an `||` at a time. A query with many parts under

@@ -61,10 +61,6 @@ impl KeyBounds {
         ensures low { result.low.now ≡ self.now.0 }
         ensures high { option_copied result.high ≡ self.now.1 }
     {
-        KeyRange {
-            name,
-            low: self.range.low(),
-            high: self.range.high(),
-        }
+        self.range.keys(name)
     }
 }

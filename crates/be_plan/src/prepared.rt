@@ -147,11 +147,7 @@ impl PreparedQuery {
             return None;
         }
         match &self.name {
-            Some(name) => Some(KeyRange {
-                name,
-                low: self.range.low(),
-                high: self.range.high(),
-            }),
+            Some(name) => Some(self.range.keys(name)),
             None => None,
         }
     }

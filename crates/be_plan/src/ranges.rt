@@ -8,7 +8,9 @@ ghost use Rattle.std.specs.Prelude.{◌≡◌, ◌+◌, ◌≤◌, true, false, 
 ghost use Rattle.be_plan.specs.Imports.{is_gt, is_lt, name_cmp, option_copied};
 ghost use Rattle.be_plan.specs.Narrow.{IsFrom, IsIn, IsTo, KeepsFrom, KeepsTo, high_of, is_above};
 
+use crate::KeyRange;
 use arrayvec::ArrayVec;
+use be_value::Name;
 use std::cmp::Ordering;
 use std::marker::Model;
 
@@ -118,6 +120,19 @@ impl Range {
     {
         self.low.clear();
         self.bounded = false;
+    }
+
+    /// Returns the keys of the range, in the index of `name`.
+    pub(crate) fn keys<'a>(&'a self, name: &'a Name) -> KeyRange<'a>
+        ensures name { result.name.now ≡ name.now }
+        ensures low { result.low.now ≡ self.now.low.items }
+        ensures high { option_copied result.high ≡ high_of self.now }
+    {
+        KeyRange {
+            name,
+            low: self.low(),
+            high: self.high(),
+        }
     }
 
     /// Returns the low bound. The range has no key below it.

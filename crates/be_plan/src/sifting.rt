@@ -13,9 +13,8 @@ ghost use Rattle.std.specs.Prelude.{◌≡◌, ◌⊎◌, ◌<◌, ◌≤◌, �
 ghost use Rattle.std.specs.Prelude.{IfSome, length, slice_index};
 ghost use Rattle.be_plan.specs.Imports.{formula, index_kind, option_copied, option_map, sat};
 ghost use Rattle.be_plan.specs.Imports.{Contains, IsStrictlyIncreasing, OutOfMemory, State};
-ghost use Rattle.be_plan.specs.Narrow.{high_of};
 ghost use Rattle.be_plan.specs.Walk.{AddsTrueOf, AreAllOn, AreOnIndex, Collects, HasAllTrue};
-ghost use Rattle.be_plan.specs.Walk.{HasTrueOf, HasWithin, IsNodeWithin, Keeps, LeavesInIndex};
+ghost use Rattle.be_plan.specs.Walk.{HasOnlyTrue, HasTrueOf, HasWithin, Keeps};
 
 use crate::evaluating::{asks_name, is_true};
 use crate::names::only_name;
@@ -200,44 +199,15 @@ fn nodes_of_index<S: Source>(
     Ok(nodes)
 }
 
-/// Adds those nodes that satisfy the tree. The nodes must be in ascending order.
-fn add_true<S: Source>(
-    alloc: Global,
-    source: &mut S,
-    tree: &Tree,
-    nodes: &[u64],
-    found: &mut Vec<u64>,
-) -> Result<(), Refusal>
-    ghost volume: { State }
-    requires answers { S.answers_for source.old volume }
-    requires rising { IsStrictlyIncreasing nodes.now }
-    ensures stays { S.kept source.new ≡ S.kept source.old }
-    ensures answers { S.answers_for source.new volume }
-    ensures memory { IfErr result (λ e. e ≡ OutOfMemory) }
-    ensures keeps { Keeps found.old.items found.new.items }
-    ensures only { AddsTrueOf volume (formula tree.now) nodes.now found.old.items found.new.items }
-    ensures has { OnOk result (HasTrueOf volume (formula tree.now) nodes.now found.new.items) }
-{
-    match index_to_walk(source, tree, nodes.len()) {
-        Some(index) => {
-            let others = nodes_of_index(alloc, source, tree, index)?;
-            add_common(nodes, &others, found)?;
-            Ok(())
-        }
-        None => ask_all(source, tree, nodes, found),
-    }
-}
-
-/// Adds the nodes of the keys in the range that satisfy the tree. The source returns the nodes in
-/// one call, and they are tested in ascending order. So what the source reads for one node is close
-/// to what it read for the node before, and the nodes are added in ascending order.
+/// Adds the nodes of these keys that satisfy the tree. The source returns the nodes in one call,
+/// and they are tested in ascending order. So what the source reads for one node is close to what
+/// it read for the node before, and the nodes are added in ascending order.
 #[inline(never)]
-fn ask_each<S: Source>(
+pub(crate) fn ask_each<S: Source>(
     alloc: Global,
     source: &mut S,
     tree: &Tree,
-    name: &Name,
-    range: &Range,
+    keys: KeyRange<'_>,
     found: &mut Vec<u64>,
 ) -> Result<(), Refusal>
     ghost volume: { State }
@@ -246,25 +216,24 @@ fn ask_each<S: Source>(
     ensures answers { S.answers_for source.new volume }
     ensures memory { IfErr result (λ e. e ≡ OutOfMemory) }
     ensures keeps { Keeps found.old.items found.new.items }
-    ensures only { (n : ℕ) → Contains found.new.items n →
-        Contains found.old.items n ⊎ (IsNodeWithin volume name.now range.now.low.items
-        (high_of range.now) n × (sat volume (formula tree.now) n ≡ true)) }
-    ensures has { OnOk result (HasWithin volume (formula tree.now) name.now range.now.low.items
-        (high_of range.now) found.new.items) }
+    ensures only { HasOnlyTrue volume (formula tree.now) keys.entry.name.now keys.entry.low.now
+        (option_copied keys.entry.high) found.old.items found.new.items }
+    ensures has { OnOk result (HasWithin volume (formula tree.now) keys.entry.name.now
+        keys.entry.low.now (option_copied keys.entry.high) found.new.items) }
 {
     let mut nodes = Vec::with_capacity(alloc, ROOM)?;
-    let keys = KeyRange {
-        name,
-        low: range.low(),
-        high: range.high(),
-    };
     source.nodes_within(keys, &mut nodes)?;
     put_in_order(alloc, &mut nodes)?;
-    add_true(alloc, source, tree, &nodes, found)
+    if let Some(index) = index_to_walk(source, tree, nodes.len()) {
+        let others = nodes_of_index(alloc, source, tree, index)?;
+        add_common(&nodes, &others, found)?;
+        return Ok(());
+    }
+    ask_all(source, tree, &nodes, found)
 }
 
 /// Returns the remaining condition if all its comparisons are on names other than the index's own.
-fn asked_apart<'t>(rest: Option<&'t Tree>, name: &Name) -> Option<&'t Tree>
+pub(crate) fn asked_apart<'t>(rest: Option<&'t Tree>, name: &Name) -> Option<&'t Tree>
     ensures { IfSome (option_copied result)
         (λ t. option_map formula (option_copied rest.entry) ≡ Some (formula t)) }
 {
@@ -273,35 +242,4 @@ fn asked_apart<'t>(rest: Option<&'t Tree>, name: &Name) -> Option<&'t Tree>
         return None;
     }
     Some(rest)
-}
-
-/// Adds the nodes of a walk's keys that satisfy its tree, given the condition that remains to be
-/// tested on them, or `None` if the range decides the tree. If the condition contains no comparison
-/// on the index's name, only the nodes of the keys are read.
-#[inline]
-pub(crate) fn walk<S: Source>(
-    alloc: Global,
-    source: &mut S,
-    walk: Walk<'_>,
-    rest: Option<&Tree>,
-    found: &mut Vec<u64>,
-) -> Result<(), Refusal>
-    ghost volume: { State }
-    requires answers { S.answers_for source.old volume }
-    requires leaves { LeavesInIndex volume (formula walk.tree.now) walk.index.name.now
-        walk.index.kind walk.range.now.low.items (high_of walk.range.now)
-        (option_map formula (option_copied rest)) }
-    ensures stays { S.kept source.new ≡ S.kept source.old }
-    ensures answers { S.answers_for source.new volume }
-    ensures memory { IfErr result (λ e. e ≡ OutOfMemory) }
-    ensures collects { Collects volume (formula walk.entry.tree.now) found.old.items
-        found.new.items }
-    ensures has { OnOk result (HasWithin volume (formula walk.entry.tree.now)
-        walk.entry.index.name.now walk.entry.range.now.low.items (high_of walk.entry.range.now)
-        found.new.items) }
-{
-    match asked_apart(rest, walk.index.name) {
-        Some(apart) => ask_each(alloc, source, apart, walk.index.name, walk.range, found),
-        None => walk_alone(alloc, source, walk, rest, found),
-    }
 }

@@ -9,21 +9,19 @@
 //! `next_key`, from the low end of the range to the first key above its high end, and tests each
 //! node against the query. It reads one key more than it tests. For walks that leave only
 //! comparisons on other names, see `sifting`.
-ghost use Rattle.std.specs.Prelude.{◌≡◌, ◌⊎◌, ◌<◌, ◌^◌, ℕ, true, Some, OnOk, IfErr, IfSome};
+ghost use Rattle.std.specs.Prelude.{◌≡◌, ◌<◌, ◌^◌, ℕ, true, false, Some, OnOk, IfErr, IfOk, IfSome};
 ghost use Rattle.be_plan.specs.Imports.{formula, index_kind, key_bytes, literal, option_copied};
-ghost use Rattle.be_plan.specs.Imports.{option_map, sat, AnyValue, Contains, Cstr, IsKey, IsSound};
-ghost use Rattle.be_plan.specs.Imports.{Leaf, OutOfMemory, State};
+ghost use Rattle.be_plan.specs.Imports.{option_map, sat, AnyValue, Contains, Cstr, Leaf};
+ghost use Rattle.be_plan.specs.Imports.{OutOfMemory, State};
 ghost use Rattle.be_plan.specs.Narrow.{high_of};
-ghost use Rattle.be_plan.specs.Texts.{IsKeyOf};
-ghost use Rattle.be_plan.specs.Walk.{Collects, HasOnlyTrue, HasWithin, IsKeyOfKind, IsNodeWithin};
-ghost use Rattle.be_plan.specs.Walk.{Keeps, LeavesInIndex};
+ghost use Rattle.be_plan.specs.Walk.{Collects, CollectsFor, HasWalked, IsKeyOfKind, LeavesInIndex};
 
+use crate::Source;
 use crate::evaluating::satisfies;
 use crate::ranges::Range;
-use crate::texts::{TextTest, text_of};
-use crate::{KeyRange, Source};
+use crate::texts::TextTest;
 use be_query::{Comparison, Tree};
-use be_value::{Kind, Name, Refusal, node_of, read_key};
+use be_value::{Kind, Name, Refusal, read_key};
 use std::alloc::Global;
 
 /// The initial capacity of a list of nodes, so that a hundred results don't make it grow. An
@@ -72,7 +70,9 @@ fn visit<S: Source>(
     Ok(())
 }
 
-/// Adds the nodes of a walk's keys that satisfy its tree, stepping from key to key.
+/// Adds the nodes of a walk's keys that satisfy its tree, stepping from key to key. It isn't
+/// inlined, so that a walk whose range decides the tree needs no stack space for keys.
+#[inline(never)]
 fn visit_all<S: Source>(source: &mut S, walk: Walk<'_>, found: &mut Vec<u64>) -> Result<(), Refusal>
     ghost volume: { State }
     requires answers { S.answers_for source.old volume }
@@ -80,11 +80,8 @@ fn visit_all<S: Source>(source: &mut S, walk: Walk<'_>, found: &mut Vec<u64>) ->
     ensures stays { S.kept source.new ≡ S.kept source.old }
     ensures answers { S.answers_for source.new volume }
     ensures memory { IfErr result (λ e. e ≡ OutOfMemory) }
-    ensures collects { Collects volume (formula walk.entry.tree.now) found.old.items
-        found.new.items }
-    ensures has { OnOk result (HasWithin volume (formula walk.entry.tree.now)
-        walk.entry.index.name.now walk.entry.range.now.low.items (high_of walk.entry.range.now)
-        found.new.items) }
+    ensures collects { CollectsFor volume walk.entry found.old.items found.new.items }
+    ensures has { OnOk result (HasWalked volume walk.entry found.new.items) }
 {
     let mut next = source.next_key(walk.index.name, walk.range.low(), false);
     'keys: while let Some(key) = &next {
@@ -95,99 +92,6 @@ fn visit_all<S: Source>(source: &mut S, walk: Walk<'_>, found: &mut Vec<u64>) ->
         next = source.next_key(walk.index.name, key.as_slice(), true);
     }
     Ok(())
-}
-
-/// Adds the node of a key in an index of strings if the comparison is true of the key's string.
-fn visit_text(
-    test: &TextTest<'_>,
-    name: &Name,
-    key: &[u8],
-    found: &mut Vec<u64>,
-) -> Result<(), Refusal>
-    ghost volume: { State }
-    requires sound { IsSound volume }
-    requires kind { index_kind volume name.now ≡ Some Cstr }
-    requires is_key { IsKey volume name.now key.now }
-    ensures memory { IfErr result (λ e. e ≡ OutOfMemory) }
-    ensures keeps { Keeps found.old.items found.new.items }
-    ensures only { (n : ℕ) → Contains found.new.items n →
-        Contains found.old.items n ⊎ (IsKeyOf key.now n
-        × (sat volume (Leaf name.now test.now.0 test.now.1) n ≡ true)) }
-    ensures has { OnOk result ((v : AnyValue) (n : ℕ) → n < 2 ^ 64 → key.now ≡ key_bytes v n →
-        sat volume (Leaf name.now test.now.0 test.now.1) n ≡ true → Contains found.new.items n) }
-{
-    if test.passes(text_of(key)) {
-        found.push(node_of(key))?;
-    }
-    Ok(())
-}
-
-/// Adds the nodes of those keys in the range whose strings satisfy the comparison, stepping from
-/// key to key.
-fn visit_texts<S: Source>(
-    source: &mut S,
-    test: &TextTest<'_>,
-    name: &Name,
-    range: &Range,
-    found: &mut Vec<u64>,
-) -> Result<(), Refusal>
-    ghost volume: { State }
-    requires answers { S.answers_for source.old volume }
-    requires kind { index_kind volume name.now ≡ Some Cstr }
-    ensures stays { S.kept source.new ≡ S.kept source.old }
-    ensures answers { S.answers_for source.new volume }
-    ensures memory { IfErr result (λ e. e ≡ OutOfMemory) }
-    ensures keeps { Keeps found.old.items found.new.items }
-    ensures only { (n : ℕ) → Contains found.new.items n → Contains found.old.items n
-        ⊎ (IsNodeWithin volume name.now range.now.low.items (high_of range.now) n
-        × (sat volume (Leaf name.now test.now.0 test.now.1) n ≡ true)) }
-    ensures has { OnOk result (HasWithin volume (Leaf name.now test.now.0 test.now.1) name.now
-        range.now.low.items
-        (high_of range.now) found.new.items) }
-{
-    let mut next = source.next_key(name, range.low(), false);
-    'keys: while let Some(key) = &next {
-        if range.ends_before(key.as_slice()) {
-            return Ok(());
-        }
-        visit_text(test, name, key.as_slice(), found)?;
-        next = source.next_key(name, key.as_slice(), true);
-    }
-    Ok(())
-}
-
-/// Adds the nodes of those keys in the range whose strings satisfy the comparison. This takes one
-/// call if the source tests strings in place; otherwise it steps from key to key.
-fn test_texts<S: Source>(
-    source: &mut S,
-    test: &TextTest<'_>,
-    name: &Name,
-    range: &Range,
-    found: &mut Vec<u64>,
-) -> Result<(), Refusal>
-    ghost volume: { State }
-    requires answers { S.answers_for source.old volume }
-    requires kind { index_kind volume name.now ≡ Some Cstr }
-    ensures stays { S.kept source.new ≡ S.kept source.old }
-    ensures answers { S.answers_for source.new volume }
-    ensures memory { IfErr result (λ e. e ≡ OutOfMemory) }
-    ensures keeps { Keeps found.old.items found.new.items }
-    ensures only { HasOnlyTrue volume (Leaf name.now test.now.0 test.now.1) name.now
-        range.now.low.items (high_of range.now) found.old.items found.new.items }
-    ensures has { OnOk result (HasWithin volume (Leaf name.now test.now.0 test.now.1) name.now
-        range.now.low.items
-        (high_of range.now) found.new.items) }
-{
-    let keys = KeyRange {
-        name,
-        low: range.low(),
-        high: range.high(),
-    };
-    let tested = source.nodes_passing(keys, test, found)?;
-    if tested {
-        return Ok(());
-    }
-    visit_texts(source, test, name, range, found)
 }
 
 /// Returns the remaining condition if it is a single comparison with the strings of this index.
@@ -208,17 +112,17 @@ pub fn asked_of_texts<'t>(rest: &'t Tree, name: &Name, kind: Kind) -> Option<&'t
     }
 }
 
-/// Adds the nodes of a walk's keys that satisfy its tree, given the condition that remains to be
-/// tested on them. The content of the keys is sufficient for the test. This is a separate function
-/// so that a walk whose range decides the tree needs no stack space for keys.
+/// Adds the nodes of a walk's keys that satisfy its tree, and returns `true`. It does so only if
+/// the condition that remains to be tested on them is a single comparison with strings, and the
+/// source tests strings in place. Otherwise it adds nothing and returns `false`.
 #[inline(never)]
-fn pass_keys<S: Source>(
+fn pass_texts<S: Source>(
     alloc: Global,
     source: &mut S,
     walk: Walk<'_>,
     rest: &Tree,
     found: &mut Vec<u64>,
-) -> Result<(), Refusal>
+) -> Result<bool, Refusal>
     ghost volume: { State }
     requires answers { S.answers_for source.old volume }
     requires leaves { LeavesInIndex volume (formula walk.tree.now) walk.index.name.now
@@ -227,17 +131,17 @@ fn pass_keys<S: Source>(
     ensures stays { S.kept source.new ≡ S.kept source.old }
     ensures answers { S.answers_for source.new volume }
     ensures memory { IfErr result (λ e. e ≡ OutOfMemory) }
-    ensures collects { Collects volume (formula walk.entry.tree.now) found.old.items
-        found.new.items }
-    ensures has { OnOk result (HasWithin volume (formula walk.entry.tree.now)
-        walk.entry.index.name.now walk.entry.range.now.low.items (high_of walk.entry.range.now)
-        found.new.items) }
+    ensures collects { CollectsFor volume walk.entry found.old.items found.new.items }
+    ensures has { IfOk result (λ tested. tested ≡ true
+        → HasWalked volume walk.entry found.new.items) }
+    ensures none { IfOk result (λ tested. tested ≡ false
+        → found.new.items ≡ found.old.items) }
 {
-    if let Some(comparison) = asked_of_texts(rest, walk.index.name, walk.index.kind) {
-        let test = TextTest::new(alloc, comparison)?;
-        return test_texts(source, &test, walk.index.name, walk.range, found);
-    }
-    visit_all(source, walk, found)
+    let Some(comparison) = asked_of_texts(rest, walk.index.name, walk.index.kind) else {
+        return Ok(false);
+    };
+    let test = TextTest::new(alloc, comparison)?;
+    source.nodes_passing(walk.range.keys(walk.index.name), &test, found)
 }
 
 /// Adds the nodes of a walk's keys that satisfy its tree, given the condition that remains to be
@@ -258,21 +162,14 @@ pub(crate) fn walk_alone<S: Source>(
     ensures stays { S.kept source.new ≡ S.kept source.old }
     ensures answers { S.answers_for source.new volume }
     ensures memory { IfErr result (λ e. e ≡ OutOfMemory) }
-    ensures collects { Collects volume (formula walk.entry.tree.now) found.old.items
-        found.new.items }
-    ensures has { OnOk result (HasWithin volume (formula walk.entry.tree.now)
-        walk.entry.index.name.now walk.entry.range.now.low.items (high_of walk.entry.range.now)
-        found.new.items) }
+    ensures collects { CollectsFor volume walk.entry found.old.items found.new.items }
+    ensures has { OnOk result (HasWalked volume walk.entry found.new.items) }
 {
-    match rest {
-        None => {
-            let keys = KeyRange {
-                name: walk.index.name,
-                low: walk.range.low(),
-                high: walk.range.high(),
-            };
-            source.nodes_within(keys, found)
-        }
-        Some(rest) => pass_keys(alloc, source, walk, rest, found),
+    let Some(rest) = rest else {
+        return source.nodes_within(walk.range.keys(walk.index.name), found);
+    };
+    if pass_texts(alloc, source, walk, rest, found)? {
+        return Ok(());
     }
+    visit_all(source, walk, found)
 }

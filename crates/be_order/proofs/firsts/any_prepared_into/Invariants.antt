@@ -6,5 +6,5 @@ ghost-meet_own g a = g.volume
 abbrev pub ghost-walk_any : goal.ghost-walk_any
 ghost-walk_any g a = g.volume
 
-abbrev pub ghost-any_into : goal.ghost-any_into
-ghost-any_into g a = g.volume
+abbrev pub ghost-answer_into : goal.ghost-answer_into
+ghost-answer_into g a = g.volume

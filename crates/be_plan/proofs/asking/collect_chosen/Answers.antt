@@ -1,8 +1,8 @@
-use Rattle.std.proofs.Common.{◌≡◌, true, sym, subst, ap, ◌∙◌, inr, Ok, Err, List, ℕ}
+use Rattle.std.proofs.Common.{sym, ap, ◌∙◌, inr, Ok, Err}
 use Rattle.be_value.specs.declared.refusals.Refusal.TheVariants.{NotCovered}
 use Rattle.be_query.specs.View.{formula}
 use Rattle.be_volume.specs.Query.{has_index}
-use Rattle.be_plan.specs.Cover.{covers, or_not_covered}
+use Rattle.be_plan.specs.Cover.{or_not_covered}
 use Rattle.be_plan.proofs.Choice.{choice_reported}
 use Rattle.be_plan.proofs.Reaching.{on_ok}
 use Rattle.be_plan.proofs.Sides.{by_memory}
@@ -17,8 +17,7 @@ pub walk_picks-requires : goal.walk_picks-requires
 walk_picks-requires g c κs within =
     let f = formula c.args.tree.now in
     let reported = choice_reported (has_index g.volume) f (Ok c.in-Some.cover) (ap or_not_covered (sym c.in_ok-cover.ensures.choice ∙ c.in-Some.is)) in
-    let P : List ℕ → Type 0 = λ picks. covers (has_index g.volume) picks f ≡ true in
-    (within, (c.requires.1.1, (c.choose_by_source.ensures.answers, subst P (sym c.as_slice.ensures) reported.0.0)))
+    (within, (c.requires.1.1, (c.choose_by_source.ensures.answers, reported.0.0)))
 
 pub returns-clause-covered : goal.returns-clause-covered
 returns-clause-covered g c =

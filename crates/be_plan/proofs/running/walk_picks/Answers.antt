@@ -23,8 +23,8 @@ loop-i-init g c = record {
 pub front_for-front-requires-clause-within : goal.front_for-front-requires-clause-within
 front_for-front-requires-clause-within g c =
     let f = formula c.args.tree.now in
-    let picks = c.args.picks.now in
-    let parts = covers_parts g.volume picks picks f f refl refl c.requires.1.1.1 in
+    let picks = c.as_slice-picks.result.now in
+    let parts = covers_parts g.volume c.args.cover.now.picks picks f f (sym c.as_slice-picks.ensures) refl c.requires.1.1.1 in
     let R : ℕ → Type 0 = λ p. rests_on (has_index g.volume) f p ≡ true in
     let place : length picks - 1 - c.loop-i.i < length picks = omega (arith, c.loop-i-test.true) in
     let rests : rests_on (has_index g.volume) f c.from_last-pick.result ≡ true =
@@ -34,12 +34,12 @@ front_for-front-requires-clause-within g c =
 pub walk_pick-requires : goal.walk_pick-requires
 walk_pick-requires g c κs within =
     let f = formula c.args.tree.now in
-    let picks = c.args.picks.now in
+    let picks = c.as_slice-picks.result.now in
     let part = formula c.front_for-front.result.side.now in
     let from = c.front_for-front.result.from in
     let pick = c.from_last-pick.result in
     let inv = c.loop-i.invariant in
-    let parts = covers_parts g.volume picks picks f f refl refl c.requires.1.1.1 in
+    let parts = covers_parts g.volume c.args.cover.now.picks picks f f (sym c.as_slice-picks.ensures) refl c.requires.1.1.1 in
     let R : ℕ → Type 0 = λ p. rests_on (has_index g.volume) f p ≡ true in
     let place : length picks - 1 - c.loop-i.i < length picks = omega (arith, c.loop-i-test.true) in
     let rests : rests_on (has_index g.volume) f pick ≡ true =
@@ -59,7 +59,7 @@ walk_pick-requires g c κs within =
 pub loop-i-preserved : goal.loop-i-preserved
 loop-i-preserved g c =
     let f = formula c.args.tree.now in
-    let picks = c.args.picks.now in
+    let picks = c.as_slice-picks.result.now in
     let found = c.walk_pick.new.found.items in
     let inv = c.loop-i.invariant in
     let P : ℕ → Type 0 = λ p. HasReached g.volume f p found in
@@ -80,9 +80,9 @@ returns-in_err-walk_pick-clause-collects g c = collects_on g.volume (formula c.a
 pub returns-clause-has : goal.returns-clause-has
 returns-clause-has g c =
     let f = formula c.args.tree.now in
-    let picks = c.args.picks.now in
+    let picks = c.as_slice-picks.result.now in
     let found = c.loop-i.found.items in
-    let parts = covers_parts g.volume picks picks f f refl refl c.requires.1.1.1 in
+    let parts = covers_parts g.volume c.args.cover.now.picks picks f f (sym c.as_slice-picks.ensures) refl c.requires.1.1.1 in
     all_reached g.volume f picks found parts.1
     (λ p is node r holds.
     let at : (k : ℕ) × k < length picks × slice_index picks k ≡ p = pick_place picks p is in

@@ -7,6 +7,7 @@ use Rattle.be_query.specs.View.{formula}
 use Rattle.be_volume.specs.Query.{sat}
 use Rattle.be_plan.specs.Narrow.{LeavesRest, high_of}
 use Rattle.be_plan.specs.Walk.{HasNodes, HasOnly}
+use Rattle.be_plan.proofs.Collecting.{collects_on}
 use Rattle.be_plan.proofs.Reaching.{on_ok}
 use Rattle.be_plan.proofs.Seen.{left_key}
 use Rattle.be_plan.proofs.walks.walk_alone.Goals as goal
@@ -14,8 +15,8 @@ use Rattle.be_plan.proofs.walks.walk_alone.Goals as goal
 pub nodes_within-requires : goal.nodes_within-requires
 nodes_within-requires g c = (g.volume, c.requires.1.0)
 
-pub pass_keys-requires : goal.pass_keys-requires
-pass_keys-requires g c κs within =
+pub pass_texts-requires : goal.pass_texts-requires
+pass_texts-requires g c κs within =
     let R : Option Formula → Type 0 = λ r. LeavesRest (formula c.args.walk.tree.now) c.args.walk.index.name.now c.args.walk.index.kind c.args.walk.range.now.low.items (high_of c.args.walk.range.now) r in (
       within,
       (
@@ -27,19 +28,20 @@ pass_keys-requires g c κs within =
       ),
     )
 
-pub returns-in-None-clause-collects : goal.returns-in-None-clause-collects
-returns-in-None-clause-collects g c =
+pub returns-in_default-clause-collects : goal.returns-in_default-clause-collects
+returns-in_default-clause-collects g c =
     let f = formula c.args.walk.tree.now in
     let name = c.args.walk.index.name.now in
     let low = c.args.walk.range.now.low.items in
     let high = high_of c.args.walk.range.now in
     let sound = g.met.S.Source.sound c.args.source.now g.volume c.requires.1.0 in
-    let L : List ℕ → Type 0 = λ l. HasOnly g.volume name l (option_copied c.high.result) c.args.found.now.items c.nodes_within.new.found.items in
+    let N : List ℕ → Type 0 = λ m. HasOnly g.volume m c.keys.result.low.now (option_copied c.keys.result.high) c.args.found.now.items c.nodes_within.new.found.items in
+    let L : List ℕ → Type 0 = λ l. HasOnly g.volume name l (option_copied c.keys.result.high) c.args.found.now.items c.nodes_within.new.found.items in
     let H : Option (List ℕ) → Type 0 = λ b. HasOnly g.volume name low b c.args.found.now.items c.nodes_within.new.found.items in
     let only : HasOnly g.volume name low high c.args.found.now.items c.nodes_within.new.found.items =
-    subst H c.high.ensures (subst L c.low.ensures (c.nodes_within.ensures.only g.volume c.requires.1.0)) in
+    subst H c.keys.ensures.high (subst L c.keys.ensures.low (subst N c.keys.ensures.name (c.nodes_within.ensures.only g.volume c.requires.1.0))) in
     let R : Option Formula → Type 0 = λ r. LeavesRest f name c.args.walk.index.kind low high r in
-    let leaves : LeavesRest f name c.args.walk.index.kind low high None = subst R (ap (λ r. option_map formula (option_copied r)) c.in-None.is) c.requires.1.1.leaves in
+    let leaves : LeavesRest f name c.args.walk.index.kind low high None = subst R (ap (λ r. option_map formula (option_copied r)) c.in_default.is) c.requires.1.1.leaves in
     let P : ℕ → Type 0 = λ m. sat g.volume f m ≡ true in
     record {
       keeps = c.nodes_within.ensures.keeps;
@@ -49,11 +51,19 @@ returns-in-None-clause-collects g c =
       ];
     }
 
-pub returns-in-None-clause-has : goal.returns-in-None-clause-has
-returns-in-None-clause-has g c =
+pub returns-in_default-clause-has : goal.returns-in_default-clause-has
+returns-in_default-clause-has g c =
     let name = c.args.walk.index.name.now in
     let low = c.args.walk.range.now.low.items in
     let found = c.nodes_within.new.found.items in
-    let L : List ℕ → Type 0 = λ l. HasNodes g.volume name l (option_copied c.high.result) found in
+    let N : List ℕ → Type 0 = λ m. HasNodes g.volume m c.keys.result.low.now (option_copied c.keys.result.high) found in
+    let L : List ℕ → Type 0 = λ l. HasNodes g.volume name l (option_copied c.keys.result.high) found in
     let H : Option (List ℕ) → Type 0 = λ b. HasNodes g.volume name low b found in
-    on_ok c.nodes_within.result (λ has k h w _. subst H c.high.ensures (subst L c.low.ensures (has g.volume c.requires.1.0)) k h w) c.nodes_within.ensures.has
+    on_ok c.nodes_within.result (λ has k h w _. subst H c.keys.ensures.high (subst L c.keys.ensures.low (subst N c.keys.ensures.name (has g.volume c.requires.1.0))) k h w) c.nodes_within.ensures.has
+
+pub visit_all-requires : goal.visit_all-requires
+visit_all-requires g c κs within = (within, (c.pass_texts.ensures.answers, c.requires.1.1.kind_is))
+
+pub returns-clause-collects : goal.returns-clause-collects
+returns-clause-collects g c =
+    collects_on g.volume (formula c.args.walk.tree.now) c.args.found.now.items c.pass_texts.new.found.items c.visit_all.new.found.items c.pass_texts.ensures.collects c.visit_all.ensures.collects
