@@ -6,7 +6,7 @@ use Rattle.std.specs.List.{slice_get}
 use borrow.Rule.Slice.PartMut.{post_of, put_mid}
 use Rattle.std.specs.Prelude.{All}
 use Rattle.std.specs.Option.{option_and_then, option_map, option_map_or, IfSome, IfNone}
-use Rattle.std.specs.Ordering.{is_eq, is_ge}
+use Rattle.std.specs.Ordering.{is_eq, is_ge, is_gt}
 use Rattle.std.specs.Cmp.{tied_itself}
 use Rattle.std.specs.declared.cmp.Ordering.{Ordering}
 use Rattle.std.specs.declared.cmp.Ordering.TheVariants.{Less, Equal, Greater}
@@ -23,7 +23,7 @@ use Rattle.be_tree_reading.specs.Page.{IsReadableAt, item_at}
 use Rattle.be_tree_reading.specs.Range.{is_from, pairs_from}
 use Rattle.be_tree_reading.specs.Tree.{IsTree, pairs}
 use Rattle.be_tree_reading.specs.declared.cursor.Cursor.{Cursor}
-use Rattle.be_tree_reading.proofs.Order.{key_total, key_same, payload_at_above, AllAbove_trans}
+use Rattle.be_tree_reading.proofs.Order.{key_cmp_flip_less, key_total, key_same, payload_at_above, AllAbove_from, AllAbove_trans}
 use Rattle.be_tree_reading.proofs.Ranges.{from_less, next_from}
 use Rattle.be_value.specs.Key.{IsValue}
 use Rattle.be_value.specs.declared.refusals.Refusal.{Refusal}
@@ -74,14 +74,66 @@ module _ (v : ℕ → ℕ → ℕ) (root : ℕ) where
       by [] is = inl (rest ∙ ap (λ (xs : List Pair). drop 1 xs) is)
       by (x ∷ xs) is = inr (x.key, true, rest ∙ ap (λ (ys : List Pair). drop 1 ys) is ∙ sym (next_from (pairs v root) h.0 h.1 x xs rising (sym h.2 ∙ is)))
 
+-- How a key compares if it is another one.
+less_of : (o : Ordering) → is_eq o ≡ false → is_gt o ≡ false → o ≡ Less
+less_of Less other low = refl
+less_of Equal other low = absurd (let e = other in cc)
+less_of Greater other low = absurd (let e = low in cc)
+
+greater_of : (o : Ordering) → is_gt o ≡ true → o ≡ Greater
+greater_of Less high = absurd (let e = high in cc)
+greater_of Equal high = absurd (let e = high in cc)
+greater_of Greater high = refl
+
+first_same : (a b : Pair) → Some a ≡ Some b → a ≡ b
+first_same a b e = cc
+
+-- What the pairs ahead of a cursor that has stepped over a pair say about a key.
+module _ (v : ℕ → ℕ → ℕ) (root : ℕ) (key : List ℕ) (rising : IsRising (pairs v root)) where
+  -- If the pair has a lower key, the key is still ahead, or it isn't in the tree.
+  pub still_ahead : (before after : Cursor) (x : Pair) → remaining v after ≡ drop 1 (remaining v before) → IsAmong v root before → slice_get (remaining v before) 0 ≡ Some x
+      → is_eq (key_cmp x.key key) ≡ false → is_gt (key_cmp x.key key) ≡ false → payload_at (remaining v after) key ≡ payload_at (pairs v root) key
+  still_ahead before after x rest (inl empty) first other low = absurd (let e = subst (λ (xs : List Pair). slice_get xs 0 ≡ Some x) empty first in cc)
+  still_ahead before after x rest (inr h) first other low = by (remaining v before) refl first
+    where
+      by : (xs : List Pair) → remaining v before ≡ xs → slice_get xs 0 ≡ Some x → payload_at (remaining v after) key ≡ payload_at (pairs v root) key
+      by [] is first = absurd (let e = first in cc)
+      by (y ∷ ys) is first =
+          let same : y ≡ x = first_same y x first in
+          let lower : key_cmp y.key key ≡ Less = ap (λ (z : Pair). key_cmp z.key key) same ∙ less_of (key_cmp x.key key) other low in
+          let next : remaining v after ≡ pairs_from (pairs v root) y.key true = rest ∙ ap (λ (zs : List Pair). drop 1 zs) is ∙ sym (next_from (pairs v root) h.0 h.1 y ys rising (sym h.2 ∙ is)) in
+          ap (λ (zs : List Pair). payload_at zs key) next
+          ∙ payload_from y.key key true (pairs v root)
+          ∙ ap (λ (b : Bool). cond b (payload_at (pairs v root) key) None) (ap is_gt (key_cmp_flip_less y.key key lower))
+
+  -- If the pair has a higher key, the key isn't ahead.
+  pub not_ahead : (cursor : Cursor) (x : Pair) → IsAmong v root cursor → slice_get (remaining v cursor) 0 ≡ Some x → is_gt (key_cmp x.key key) ≡ true → payload_at (remaining v cursor) key ≡ None
+  not_ahead cursor x (inl empty) first high = ap (λ (xs : List Pair). payload_at xs key) empty
+  not_ahead cursor x (inr h) first high = by (remaining v cursor) refl first
+    where
+      by : (xs : List Pair) → remaining v cursor ≡ xs → slice_get xs 0 ≡ Some x → payload_at (remaining v cursor) key ≡ None
+      by [] is first = absurd (let e = first in cc)
+      by (y ∷ ys) is first =
+          let higher : key_cmp y.key key ≡ Greater = ap (λ (z : Pair). key_cmp z.key key) (first_same y x first) ∙ greater_of (key_cmp x.key key) high in
+          ap (λ (zs : List Pair). payload_at zs key) is
+          ∙ payload_at_above key (y ∷ ys) (AllAbove_from key y ys (subst IsRising (sym h.2 ∙ is) (rising_from h.0 h.1 (pairs v root) rising)) higher)
+
+-- If the cursor has stepped over a lower key, the answer at a higher key or at the end is that there
+-- is no such key.
+abbrev pub IsBeyond : (v : ℕ → ℕ → ℕ) (root : ℕ) (key : List ℕ) → Cursor → Option (Option (ℕ × ℕ)) → Type 0
+IsBeyond v root key cursor beyond = IfSome beyond (λ found. (found ≡ None) × (payload_at (remaining v cursor) key ≡ payload_at (pairs v root) key))
+
+pub beyond_since : (s t : ℕ → PageState) (v w : ℕ → ℕ → ℕ) (root : ℕ) (key : List ℕ) (cursor : Cursor) (beyond : Option (Option (ℕ × ℕ))) → t ≡ s → w ≡ v → IsBeyond v root key cursor beyond
+    → payload_at (remaining v cursor) key ≡ None → IfSome beyond (IsFoundAt t w root key)
+beyond_since s t v w root key cursor None page_state words answer absent = tt
+beyond_since s t v w root key cursor (Some found) page_state words answer absent =
+    found_since s t v w root key found page_state words (subst (IsFoundAt s v root key) (sym answer.0) (sym answer.1 ∙ absent))
+
 -- The first pair of the list has another key.
 pub elsewhere : (key : List ℕ) (xs : List Pair) (x : Pair) → slice_get xs 0 ≡ Some x → is_eq (key_cmp x.key key) ≡ false → StartsElsewhere key xs
 elsewhere key [] x first other = tt
-elsewhere key (y ∷ ys) x first other = λ same. absurd (untied (ap (λ (k : List ℕ). is_eq (key_cmp k key)) same ∙ ap is_eq (tied_itself key_total key)) (ap (λ (z : Pair). is_eq (key_cmp z.key key)) (some_same y x first) ∙ other))
+elsewhere key (y ∷ ys) x first other = λ same. absurd (untied (ap (λ (k : List ℕ). is_eq (key_cmp k key)) same ∙ ap is_eq (tied_itself key_total key)) (ap (λ (z : Pair). is_eq (key_cmp z.key key)) (first_same y x first) ∙ other))
   where
-    some_same : (a b : Pair) → Some a ≡ Some b → a ≡ b
-    some_same a b e = cc
-
     untied : {b : Bool} → b ≡ true → b ≡ false → ⊥
     untied e f = cc
 

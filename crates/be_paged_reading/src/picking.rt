@@ -2,8 +2,8 @@
 //!
 //! The walk proceeds leaf by leaf. Each key is compared with the end of the way and tested on its
 //! page, until enough keys have passed or the way ends.
-ghost use Rattle.std.specs.Prelude.{◌≡◌, ◌+◌, ◌≤◌, ◌++◌, ℕ, List, [], IfOk, IsTrue, OnOk};
-ghost use Rattle.std.specs.Prelude.{false, length, take, true};
+ghost use Rattle.std.specs.Prelude.{◌≡◌, ◌+◌, ◌≤◌, ◌++◌, ℕ, List, [], IfNone, IfOk, IfSome};
+ghost use Rattle.std.specs.Prelude.{IsTrue, OnOk, false, length, take, true};
 ghost use Rattle.be_paged_reading.specs.Imports.{ahead, end_of_way, is_on_way, is_readable};
 ghost use Rattle.be_paged_reading.specs.Imports.{item_at, items_ahead, pairs, walk_of, IsFirstOf};
 ghost use Rattle.be_paged_reading.specs.Imports.{IsItem, IsLeaf, IsTree, IsUnchanged, IsWalk, Pair};
@@ -61,26 +61,34 @@ fn is_endless(way: Way<'_>) -> bool
     }
 }
 
-/// Returns `true` if the key of the item at this offset isn't past the end of the way. `first` is
-/// the first word of that end. If the way has no end, the key isn't compared.
+/// Returns the first word of the key at which a way ends, or `None` if no key can be past the end
+/// of the way.
+fn end_word(way: Way<'_>) -> Option<u64>
+    ensures first { IfSome result (λ first. IsFirstOf (end_of_way way.entry) first) }
+    ensures endless { IfNone result ((key : List ℕ) → is_on_way way.entry key ≡ true) }
+{
+    if is_endless(way) {
+        return None;
+    }
+    Some(first_of_end(way))
+}
+
+/// Returns `true` if the key of the item at this offset isn't past the end of the way. `end` is the
+/// first word of that end. If the way has no end, the key isn't compared.
 #[inline(always)]
-fn is_ahead<L: Look>(
-    look: &mut L,
-    page: u64,
-    at: usize,
-    way: Way<'_>,
-    first: u64,
-    endless: bool,
-) -> bool
+fn is_ahead<L: Look>(look: &mut L, page: u64, at: usize, way: Way<'_>, end: Option<u64>) -> bool
     requires readable { IsTrue (is_readable (L.page_state look.old page)) }
     requires in_page { at + 42 ≤ 512 }
     requires item { IsItem (L.words look.old page) at }
-    requires first { IsFirstOf (end_of_way way) first }
-    requires endless { endless ≡ true → (key : List ℕ) → is_on_way way key ≡ true }
+    requires first { IfSome end (λ first. IsFirstOf (end_of_way way) first) }
+    requires endless { IfNone end ((key : List ℕ) → is_on_way way key ≡ true) }
     ensures within { result ≡ is_on_way way.entry (item_at (L.words look.old page) at).key }
     ensures unchanged { IsUnchanged L.kept L.page_state L.words look.old look.new }
 {
-    endless || is_within(look, page, at, way, first)
+    match end {
+        Some(first) => is_within(look, page, at, way, first),
+        None => true,
+    }
 }
 
 /// Tests the keys of a leaf that are ahead of the walk, in the order of the walk, and adds the
@@ -110,15 +118,14 @@ fn pick_ahead<L: Look>(
         (items_ahead (L.words look.old) leaf)) }
     ensures unchanged { IsUnchanged L.kept L.page_state L.words look.old look.new }
 {
-    let first = first_of_end(way);
-    let endless = is_endless(way);
+    let end = end_word(way);
     let ahead = leaf.count(look);
     for i in 0..ahead {
         if found.len() >= most {
             return Ok(true);
         }
         let at = leaf.place(i);
-        if !is_ahead(look, leaf.page, at, way, first, endless) {
+        if !is_ahead(look, leaf.page, at, way, end) {
             return Ok(true);
         }
         pick_item(look, leaf.page, at, test, room, found)?;

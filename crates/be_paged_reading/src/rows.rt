@@ -1,9 +1,9 @@
 //! Reads many attributes in one call: the values of several nodes for several names.
 //!
 //! A row consists of a node's values for these names. One descent leads to the first of its
-//! attributes. As long as the names are adjacent in the catalog, in bytewise ascending order, the
-//! cursor steps to the attribute for the next name. Any other name costs a descent. If a node has
-//! none of the names, the node itself is looked up.
+//! attributes. As long as the names are in bytewise ascending order and lie near each other in the
+//! catalog, the cursor steps to the attribute for the next name. Any other name costs a descent. If
+//! a node has none of the names, the node itself is looked up.
 ghost use Rattle.std.specs.Prelude.{◌≡◌, ◌+◌, ◌*◌, ◌^◌, ◌<◌, ◌≤◌, ℕ, [], ◌∷◌, Err};
 ghost use Rattle.std.specs.Prelude.{None, Some, IfSome, IfNone, drop, length, map as each};
 ghost use Rattle.std.specs.Prelude.{slice_get};
@@ -12,10 +12,10 @@ ghost use Rattle.be_paged_reading.specs.Imports.{attribute, item_at, pairs, rema
 ghost use Rattle.be_paged_reading.specs.Imports.{AnyPageState, IsCursor, IsReadableAt, IsTree};
 ghost use Rattle.be_paged_reading.specs.Imports.{IsUnchanged, State};
 ghost use Rattle.be_paged_reading.specs.Catalog.{IsCatalog};
-ghost use Rattle.be_paged_reading.specs.Cells.{GoesOn, IsFew, IsInRow, IsReadInto, IsValueAbsent};
-ghost use Rattle.be_paged_reading.specs.Cells.{IsValuePlace, StartsElsewhere, Reports};
-ghost use Rattle.be_paged_reading.specs.Cells.{ReportsColumns, WalksIn, cell_of, found_at, name_in};
-ghost use Rattle.be_paged_reading.specs.Cells.{why_none};
+ghost use Rattle.be_paged_reading.specs.Cells.{GoesOn, IsAmong, IsFew, IsInRow, IsReadInto};
+ghost use Rattle.be_paged_reading.specs.Cells.{IsValueAbsent, IsValuePlace, Reports};
+ghost use Rattle.be_paged_reading.specs.Cells.{ReportsColumns, StartsElsewhere, WalksIn, cell_of};
+ghost use Rattle.be_paged_reading.specs.Cells.{found_at, name_in, why_none};
 ghost use Rattle.be_paged_reading.specs.Place.{IsFoundAt};
 ghost use Rattle.be_paged_reading.specs.Reading.{AreValid};
 ghost use Rattle.be_paged_reading.specs.Source.{HasItem};
@@ -23,8 +23,12 @@ ghost use Rattle.be_paged_reading.specs.Version.{HasVersion, IsVersion};
 
 use crate::cells::{Cell, Filled, HeldName, empty_cell, held_key, read_into, report, report_value};
 use be_pages::Look;
-use be_tree_reading::{Cursor, find_place, has_key, is_key_at};
+use be_tree_reading::{Cursor, find_place, first_word, has_key, is_key_at, is_past_at};
 use be_value::Refusal;
+
+/// The most items that a search compares before it descends from the root. The attributes of a node
+/// lie only a few items apart, and a step to the next item reads much less than a descent.
+const MOST_STEPS: usize = 6;
 
 /// The page and offset of an item, if there is one.
 type FoundItem = Option<(u64, usize)>;
@@ -79,8 +83,41 @@ fn step_to<L: Look>(look: &mut L, cursor: &mut Cursor, key: &[u8]) -> Option<(u6
     Some((page, at))
 }
 
-/// Returns the location of the catalog item with this key, if there is one. The item at the cursor
-/// is tried first; if it has another key, a descent follows. The cursor is left just past the item.
+/// Searches the next few items for the one with this key, and returns its location, or `Some(None)`
+/// if the tree has no such item. Returns `None` if these items don't determine that, which they
+/// do if the key is one of theirs or lies between two of them. The cursor is left past the items
+/// that were compared.
+fn place_near<L: Look>(look: &mut L, cursor: &mut Cursor, key: &[u8]) -> Option<FoundItem>
+    requires cursor { IsCursor (L.page_state look.old) (L.words look.old) cursor.old }
+    ensures found { (root : ℕ) → IsTree (L.page_state look.old) (L.words look.old) root
+        → IsAmong (L.words look.old) root cursor.old
+        → IfSome result (IsFoundAt (L.page_state look.new) (L.words look.new) root key.now) }
+    ensures among { (root : ℕ) → IsTree (L.page_state look.old) (L.words look.old) root
+        → IsAmong (L.words look.old) root cursor.old → IsAmong (L.words look.new) root cursor.new }
+    ensures cursor { IsCursor (L.page_state look.new) (L.words look.new) cursor.new }
+    ensures unchanged { IsUnchanged L.kept L.page_state L.words look.old look.new }
+{
+    let first = first_word(key);
+    // The result if the next item has a higher key: after a lower one, that the key is absent.
+    let mut beyond = None;
+    for _ in 0..MOST_STEPS {
+        let Some((page, at)) = cursor.step(look) else {
+            return beyond;
+        };
+        if is_key_at(look, page, at, key) {
+            return Some(Some((page, at)));
+        }
+        if is_past_at(look, page, at, Some(key), first) {
+            return beyond;
+        }
+        beyond = Some(None);
+    }
+    None
+}
+
+/// Returns the location of the catalog item with this key, if there is one. The items at the cursor
+/// are tried first; if they don't determine whether there is one, a descent follows. The cursor is
+/// left just past the last item that was compared.
 fn next_place<L: Look>(
     look: &mut L,
     catalog: u64,
@@ -93,8 +130,8 @@ fn next_place<L: Look>(
     ensures cursor { WalksIn (L.page_state look.new) (L.words look.new) catalog cursor.new }
     ensures unchanged { IsUnchanged L.kept L.page_state L.words look.old look.new }
 {
-    if let Some(place) = step_to(look, cursor, key) {
-        return Some(place);
+    if let Some(found) = place_near(look, cursor, key) {
+        return found;
     }
     cursor.seek(look, catalog, key, false);
     step_to(look, cursor, key)
@@ -214,9 +251,9 @@ fn report_row<L: Look>(
 /// second, and so on. The bytes of all strings are written to `bytes`, one after another. Cells and
 /// bytes that don't fit are omitted. Returns the total length of all strings in bytes.
 ///
-/// No memory is allocated. Each node costs one descent if its attributes with these names are
-/// adjacent. Each name for which the node has no attribute costs one more, and so does a node that
-/// has none of the names.
+/// No memory is allocated. Each node costs one descent if the names are in ascending order and its
+/// attributes with these names lie only a few items apart. A name for which the node has no
+/// attribute may cost one more, and so does a node that has none of the names.
 pub fn columns<L: Look>(
     look: &mut L,
     version_page: u64,

@@ -1,5 +1,5 @@
 -- The nodes of the keys that pass a test: how far an ordered walk has progressed.
-use Rattle.std.proofs.Common.{◌≡◌, ℕ, zero, suc, ◌+◌, ◌-◌, ◌<◌, ◌≤◌, Bool, true, false, cond, List, [], ◌∷◌, ◌++◌, length, drop, get_or, take, reverse, ap, sym, subst, ◌∙◌, refl, arith, append_assoc, if◌then◌else◌}
+use Rattle.std.proofs.Common.{◌≡◌, ℕ, zero, suc, ◌+◌, ◌-◌, ◌<◌, ◌≤◌, Bool, true, false, cond, List, [], ◌∷◌, ◌++◌, length, drop, get_or, take, ap, sym, subst, ◌∙◌, refl, arith, append_assoc, if◌then◌else◌}
 use Rattle.std.specs.List.{flat_map}
 use Rattle.std.specs.declared.option.Option.{Option}
 use Rattle.std.proofs.lemmas.List.{append-nil, drop_all, drop_more, get_or-reverse, length-reverse, take-append-le, take_all}
@@ -24,7 +24,7 @@ use Rattle.be_paged_reading.specs.Page.{Contents, IsNamedAt}
 use Rattle.be_paged_reading.specs.Version.{Encodes}
 use Rattle.be_paged_reading.proofs.Asking.PassingNodes.{keys_texts, passes_if}
 use Rattle.be_paged_reading.proofs.Asking.RangeNodes.{keys_long}
-use Rattle.be_paged_reading.specs.KeyTests.{AreTestable, IsTestable, node_if, nodes_passing, passing_on}
+use Rattle.be_paged_reading.specs.KeyTests.{AreTestable, IsTestable, node_if, passing_on}
 
 -- From the start of a way on, the pairs of a tree contain what the test reads.
 pub begun_testable : (test : KeyTest) (back strict : Bool) (low : List ℕ) (high : Option (List ℕ)) (xs : List Pair) → AreTestable test xs → AreTestable test (from_start back strict low high xs)

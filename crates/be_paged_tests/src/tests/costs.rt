@@ -10,7 +10,6 @@ ghost use Rattle.be_volume.specs.Volume.{State};
 ghost use Rattle.be_paged_reading.specs.Version.{IsVersion};
 
 use crate::tests::lines::request_of;
-use crate::tests::sizes::numbered;
 use arrayvec::ArrayVec;
 use be_paged::{Cell, HeldName, Version, answer_decided, apply_into, columns, get, source};
 use be_paged_test_tools::{Both, NODES, check_rows, filled, read_query};
@@ -18,7 +17,7 @@ use be_pages::{Look, Room};
 use be_plan::{PreparedQuery, answer};
 use be_query::Query;
 use be_script_language::Request;
-use be_test_tools::{Counted, again, list_of};
+use be_test_tools::{Counted, again, list_of, numbered};
 use be_value::{Name, Refusal, Value, word_of};
 use be_volume::{Op, Volume};
 use std::alloc::{AllocError, Global};
@@ -321,14 +320,17 @@ again size>=1000 && size<2000 => 100 found, 458 words read"#;
 }
 
 /// Rows of a node: its attributes with three names, in one call. Names in the catalog's order take
-/// one descent. They would take another for each step along the leaf that isn't made. In reverse
-/// order each name takes a descent, and so does a name that the node doesn't have. A node that
+/// one descent, also if other attributes lie between them. They would take another for each step
+/// along the leaf that isn't made. In reverse order each name takes a descent, and so does a name
+/// that the node doesn't have, unless the walk steps over an attribute before it. A node that
 /// doesn't exist takes one for each name, and one for itself.
 #[test]
 fn row_costs(rt: HostRuntime) -> Result<(), Fail> {
     let rows = r#"row 150 kind name size => 3 found, 66 words read
-row 150 size name kind => 3 found, 145 words read
-row 150 kind name other => 2 found, 98 words read
+row 150 size name kind => 3 found, 150 words read
+row 150 kind size other => 2 found, 109 words read
+row 150 kind name other => 2 found, 101 words read
+row 150 kind other zebra => 1 found, 106 words read
 row 301 kind name size => 0 found, 142 words read
 row 302 kind name size => 0 found, 138 words read"#;
     check_rows(rt.alloc(), rows, row_of)

@@ -2,8 +2,8 @@
 //! leaf has at most 12 pairs.
 //!
 //! A row is `FROM MOST => NODES`. If memory runs out, a request is made again, as elsewhere here.
-use crate::tests::sizes::numbered;
 use be_paged_test_tools::Forms;
+use be_test_tools::numbered;
 use be_value::{Value, word_of};
 use be_volume::Op;
 use std::alloc::Global;

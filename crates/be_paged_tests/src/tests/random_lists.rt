@@ -1,7 +1,7 @@
 //! Random lists of operations on both forms of a volume.
-use crate::tests::sizes::numbered;
 use arrayvec::ArrayVec;
 use be_paged_test_tools::{Forms, Random, read_query};
+use be_test_tools::numbered;
 use be_value::{Kind, Refusal, Value, word_of};
 use be_volume::{Done, Op};
 use std::alloc::{AllocError, Global};

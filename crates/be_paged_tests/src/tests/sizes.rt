@@ -2,18 +2,11 @@
 //! accepted. 64 attributes of a node and 32 indices are accepted and listed whole. One more
 //! attribute or index is refused.
 use be_paged_test_tools::Forms;
-use be_test_tools::again;
-use be_value::{Kind, Name, Refusal, Value};
+use be_test_tools::{again, numbered};
+use be_value::{Kind, Refusal, Value};
 use be_volume::Op;
 use std::alloc::Global;
-use std::str;
 use std::test::Fail;
-
-/// One of 256 names of two letters, from `aa` on.
-pub(crate) fn numbered(number: u8) -> Result<Name, Refusal> {
-    let letters = [b'a' + number / 16, b'a' + number % 16];
-    Name::new(str::from_utf8(&letters).unwrap_or(""))
-}
 
 fn sized(number: u8) -> Result<Op, Refusal> {
     Ok(Op::Set(1, numbered(number)?, Value::int32(1)))
@@ -89,12 +82,6 @@ fn fill_node(alloc: Global, forms: &mut Forms, ops: &[Op]) -> Result<(), Fail> {
     refused(forms, sized(64), Refusal::TooManyAttrs)
 }
 
-#[test]
-fn most_operations_and_attributes(rt: HostRuntime) -> Result<(), Fail> {
-    let ops = again!(node_list(rt.alloc()))?;
-    fill_node(rt.alloc(), &mut Forms::new(rt.alloc(), 64)?, &ops)
-}
-
 /// The list makes 32 indices, and none can be made after that.
 fn fill_catalog(alloc: Global, forms: &mut Forms, ops: &[Op]) -> Result<(), Fail> {
     write_whole(forms, ops, 32)?;
@@ -103,7 +90,9 @@ fn fill_catalog(alloc: Global, forms: &mut Forms, ops: &[Op]) -> Result<(), Fail
 }
 
 #[test]
-fn most_indices(rt: HostRuntime) -> Result<(), Fail> {
+fn greatest_sizes(rt: HostRuntime) -> Result<(), Fail> {
+    let ops = again!(node_list(rt.alloc()))?;
+    fill_node(rt.alloc(), &mut Forms::new(rt.alloc(), 64)?, &ops)?;
     let ops = again!(index_list(rt.alloc()))?;
     fill_catalog(rt.alloc(), &mut Forms::new(rt.alloc(), 64)?, &ops)
 }

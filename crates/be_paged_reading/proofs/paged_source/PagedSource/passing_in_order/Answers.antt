@@ -1,4 +1,4 @@
-use Rattle.std.proofs.Common.{ℕ, [], Some, sym, subst, ◌∙◌}
+use Rattle.std.proofs.Common.{ℕ, [], sym, subst, ◌∙◌}
 use Rattle.be_tree_reading.specs.Tree.{IsTree, pairs}
 use Rattle.be_value.specs.declared.values.Kind.TheVariants as kinds
 use Rattle.be_paged_reading.specs.Entry.{Entry}
