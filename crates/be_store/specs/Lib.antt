@@ -2,6 +2,7 @@ pub mod Imports
 pub mod Passes
 pub mod Capacity
 pub mod Finding
+pub mod Guards
 pub mod History
 pub mod Writing
 pub mod Conditional

@@ -15,8 +15,9 @@ impl Store {
     /// A cell holds the attribute's type code, its number, and the offset and length of its bytes.
     /// If the node has no such attribute, the cell holds the number of `NoAttr`; if the node
     /// doesn't exist, that of `NoNode`. No memory is allocated. A node costs one descent of a tree
-    /// if its attributes with these names are adjacent and in this order. Each name that the node
-    /// lacks costs one more descent, and so does a node that has none of them.
+    /// if the names are in ascending order and its attributes with these names lie only a few items
+    /// apart. A name that the node lacks may cost one more descent, and so does a node that has
+    /// none of them.
     pub fn columns(
         &self,
         pass: &mut Pass,

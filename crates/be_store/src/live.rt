@@ -1,12 +1,10 @@
 //! Live queries, which report how an answer has changed since the last refresh.
 ghost use Rattle.std.specs.Prelude.{◌≡◌, ◌≢◌, ◌⊎◌, ◌<◌, ◌≤◌, ◌-◌, ◌++◌, ℕ, [], IfOk, IfErr, OnOk};
 ghost use Rattle.std.specs.Prelude.{Err, OnErr, None, drop, false, get_or, length, take, true};
-ghost use Rattle.be_store.specs.Imports.{cursor_bytes, entries, from_number, page, page_with, scan};
-ghost use Rattle.be_store.specs.Imports.{Answers, AnyEntry, IsAnyOf, IsStrictlyIncreasing};
-ghost use Rattle.be_store.specs.Imports.{OutOfMemory};
+ghost use Rattle.be_store.specs.Imports.{cursor_bytes, from_number, page, page_with, scan};
+ghost use Rattle.be_store.specs.Imports.{Answers, IsAnyOf, IsStrictlyIncreasing, OutOfMemory};
 ghost use Rattle.be_store.specs.History.{Learns, LocksAtMostOnce};
 ghost use Rattle.be_store.specs.Live.{IsAnswerBut, IsLiveOf, Refreshes, without};
-ghost use Rattle.be_store.specs.Named.{NamesAmong};
 ghost use Rattle.be_store.specs.Passes.{IsPassOf, IsPinnedTo, HasRead, volume_pinned};
 
 use crate::answers::Updates;
@@ -128,7 +126,7 @@ impl Live {
         &mut self,
         store: &Store,
         pass: &mut Pass,
-        first: u64,
+        from: u64,
         most: usize,
         nodes: &mut Vec<u64>,
     ) -> Result<(), Refusal>
@@ -136,10 +134,10 @@ impl Live {
         requires pinned { (n : ℕ) × IsPinnedTo pass.old.knows n }
         ensures pass { IsPassOf store.now pass.new × HasRead pass.old.knows pass.new.knows }
         ensures nodes { Answers (λ _. nodes.new.items) result
-            (from_number (volume_pinned pass.old.knows) self.old.query first most) }
+            (from_number (volume_pinned pass.old.knows) self.old.query from most) }
         ensures same { self.new ≡ self.old }
     {
-        store.first(self.alloc, pass, &mut self.query, first, most, nodes)
+        store.first(self.alloc, pass, &mut self.query, from, most, nodes)
     }
 
     /// Replaces the contents of a list with arbitrary nodes of the answer, as `Store::any` does.
@@ -214,7 +212,7 @@ impl Live {
         store.join(pass, &mut mark.witness);
         pass.is_pass();
         let most = most_asked(self.last.len());
-        let found = add_changes(store, pass, mark.number, pin, most, nodes);
+        let found = store.add_named_between(pass, mark.number, pin, most, nodes);
         self.mark = Some(mark);
         found && nodes.len() <= most
     }
@@ -333,38 +331,6 @@ impl Live {
 /// Checking one node costs about as much as reading 32 nodes from a range of an index.
 fn most_asked(nodes: usize) -> usize {
     MOST.min(4 + nodes / 32)
-}
-
-/// Inserts the nodes that are named by the entries from version `from` up to version `end`. Returns
-/// `false` if `end` comes before `from`, if there are more than `most` entries, or if
-/// `add_named_between` returns `false`.
-#[tactic(auto, using(crate::proofs::Caught::learns_nothing))]
-fn add_changes(
-    store: &Store,
-    pass: &mut Pass,
-    from: u64,
-    end: u64,
-    most: usize,
-    nodes: &mut ArrayVec<u64, 64>,
-) -> bool
-    requires pass { IsPassOf store.now pass.old }
-    requires end { end ≤ length pass.old.knows.seen }
-    requires rising { IsStrictlyIncreasing nodes.old.items }
-    ensures pass { IsPassOf store.now pass.new }
-    ensures learns { Learns pass.old.knows pass.new.knows }
-    ensures moves { LocksAtMostOnce pass.old.knows pass.new.knows }
-    ensures rising { IsStrictlyIncreasing nodes.new.items }
-    ensures order { result ≡ true → from ≤ end }
-    ensures named { result ≡ true → (i : ℕ) (d : AnyEntry) → from ≤ i → i < end →
-        NamesAmong nodes.new.items (get_or (entries pass.old.knows.seen) i d) }
-{
-    if end < from || end - from > most as u64 {
-        return false;
-    }
-    if from == end {
-        return true;
-    }
-    store.add_named_between(pass, from, end, nodes)
 }
 
 /// Returns the first index, starting at `from`, at which an ascending list has this number or a

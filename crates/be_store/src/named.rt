@@ -117,17 +117,20 @@ fn add_between(held: &Writing<'_>, from: u64, end: u64, nodes: &mut ArrayVec<u64
 }
 
 impl Store {
-    /// Inserts the nodes named by the entries from one index up to another into an ascending list.
-    /// The pass must have seen these entries. A pin is unaffected.
+    /// Inserts the nodes that are named by the entries from version `from` up to version `end` into
+    /// an ascending list. The pass must have seen these entries. A pin is unaffected.
     ///
-    /// Returns `false` if an entry creates or removes an index, if the list has no room, if memory
-    /// runs out, or if another pass holds the lock, which the call tries once. After that, the
-    /// contents of the list are unspecified.
+    /// Returns `false` if `end` comes before `from`, if there are more than `most` entries, if an
+    /// entry creates or removes an index, if the list has no room, if memory runs out, or if
+    /// another pass holds the lock, which the call tries once. After that, the contents of the list
+    /// are unspecified.
+    #[tactic(auto, using(crate::proofs::Caught::learns_nothing))]
     pub(crate) fn add_named_between(
         &self,
         pass: &mut Pass,
         from: u64,
         end: u64,
+        most: usize,
         nodes: &mut ArrayVec<u64, 64>,
     ) -> bool
         requires pass { IsPassOf self.now pass.old }
@@ -137,9 +140,16 @@ impl Store {
         ensures learns { Learns pass.old.knows pass.new.knows }
         ensures moves { LocksAtMostOnce pass.old.knows pass.new.knows }
         ensures rising { IsStrictlyIncreasing nodes.new.items }
+        ensures order { result ≡ true → from ≤ end }
         ensures named { result ≡ true → (i : ℕ) (d : AnyEntry) → from ≤ i → i < end →
             NamesAmong nodes.new.items (get_or (entries pass.old.knows.seen) i d) }
     {
+        if end < from || end - from > most as u64 {
+            return false;
+        }
+        if from == end {
+            return true;
+        }
         let Ok(held) = self.lock(pass) else {
             return false;
         };

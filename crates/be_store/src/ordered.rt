@@ -53,25 +53,25 @@ fn ask_page<L: Look>(
 }
 
 /// Replaces the contents of a list with up to `most` nodes of the answer, starting at the number
-/// `first`. Gives the reader back.
+/// `from`. Gives the reader back.
 fn ask_first<L: Look>(
     alloc: Global,
     look: L,
     version_page: u64,
     prepared: &mut PreparedQuery,
-    first: u64,
+    from: u64,
     most: usize,
     found: &mut Vec<u64>,
 ) -> (L, Result<(), Refusal>)
     ghost volume: { State }
     requires version { IsVersion (L.page_state look) (L.words look) version_page volume }
     ensures answer { Answers (λ _. found.new.items) result.1
-        (from_number volume prepared.old first most) }
+        (from_number volume prepared.old from most) }
     ensures same { prepared.new ≡ prepared.old }
     ensures kept { L.kept result.0 ≡ L.kept look }
 {
     let mut source = ordered_source(look, version_page);
-    let answer = first_prepared_into(alloc, prepared, &mut source, first, most, found);
+    let answer = first_prepared_into(alloc, prepared, &mut source, from, most, found);
     (source.into_look(), answer)
 }
 
@@ -161,7 +161,7 @@ impl Store {
     }
 
     /// Replaces the contents of a list with up to `most` nodes of the query's answer in ascending
-    /// order, starting at the number `first`. To continue, call it again with the number after the
+    /// order, starting at the number `from`. To continue, call it again with the number after the
     /// last of these nodes.
     ///
     /// The errors and the cost are those of `query_prepared`. After an error, the contents of the
@@ -171,7 +171,7 @@ impl Store {
         alloc: Global,
         pass: &mut Pass,
         query: &mut PreparedQuery,
-        first: u64,
+        from: u64,
         most: usize,
         nodes: &mut Vec<u64>,
     ) -> Result<(), Refusal>
@@ -179,11 +179,11 @@ impl Store {
         requires pinned { (n : ℕ) × IsPinnedTo pass.old.knows n }
         ensures pass { IsPassOf self.now pass.new × HasRead pass.old.knows pass.new.knows }
         ensures nodes { Answers (λ _. nodes.new.items) result
-            (from_number (volume_pinned pass.old.knows) query.old first most) }
+            (from_number (volume_pinned pass.old.knows) query.old from most) }
         ensures same { query.new ≡ query.old }
     {
         let (look, version) = self.reader(pass);
-        let (look, answer) = ask_first(alloc, look, version, query, first, most, nodes);
+        let (look, answer) = ask_first(alloc, look, version, query, from, most, nodes);
         *pass = look.into_seat();
         answer
     }

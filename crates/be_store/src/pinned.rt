@@ -4,17 +4,18 @@
 //! function that can return early with `?` should therefore query through a `Pinned`, which unpins
 //! when it is dropped.
 ghost use Rattle.std.specs.Prelude.{◌≡◌, ◌⊎◌, ◌<◌, ◌≤◌, ◌++◌, ◌*◌, ◌^◌, ℕ, true, false, [], None};
-ghost use Rattle.std.specs.Prelude.{Ok, Err, IsOk, IfOk, IfErr, IfNone, IfSome, OnErr, OnOk};
-ghost use Rattle.std.specs.Prelude.{length, map as each};
+ghost use Rattle.std.specs.Prelude.{Ok, IsOk, IfOk, IfErr, IfNone, IfSome, OnErr, OnOk, length};
+ghost use Rattle.std.specs.Prelude.{map as each};
 ghost use Rattle.be_store.specs.Imports.{are_places, attribute, attributes_at, chosen, covered};
 ghost use Rattle.be_store.specs.Imports.{covers, cursor_bytes, from_number, given, has_index};
 ghost use Rattle.be_store.specs.Imports.{index_kind, index_kinds, left, name_in, nodes_from, page};
 ghost use Rattle.be_store.specs.Imports.{page_with, pinned_number, scan, Answers, IsAnyOf};
 ghost use Rattle.be_store.specs.Imports.{IsReadInto, IsSeatOf, IsStrictlyIncreasing, NotCovered};
 ghost use Rattle.be_store.specs.Imports.{OutOfMemory, ReportsColumns};
+ghost use Rattle.be_store.specs.Finding.{FailsWith, FindsAtPin};
 ghost use Rattle.be_store.specs.History.{Learns, LocksAtMostOnce, Pins, Unpins};
 ghost use Rattle.be_store.specs.Live.{IsLiveOf, Refreshes};
-ghost use Rattle.be_store.specs.Passes.{IsAtRest, IsAtRest-prop, IsPassOf, IsPinnedTo, HasRead};
+ghost use Rattle.be_store.specs.Passes.{IsAtRest, IsAtRest-prop, IsPassOf, IsPinnedTo};
 ghost use Rattle.be_store.specs.Passes.{volume_pinned};
 
 use crate::answers::{Answer, Updates};
@@ -58,6 +59,8 @@ impl Store {
 }
 
 impl Pinned<'_> {
+    ghost use Rattle.be_store.specs.Guards.{HasReadThrough, IsSameGuard};
+
     /// Returns the number of the pinned version, which is how many journal entries it includes.
     pub fn number(&self) -> u64
         ensures { result ≡ self.now.number }
@@ -68,10 +71,7 @@ impl Pinned<'_> {
     /// Equivalent to `Store::query`.
     pub fn query(&mut self, alloc: Global, query: &Query) -> Result<Answer, Refusal>
         requires pinned { (n : ℕ) × IsPinnedTo self.old.pass.now.knows n }
-        ensures same_reference { self.new.pass.ghost_name ≡ self.old.pass.ghost_name }
-        ensures store { (self.new.store.now ≡ self.old.store.now)
-            × (self.new.number ≡ self.old.number) }
-        ensures read { HasRead self.old.pass.now.knows self.new.pass.now.knows }
+        ensures read { HasReadThrough self.old self.new }
         ensures nodes { Answers (λ a. a.nodes.items) result
             (scan (volume_pinned self.old.pass.now.knows) query.now) }
         ensures rising { IfOk result (λ a. IsStrictlyIncreasing a.nodes.items) }
@@ -88,14 +88,8 @@ impl Pinned<'_> {
         nodes: &mut Vec<u64>,
     ) -> Result<u64, Refusal>
         requires pinned { (n : ℕ) × IsPinnedTo self.old.pass.now.knows n }
-        ensures same_reference { self.new.pass.ghost_name ≡ self.old.pass.ghost_name }
-        ensures store { (self.new.store.now ≡ self.old.store.now)
-            × (self.new.number ≡ self.old.number) }
-        ensures read { HasRead self.old.pass.now.knows self.new.pass.now.knows }
-        ensures nodes { Answers (λ _. nodes.new.items) result
-            (scan (volume_pinned self.old.pass.now.knows) query.now) }
-        ensures rising { OnOk result (IsStrictlyIncreasing nodes.new.items) }
-        ensures pin { IfOk result (λ pin. IsPinnedTo self.old.pass.now.knows pin) }
+        ensures read { HasReadThrough self.old self.new }
+        ensures found { FindsAtPin self.old.pass.now.knows query.now nodes.new.items result }
     {
         self.store.query_into(alloc, self.pass, query, nodes)
     }
@@ -109,14 +103,8 @@ impl Pinned<'_> {
         nodes: &mut Vec<u64>,
     ) -> Result<u64, Refusal>
         requires pinned { (n : ℕ) × IsPinnedTo self.old.pass.now.knows n }
-        ensures same_reference { self.new.pass.ghost_name ≡ self.old.pass.ghost_name }
-        ensures store { (self.new.store.now ≡ self.old.store.now)
-            × (self.new.number ≡ self.old.number) }
-        ensures read { HasRead self.old.pass.now.knows self.new.pass.now.knows }
-        ensures nodes { Answers (λ _. nodes.new.items) result
-            (scan (volume_pinned self.old.pass.now.knows) query.old) }
-        ensures rising { OnOk result (IsStrictlyIncreasing nodes.new.items) }
-        ensures pin { IfOk result (λ pin. IsPinnedTo self.old.pass.now.knows pin) }
+        ensures read { HasReadThrough self.old self.new }
+        ensures found { FindsAtPin self.old.pass.now.knows query.old nodes.new.items result }
         ensures same { query.new ≡ query.old }
     {
         self.store.query_prepared(alloc, self.pass, query, nodes)
@@ -132,10 +120,7 @@ impl Pinned<'_> {
         nodes: &mut Vec<u64>,
     ) -> Result<bool, Refusal>
         requires pinned { (n : ℕ) × IsPinnedTo self.old.pass.now.knows n }
-        ensures same_reference { self.new.pass.ghost_name ≡ self.old.pass.ghost_name }
-        ensures store { (self.new.store.now ≡ self.old.store.now)
-            × (self.new.number ≡ self.old.number) }
-        ensures read { HasRead self.old.pass.now.knows self.new.pass.now.knows }
+        ensures read { HasReadThrough self.old self.new }
         ensures page { Answers (page_with nodes.new.items (cursor_bytes cursor.new)) result
             (page (volume_pinned self.old.pass.now.knows) query.old order.entry.by.now
             order.entry.descending (cursor_bytes cursor.old) order.entry.most) }
@@ -151,21 +136,17 @@ impl Pinned<'_> {
         &mut self,
         alloc: Global,
         query: &mut PreparedQuery,
-        first: u64,
+        from: u64,
         most: usize,
         nodes: &mut Vec<u64>,
     ) -> Result<(), Refusal>
         requires pinned { (n : ℕ) × IsPinnedTo self.old.pass.now.knows n }
-        ensures same_reference { self.new.pass.ghost_name ≡ self.old.pass.ghost_name }
-        ensures store { (self.new.store.now ≡ self.old.store.now)
-            × (self.new.number ≡ self.old.number) }
-        ensures read { HasRead self.old.pass.now.knows self.new.pass.now.knows }
+        ensures read { HasReadThrough self.old self.new }
         ensures nodes { Answers (λ _. nodes.new.items) result
-            (from_number (volume_pinned self.old.pass.now.knows) query.old first most) }
+            (from_number (volume_pinned self.old.pass.now.knows) query.old from most) }
         ensures same { query.new ≡ query.old }
     {
-        self.store
-            .first(alloc, self.pass, query, first, most, nodes)
+        self.store.first(alloc, self.pass, query, from, most, nodes)
     }
 
     /// Equivalent to `Store::any`.
@@ -177,14 +158,11 @@ impl Pinned<'_> {
         nodes: &mut Vec<u64>,
     ) -> Result<(), Refusal>
         requires pinned { (n : ℕ) × IsPinnedTo self.old.pass.now.knows n }
-        ensures same_reference { self.new.pass.ghost_name ≡ self.old.pass.ghost_name }
-        ensures store { (self.new.store.now ≡ self.old.store.now)
-            × (self.new.number ≡ self.old.number) }
-        ensures read { HasRead self.old.pass.now.knows self.new.pass.now.knows }
+        ensures read { HasReadThrough self.old self.new }
         ensures any { OnOk result (IsAnyOf (scan (volume_pinned self.old.pass.now.knows) query.old)
             most nodes.new.items) }
-        ensures refused { IfErr result (λ e. (e ≡ OutOfMemory)
-            ⊎ (scan (volume_pinned self.old.pass.now.knows) query.old ≡ Err e)) }
+        ensures refused { IfErr result (FailsWith (volume_pinned self.old.pass.now.knows)
+            query.old) }
         ensures same { query.new ≡ query.old }
     {
         self.store.any(alloc, self.pass, query, most, nodes)
@@ -193,10 +171,7 @@ impl Pinned<'_> {
     /// Equivalent to `Store::index_kind`.
     pub fn index_kind(&mut self, name: &Name) -> Option<Kind>
         requires pinned { (n : ℕ) × IsPinnedTo self.old.pass.now.knows n }
-        ensures same_reference { self.new.pass.ghost_name ≡ self.old.pass.ghost_name }
-        ensures store { (self.new.store.now ≡ self.old.store.now)
-            × (self.new.number ≡ self.old.number) }
-        ensures read { HasRead self.old.pass.now.knows self.new.pass.now.knows }
+        ensures read { HasReadThrough self.old self.new }
         ensures kind { result ≡ index_kind (volume_pinned self.old.pass.now.knows) name.now }
     {
         self.store.index_kind(self.pass, name)
@@ -205,10 +180,7 @@ impl Pinned<'_> {
     /// Equivalent to `Store::explain`.
     pub fn explain(&mut self, alloc: Global, query: &Query) -> Result<Cover, Refusal>
         requires pinned { (n : ℕ) × IsPinnedTo self.old.pass.now.knows n }
-        ensures same_reference { self.new.pass.ghost_name ≡ self.old.pass.ghost_name }
-        ensures store { (self.new.store.now ≡ self.old.store.now)
-            × (self.new.number ≡ self.old.number) }
-        ensures read { HasRead self.old.pass.now.knows self.new.pass.now.knows }
+        ensures read { HasReadThrough self.old self.new }
         ensures cover { Answers (λ cover. cover) result
             (chosen (has_index (volume_pinned self.old.pass.now.knows)) query.now) }
         ensures covers { IfOk result (λ cover. covers
@@ -225,10 +197,7 @@ impl Pinned<'_> {
     #[inline(always)]
     pub fn get(&mut self, node: u64, name: &Name) -> Option<Value>
         requires pinned { (n : ℕ) × IsPinnedTo self.old.pass.now.knows n }
-        ensures same_reference { self.new.pass.ghost_name ≡ self.old.pass.ghost_name }
-        ensures store { (self.new.store.now ≡ self.old.store.now)
-            × (self.new.number ≡ self.old.number) }
-        ensures read { HasRead self.old.pass.now.knows self.new.pass.now.knows }
+        ensures read { HasReadThrough self.old self.new }
         ensures value { result ≡ attribute (volume_pinned self.old.pass.now.knows) node name.now }
     {
         self.store.get(self.pass, node, name)
@@ -244,10 +213,7 @@ impl Pinned<'_> {
     ) -> u64
         requires pinned { (n : ℕ) × IsPinnedTo self.old.pass.now.knows n }
         requires few { length nodes.now * length names.now ≤ 2 ^ 32 }
-        ensures same_reference { self.new.pass.ghost_name ≡ self.old.pass.ghost_name }
-        ensures store { (self.new.store.now ≡ self.old.store.now)
-            × (self.new.number ≡ self.old.number) }
-        ensures read { HasRead self.old.pass.now.knows self.new.pass.now.knows }
+        ensures read { HasReadThrough self.old self.new }
         ensures reported { ReportsColumns (volume_pinned self.old.pass.now.knows) nodes.now
             (each name_in names.now) cells.old cells.new bytes.old bytes.new result }
     {
@@ -257,10 +223,7 @@ impl Pinned<'_> {
     /// Equivalent to `Store::get_into`.
     pub fn get_into(&mut self, node: u64, name: &HeldName, bytes: &mut [u8]) -> Option<Cell>
         requires pinned { (n : ℕ) × IsPinnedTo self.old.pass.now.knows n }
-        ensures same_reference { self.new.pass.ghost_name ≡ self.old.pass.ghost_name }
-        ensures store { (self.new.store.now ≡ self.old.store.now)
-            × (self.new.number ≡ self.old.number) }
-        ensures read { HasRead self.old.pass.now.knows self.new.pass.now.knows }
+        ensures read { HasReadThrough self.old self.new }
         ensures value { IsReadInto (attribute (volume_pinned self.old.pass.now.knows) node
             (name_in name.now)) result bytes.old bytes.new }
     {
@@ -270,10 +233,7 @@ impl Pinned<'_> {
     /// Equivalent to `Store::next`.
     pub fn next(&mut self) -> u64
         requires pinned { (n : ℕ) × IsPinnedTo self.old.pass.now.knows n }
-        ensures same_reference { self.new.pass.ghost_name ≡ self.old.pass.ghost_name }
-        ensures store { (self.new.store.now ≡ self.old.store.now)
-            × (self.new.number ≡ self.old.number) }
-        ensures read { HasRead self.old.pass.now.knows self.new.pass.now.knows }
+        ensures read { HasReadThrough self.old self.new }
         ensures next { result ≡ (volume_pinned self.old.pass.now.knows).next }
     {
         self.store.next(self.pass)
@@ -282,10 +242,7 @@ impl Pinned<'_> {
     /// Equivalent to `Store::attrs`.
     pub fn attrs(&mut self, alloc: Global, node: u64) -> Result<Vec<(Name, Value)>, Refusal>
         requires pinned { (n : ℕ) × IsPinnedTo self.old.pass.now.knows n }
-        ensures same_reference { self.new.pass.ghost_name ≡ self.old.pass.ghost_name }
-        ensures store { (self.new.store.now ≡ self.old.store.now)
-            × (self.new.number ≡ self.old.number) }
-        ensures read { HasRead self.old.pass.now.knows self.new.pass.now.knows }
+        ensures read { HasReadThrough self.old self.new }
         ensures list { Answers (λ list. list.items) result
             (attributes_at (volume_pinned self.old.pass.now.knows) node) }
         ensures wanted { IfErr result (λ e. e ≡ OutOfMemory
@@ -297,10 +254,7 @@ impl Pinned<'_> {
     /// Equivalent to `Store::indices`.
     pub fn indices(&mut self, alloc: Global) -> Result<Vec<(Name, Kind)>, Refusal>
         requires pinned { (n : ℕ) × IsPinnedTo self.old.pass.now.knows n }
-        ensures same_reference { self.new.pass.ghost_name ≡ self.old.pass.ghost_name }
-        ensures store { (self.new.store.now ≡ self.old.store.now)
-            × (self.new.number ≡ self.old.number) }
-        ensures read { HasRead self.old.pass.now.knows self.new.pass.now.knows }
+        ensures read { HasReadThrough self.old self.new }
         ensures list { Answers (λ list. list.items) result
             (Ok (index_kinds (volume_pinned self.old.pass.now.knows))) }
     {
@@ -310,10 +264,7 @@ impl Pinned<'_> {
     /// Equivalent to `Store::nodes`.
     pub fn nodes(&mut self, alloc: Global, from: u64, most: usize) -> Result<Vec<u64>, Refusal>
         requires pinned { (n : ℕ) × IsPinnedTo self.old.pass.now.knows n }
-        ensures same_reference { self.new.pass.ghost_name ≡ self.old.pass.ghost_name }
-        ensures store { (self.new.store.now ≡ self.old.store.now)
-            × (self.new.number ≡ self.old.number) }
-        ensures read { HasRead self.old.pass.now.knows self.new.pass.now.knows }
+        ensures read { HasReadThrough self.old self.new }
         ensures list { Answers (λ list. list.items) result
             (Ok (nodes_from (volume_pinned self.old.pass.now.knows) from most)) }
     {
@@ -323,10 +274,7 @@ impl Pinned<'_> {
     /// Equivalent to `Store::state`.
     pub fn state(&mut self, alloc: Global, place: &mut Place) -> Result<Option<Vec<Op>>, Refusal>
         requires pinned { (n : ℕ) × IsPinnedTo self.old.pass.now.knows n }
-        ensures same_reference { self.new.pass.ghost_name ≡ self.old.pass.ghost_name }
-        ensures store { (self.new.store.now ≡ self.old.store.now)
-            × (self.new.number ≡ self.old.number) }
-        ensures read { HasRead self.old.pass.now.knows self.new.pass.now.knows }
+        ensures read { HasReadThrough self.old self.new }
         ensures list { left (volume_pinned self.old.pass.now.knows) place.old
             ≡ given (λ ops. ops.items) result
             ++ left (volume_pinned self.old.pass.now.knows) place.new }
@@ -345,16 +293,12 @@ impl Pinned<'_> {
     /// Equivalent to `Live::refresh`.
     pub fn refresh(&mut self, live: &mut Live) -> Result<Updates, Refusal>
         requires pinned { (n : ℕ) × IsPinnedTo self.old.pass.now.knows n }
-        ensures same_reference { self.new.pass.ghost_name ≡ self.old.pass.ghost_name }
-        ensures store { (self.new.store.now ≡ self.old.store.now)
-            × (self.new.number ≡ self.old.number) }
-        ensures read { HasRead self.old.pass.now.knows self.new.pass.now.knows }
+        ensures read { HasReadThrough self.old self.new }
         ensures own { IfOk result (λ u. IsLiveOf self.old.store.now live.new) }
         ensures ok { IfOk result (λ u. Refreshes (volume_pinned self.old.pass.now.knows) live.old
             live.new u.created.items u.removed.items) }
         ensures err { IfErr result (λ e. (live.new ≡ live.old)
-            × ((e ≡ OutOfMemory) ⊎ (scan (volume_pinned self.old.pass.now.knows) live.old.query
-            ≡ Err e))) }
+            × FailsWith (volume_pinned self.old.pass.now.knows) live.old.query e) }
     {
         live.refresh(self.store, self.pass)
     }
@@ -363,9 +307,7 @@ impl Pinned<'_> {
     pub fn refresh_changed(&mut self, live: &mut Live) -> Result<Updates, Refusal>
         requires pinned { (n : ℕ) × IsPinnedTo self.old.pass.now.knows n }
         requires own { IsLiveOf self.old.store.now live.old }
-        ensures same_reference { self.new.pass.ghost_name ≡ self.old.pass.ghost_name }
-        ensures store { (self.new.store.now ≡ self.old.store.now)
-            × (self.new.number ≡ self.old.number) }
+        ensures same_guard { IsSameGuard self.old self.new }
         ensures learns { Learns self.old.pass.now.knows self.new.pass.now.knows }
         ensures moves { LocksAtMostOnce self.old.pass.now.knows self.new.pass.now.knows }
         ensures volume { volume_pinned self.new.pass.now.knows
@@ -374,8 +316,7 @@ impl Pinned<'_> {
         ensures ok { IfOk result (λ u. Refreshes (volume_pinned self.old.pass.now.knows) live.old
             live.new u.created.items u.removed.items) }
         ensures err { IfErr result (λ e. (live.new ≡ live.old)
-            × ((e ≡ OutOfMemory) ⊎ (scan (volume_pinned self.old.pass.now.knows) live.old.query
-            ≡ Err e))) }
+            × FailsWith (volume_pinned self.old.pass.now.knows) live.old.query e) }
     {
         live.refresh_changed(self.store, self.pass)
     }

@@ -209,6 +209,13 @@ abbrev pub MayReadAnnouncement : Limits → Me (Option WriterState) View → ℕ
 MayReadAnnouncement limits m j = let a = pass_of m.0 in (m.0 ≡ alone a) × (a.writes ≡ true)
     × (a.published ≡ false) × (a.scanned ≡ j) × (j < limits.passes)
 
+-- the pass of a seat is still alone in it, and what it knows has changed so; its history may have
+-- grown besides
+abbrev pub ChangesAlone : Me (Option WriterState) View → Me (Option WriterState) View
+    → (Knowledge → Knowledge) → Type 0
+ChangesAlone m r change =
+    r ≡ (alone (change (with_history (pass_of m.0) (pass_of r.0).history)), m.1)
+
 abbrev pub MayBeFilled : List Place → ℕ → Type 0
 MayBeFilled places p = (p < length places)
     × IsTrue (shows_taken (place_of places p) || shows_free (place_of places p))

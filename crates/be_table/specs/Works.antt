@@ -4,6 +4,7 @@ use Rattle.std.specs.Prelude.{count_by, zero, IsTrue}
 use Rattle.atomic_table.specs.Seated.{TableId}
 use Rattle.be_journal.specs.declared.entries.Entry.{Entry}
 use Rattle.be_table.specs.declared.limits.Limits.{Limits}
+use Rattle.be_table.specs.declared.pass.Commit.{Commit}
 use Rattle.be_table.specs.declared.pass.Knowledge.{Knowledge}
 use Rattle.be_table.specs.declared.pass.Move.{Move}
 use Rattle.be_table.specs.declared.pass.Move.TheVariants.{Look, LookAgain, Lock}
@@ -25,7 +26,7 @@ use Rattle.be_table.specs.Rule.{announce_word}
 use Rattle.be_table.specs.Steps.{Has, AllIdle, KeepsSeen, IsPass, looks, finds_held, takes_lock}
 use Rattle.be_table.specs.Steps.{pins, takes_page, take_moves, scans_all, IsLowestAnnounced}
 use Rattle.be_table.specs.Steps.{IsOwnLowest, pages_from, UnreachedAreFree, NoCommitReaches}
-use Rattle.be_table.specs.Steps.{AreFound, scans_of, with_history}
+use Rattle.be_table.specs.Steps.{AreFound, scans_of, with_history, fills_word, fill_moves, met}
 
 -- a seat of this table
 abbrev pub IsSeatOf : Opened → SeatFacts → Type 0
@@ -91,6 +92,10 @@ pub record PinsCurrent (a c : Knowledge) : Type 0 where
       × (c ≡ pins (with_history a c.history) x c.seen c.image)
   pub pass : IsPass c
 
+-- the pass has met others, and has now seen this journal, which contains what it had seen before
+abbrev pub Meets : Knowledge → List Commit → Knowledge → Type 0
+Meets a log c = StartsWith log a.seen × (c ≡ met a log)
+
 -- the pass made one attempt, which found another pass of the table holding the lock; the error
 -- names that pass
 abbrev pub FoundHeld : Refusal → Knowledge → Knowledge → Type 0
@@ -140,6 +145,21 @@ HasNoFree w = (p : ℕ) → p < length w.knows.places → place_of w.knows.place
 -- a whole scan has a reason: either it comes right after the lock, or no page is free
 abbrev pub HasReasonToScan : Work → Type 0
 HasReasonToScan w = HasNoFree w ⊎ (upto_lock w.knows.number w.knows.history ≡ w.knows.history)
+
+-- the write has stored this word at index i of a page
+abbrev pub FillsWord : Work → Work → ℕ → ℕ → ℕ → Type 0
+FillsWord old new page i word =
+    (new ≡ record old {
+      knows = fills_word (with_history old.knows new.knows.history) page i word;
+    })
+    × Makes old.knows.number old.knows.history (fill_moves old.knows page i word) new.knows.history
+
+-- the write has taken this page, which was free
+abbrev pub TakesFree : Work → Work → ℕ → Type 0
+TakesFree old new page =
+    (page < length old.knows.places) × (page < 16384) × (place_of old.knows.places page ≡ Free)
+    × (new ≡ record old { knows = takes_page (with_history old.knows new.knows.history) page })
+    × Makes old.knows.number old.knows.history (take_moves old.knows page) new.knows.history
 
 -- a free page is taken; a whole scan comes before that only if none was free
 pub record TakesPage (old new : Work) (page : ℕ) : Type 0 where
@@ -203,6 +223,11 @@ pub record FindsNone (old new : Work) (least : ℕ) : Type 0 where
 -- why a table with these limits wasn't opened
 abbrev pub IsOpenRefused : Limits → Refusal → Type 0
 IsOpenRefused l r = ((r ≡ BadLimits) × AreBad l) ⊎ ((r ≡ OutOfMemory) × IsWithin l)
+
+-- all seats of this table
+abbrev pub AreAllSeats : Opened → List SeatFacts → Type 0
+AreAllSeats t ss = AllAt t.id ss
+    × ((k : ℕ) → k < t.limits.passes → Has (map knows_of ss) k)
 
 -- what a seat knows after it has taken in these passes
 pub record Gathered (known v : List Knowledge) : Type 0 where

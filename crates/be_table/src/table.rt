@@ -71,13 +71,13 @@ impl VersionTable {
     ghost use Rattle.be_table.specs.History.{StartsWith, AreOfPasses};
     ghost use Rattle.be_table.specs.Reading.{pinned_page_state, word_of_page};
     ghost use Rattle.be_table.specs.Rule.{IsWithin, entries};
-    ghost use Rattle.be_table.specs.Steps.{announces, unpins, met, longer, Has, KeepsSeen};
+    ghost use Rattle.be_table.specs.Steps.{announces, unpins, longer, KeepsSeen};
     ghost use Rattle.be_table.specs.Steps.{with_history};
     ghost use Rattle.be_table.specs.Trace.{HasTrace};
     ghost use Rattle.be_table.specs.Versions.{at_start, CanEncodeEach};
     ghost use Rattle.be_table.specs.Works.{IsSeatOf, IsWitnessOf, SeesMore, TakesLock, FoundHeld};
-    ghost use Rattle.be_table.specs.Works.{PinsCurrent, Moves, AreNew, IsOpenRefused, AllAt};
-    ghost use Rattle.be_table.specs.Works.{knows_of};
+    ghost use Rattle.be_table.specs.Works.{PinsCurrent, Moves, AreAllSeats, AreNew, IsOpenRefused};
+    ghost use Rattle.be_table.specs.Works.{Meets, knows_of};
 
     /// Creates a table with an empty journal, and returns it with its passes' seats in the order of
     /// their numbers. Version 0 consists only of page 0, which holds `first` and encodes the empty
@@ -271,10 +271,8 @@ impl VersionTable {
     pub fn meet(&self, left: Seat, right: Seat) -> (Seat, Seat, u64)
         requires { IsSeatOf self.now left × IsSeatOf self.now right }
         ensures seats { IsSeatOf self.now result.0 × IsSeatOf self.now result.1 }
-        ensures left { StartsWith (longer left.knows.seen right.knows.seen) left.knows.seen
-            × (result.0.knows ≡ met left.knows (longer left.knows.seen right.knows.seen)) }
-        ensures right { StartsWith (longer left.knows.seen right.knows.seen) right.knows.seen
-            × (result.1.knows ≡ met right.knows (longer left.knows.seen right.knows.seen)) }
+        ensures left { Meets left.knows (longer left.knows.seen right.knows.seen) result.0.knows }
+        ensures right { Meets right.knows (longer left.knows.seen right.knows.seen) result.1.knows }
         ensures length { result.2 ≡ length (longer left.knows.seen right.knows.seen) }
         ensures trace { HasTrace self.now.limits (left.knows ∷ right.knows ∷ []) }
     {
@@ -314,8 +312,8 @@ impl VersionTable {
     pub fn join(&self, seat: &mut Seat, witness: &mut Witness) -> u64
         requires { IsSeatOf self.now seat.old × IsWitnessOf self.now witness.old }
         ensures of { IsSeatOf self.now seat.new × IsWitnessOf self.now witness.new }
-        ensures pass { StartsWith (longer seat.old.knows.seen witness.old.seen) seat.old.knows.seen
-            × (seat.new.knows ≡ met seat.old.knows (longer seat.old.knows.seen witness.old.seen)) }
+        ensures pass { Meets seat.old.knows (longer seat.old.knows.seen witness.old.seen)
+            seat.new.knows }
         ensures witness { StartsWith (longer seat.old.knows.seen witness.old.seen) witness.old.seen
             × (witness.new.seen ≡ longer seat.old.knows.seen witness.old.seen) }
         ensures length { result ≡ length (longer seat.old.knows.seen witness.old.seen) }
@@ -335,8 +333,7 @@ impl VersionTable {
 
     /// Returns the journal once all seats are back. The passes may still be pinned.
     pub fn close(self, seats: Vec<Seat>) -> Journal
-        requires seats { AllAt self.id seats.items }
-        requires all { (k : ℕ) → k < self.limits.passes → Has (map knows_of seats.items) k }
+        requires { AreAllSeats self seats.items }
         ensures legal { IsLegal result.entries }
         ensures by { AreOfPasses self.limits.passes result.entries }
         ensures seats { KeepsSeen result.entries (map knows_of seats.items) }

@@ -16,10 +16,10 @@ ghost use Rattle.be_table.specs.Rule.{word_place, current_word};
 ghost use Rattle.be_table.specs.Statuses.{FindsOldest, LieAt, Reports};
 ghost use Rattle.be_table.specs.Steps.{AreFound, take_moves, fill_moves, given_moves, given_of};
 ghost use Rattle.be_table.specs.Steps.{scans_of, NoneRetiredLater, IsPass, IsFound, MayPublish};
-ghost use Rattle.be_table.specs.Steps.{publishes, MayBeFilled, MayReadAnnouncement, IsPart};
-ghost use Rattle.be_table.specs.Steps.{fills_word, with_history, takes_page, gives_up, scans};
-ghost use Rattle.be_table.specs.Steps.{scans_out, scans_all, lowest_found, IsLowestAnnounced};
-ghost use Rattle.be_table.specs.Steps.{IsOwnLowest, UnreachedAreFree};
+ghost use Rattle.be_table.specs.Steps.{publishes, ChangesAlone, MayBeFilled, MayReadAnnouncement};
+ghost use Rattle.be_table.specs.Steps.{IsPart, fills_word, with_history, takes_page, gives_up};
+ghost use Rattle.be_table.specs.Steps.{scans, scans_out, scans_all, lowest_found};
+ghost use Rattle.be_table.specs.Steps.{IsLowestAnnounced, IsOwnLowest, UnreachedAreFree};
 ghost use Rattle.be_table.specs.Trace.{Makes, upto_lock};
 ghost use Rattle.be_table.specs.Working.{HasWorked, MakesForReason};
 ghost use Rattle.be_table.specs.Works.{due_after, HasReasonToScan, Moves};
@@ -85,7 +85,8 @@ impl<'a> Writing<'a> {
     ghost use Rattle.be_table.specs.Rule.{page_at, entries};
     ghost use Rattle.be_table.specs.Seats.{pin_of};
     ghost use Rattle.be_table.specs.Steps.{entry_by, without_lock};
-    ghost use Rattle.be_table.specs.Works.{IsSeatOf, HasNoRoom, MakesScan, TakesPage, FindsNone};
+    ghost use Rattle.be_table.specs.Works.{FillsWord, FindsNone, HasNoFree, HasNoRoom, IsSeatOf};
+    ghost use Rattle.be_table.specs.Works.{MakesScan, TakesFree, TakesPage};
 
     pub(crate) fn of(
         table: &'a VersionTable,
@@ -185,12 +186,7 @@ impl<'a> Writing<'a> {
         requires taken { (page < length self.old.knows.places)
             × IsTrue (is_in_hand (place_of self.old.knows.places page)) }
         requires place { i < 512 }
-        ensures write { self.new ≡ record self.old {
-          knows = fills_word (with_history self.old.knows self.new.knows.history) page i
-              word;
-        } }
-        ensures moves { Makes self.old.knows.number self.old.knows.history
-            (fill_moves self.old.knows page i word) self.new.knows.history }
+        ensures write { FillsWord self.old self.new page i word }
         ensures inside { word_place page i < length self.old.knows.words }
     {
         fill_word(self.table, &mut self.base, page, i, word);
@@ -204,12 +200,7 @@ impl<'a> Writing<'a> {
         requires filled { (page < length self.old.knows.places)
             × (place_of self.old.knows.places page ≡ Place.Filled) }
         requires place { i < 512 }
-        ensures write { self.new ≡ record self.old {
-          knows = fills_word (with_history self.old.knows self.new.knows.history) page i
-              word;
-        } }
-        ensures moves { Makes self.old.knows.number self.old.knows.history
-            (fill_moves self.old.knows page i word) self.new.knows.history }
+        ensures write { FillsWord self.old self.new page i word }
         ensures inside { word_place page i < length self.old.knows.words }
     {
         fill_word(self.table, &mut self.base, page, i, word);
@@ -239,18 +230,8 @@ impl<'a> Writing<'a> {
     /// taken only if there is no other.
     fn take_free(&mut self) -> Option<u64>
         requires open { self.old.knows.published ≡ false }
-        ensures some { IfSome result (λ page. (page < length self.old.knows.places)
-            × (place_of self.old.knows.places page ≡ Place.Free)) }
-        ensures small { IfSome result (λ page. page < 16384) }
-        ensures taken { IfSome result (λ page. self.new
-            ≡ record self.old {
-              knows = takes_page
-                  (with_history self.old.knows self.new.knows.history) page;
-            }) }
-        ensures moves { IfSome result (λ page. Makes self.old.knows.number self.old.knows.history
-            (take_moves self.old.knows page) self.new.knows.history) }
-        ensures none { IfNone result ((p : ℕ) → p < length self.old.knows.places
-            → place_of self.old.knows.places p ≢ Place.Free) }
+        ensures taken { IfSome result (TakesFree self.old self.new) }
+        ensures none { IfNone result (HasNoFree self.old) }
         ensures count { IfNone result (length self.old.knows.places ≡ self.old.knows.limits.pages) }
         ensures same { IfNone result (self.new ≡ self.old) }
     {
@@ -264,16 +245,7 @@ impl<'a> Writing<'a> {
     /// the next. In that case it takes the page that `take_free` would take.
     fn take_free_like(&mut self, page: u64) -> Option<u64>
         requires open { self.old.knows.published ≡ false }
-        ensures some { IfSome result (λ page. (page < length self.old.knows.places)
-            × (place_of self.old.knows.places page ≡ Place.Free)) }
-        ensures small { IfSome result (λ page. page < 16384) }
-        ensures taken { IfSome result (λ page. self.new
-            ≡ record self.old {
-              knows = takes_page
-                  (with_history self.old.knows self.new.knows.history) page;
-            }) }
-        ensures moves { IfSome result (λ page. Makes self.old.knows.number self.old.knows.history
-            (take_moves self.old.knows page) self.new.knows.history) }
+        ensures taken { IfSome result (TakesFree self.old self.new) }
         ensures same { IfNone result (self.new ≡ self.old) }
     {
         if self.writer_state.left > 0 {
@@ -508,11 +480,7 @@ fn store_version<E: NextVersion>(
         × MayPublish table.now.limits (pass_of base.old.me.0) E.entry page }
     requires word { word ≡ current_word (length (pass_of base.old.me.0).seen + 1) page }
     ensures seat { (base.new.table_id ≡ base.old.table_id) × (base.new.id ≡ base.old.id) }
-    ensures me { base.new.me ≡ (
-      alone (publishes
-          (with_history (pass_of base.old.me.0) (pass_of base.new.me.0).history) E.entry page),
-      base.old.me.1,
-    ) }
+    ensures me { ChangesAlone base.old.me base.new.me (λ a. publishes a E.entry page) }
     ensures moves { Moves (pass_of base.old.me.0)
         (moves.Publish (pass_of base.old.me.0).number page (given_of (pass_of base.old.me.0)) ∷ [])
         (pass_of base.new.me.0) }
@@ -531,11 +499,7 @@ fn report_taken(table: &VersionTable, base: &mut Base, page: u64)
     requires page { (page < table.now.limits.pages) × (page < length (pass_of base.old.me.0).places)
         × (place_of (pass_of base.old.me.0).places page ≡ Place.Free) }
     ensures seat { (base.new.table_id ≡ base.old.table_id) × (base.new.id ≡ base.old.id) }
-    ensures me { base.new.me ≡ (
-      alone (takes_page
-          (with_history (pass_of base.old.me.0) (pass_of base.new.me.0).history) page),
-      base.old.me.1,
-    ) }
+    ensures me { ChangesAlone base.old.me base.new.me (λ a. takes_page a page) }
     ensures moves { Makes (pass_of base.old.me.0).number (pass_of base.old.me.0).history
         (take_moves (pass_of base.old.me.0) page) (pass_of base.new.me.0).history }
 {
@@ -553,11 +517,7 @@ fn fill_word(table: &VersionTable, base: &mut Base, page: u64, i: usize, word: u
         × MayBeFilled (pass_of base.old.me.0).places page }
     requires place { i < 512 }
     ensures seat { (base.new.table_id ≡ base.old.table_id) × (base.new.id ≡ base.old.id) }
-    ensures me { base.new.me ≡ (
-      alone (fills_word
-          (with_history (pass_of base.old.me.0) (pass_of base.new.me.0).history) page i word),
-      base.old.me.1,
-    ) }
+    ensures me { ChangesAlone base.old.me base.new.me (λ a. fills_word a page i word) }
     ensures moves { Makes (pass_of base.old.me.0).number (pass_of base.old.me.0).history
         (fill_moves (pass_of base.old.me.0) page i word)
         (pass_of base.new.me.0).history }
@@ -575,11 +535,7 @@ fn read_announcement(table: &VersionTable, base: &mut Base, pass: u64) -> u64
     requires seat { base.old.table_id ≡ table.now.id }
     requires pass { MayReadAnnouncement table.now.limits base.old.me pass }
     ensures seat { (base.new.table_id ≡ base.old.table_id) × (base.new.id ≡ base.old.id) }
-    ensures me { base.new.me ≡ (
-      alone (scans
-          (with_history (pass_of base.old.me.0) (pass_of base.new.me.0).history) result),
-      base.old.me.1,
-    ) }
+    ensures me { ChangesAlone base.old.me base.new.me (λ a. scans a result) }
     ensures moves { Makes (pass_of base.old.me.0).number (pass_of base.old.me.0).history
         (moves.Scan (pass_of base.old.me.0).number (pass_of base.old.me.0).scanned ∷ [])
         (pass_of base.new.me.0).history }

@@ -13,12 +13,11 @@ mod writes;
 use crate::tests::races::race;
 use crate::tests::room::{Room, count_seats, opened};
 use be_table::Limits;
-use be_test_tools::{OUTSIDE_LIMITS, again, check_lines, has_hundred_by_each};
+use be_test_tools::{OUTSIDE_LIMITS, again, check_lines};
 use be_value::Refusal;
 use be_volume::Op;
 use std::alloc::Global;
 use std::test::Fail;
-use std::thread::Threads;
 
 /// Fails unless a room of 64 pages gives these replies.
 fn check(alloc: Global, lines: &str) -> Result<(), Fail> {
@@ -140,17 +139,9 @@ fn scan_due(rt: HostRuntime) -> Result<(), Fail> {
     Ok(())
 }
 
-/// Whether all nodes of two threads were entered, and whether the journal has each exactly once.
-fn race_of_two<R: Threads + Sync>(rt: &R, alloc: Global) -> Result<(bool, bool), Refusal> {
-    let (journal, entered) = race(rt, alloc)?;
-    Ok((entered, has_hundred_by_each(&journal)?))
-}
-
 /// Two passes make a hundred nodes each, each on its own thread.
 #[test]
 fn two_writers(rt: HostRuntime) -> Result<(), Fail> {
-    let (entered, has_each) = race_of_two(&rt, rt.alloc())?;
-    assert!(rt; entered);
-    assert!(rt; has_each);
+    assert_eq!(rt; race(&rt, rt.alloc()), Ok((true, true)));
     Ok(())
 }

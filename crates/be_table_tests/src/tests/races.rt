@@ -6,7 +6,7 @@ use crate::tests::room::open;
 use crate::tests::writes::enter_many;
 use be_journal::Journal;
 use be_table::{Limits, Seat, VersionTable};
-use be_test_tools::{again, both_of, pair_of};
+use be_test_tools::{again, both_of, has_hundred_by_each, pair_of};
 use be_value::Refusal;
 use std::alloc::Global;
 use std::thread;
@@ -40,7 +40,9 @@ fn race_once<R: Threads + Sync>(rt: &R, alloc: Global) -> Result<(Journal, bool)
     Ok((table.close(seats), first.1 && second.1))
 }
 
-/// The same, tried again if memory runs out.
-pub(crate) fn race<R: Threads + Sync>(rt: &R, alloc: Global) -> Result<(Journal, bool), Refusal> {
-    again!(race_once(rt, alloc))
+/// Whether all nodes of two threads were made, and whether the journal has each exactly once. Tried
+/// again if memory runs out.
+pub(crate) fn race<R: Threads + Sync>(rt: &R, alloc: Global) -> Result<(bool, bool), Refusal> {
+    let (journal, entered) = again!(race_once(rt, alloc))?;
+    Ok((entered, has_hundred_by_each(&journal)?))
 }

@@ -1,7 +1,6 @@
 //! Pins, and what a pinned pass reads.
 ghost use Rattle.std.specs.Prelude.{◌≡◌, ℕ};
-ghost use Rattle.be_core.specs.declared.event.Phase.TheVariants.{Pinned};
-ghost use Rattle.be_table.specs.Works.{IsSeatOf};
+ghost use Rattle.be_table_tests.specs.Imports.{IsSeatOf, Pinned};
 ghost use Rattle.be_table_tests.specs.Resting.{IsPinnedSeat, IsResting, StaysSeat};
 
 use be_paged::{get, source};

@@ -1,7 +1,7 @@
 //! A table with its seats, which replies to requests. Its invariant says what is known about them,
 //! so no method needs a clause.
 ghost use Rattle.std.specs.Prelude.{◌≡◌, length, IfOk};
-ghost use Rattle.be_table.specs.Works.{AreNew};
+ghost use Rattle.be_table_tests.specs.Imports.{AreNew};
 ghost use Rattle.be_table_tests.specs.Resting.{IsResting};
 
 use crate::tests::calls::{Text, answer, answers, both_texts, number_text, write_text};
@@ -25,7 +25,7 @@ pub(crate) struct Room {
 }
 
 impl Model for Room {
-    ghost use Rattle.be_table.specs.Place.{Opened};
+    ghost use Rattle.be_table_tests.specs.Imports.{Opened};
     ghost use Rattle.be_table_tests.specs.Resting.{IsResting};
 
     ghost Value = { Opened };

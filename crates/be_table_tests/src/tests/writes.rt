@@ -1,14 +1,9 @@
 //! What a pass does while it holds the lock. be_paged applies lists of operations to the open
 //! write.
 ghost use Rattle.std.specs.Prelude.{◌≡◌, ◌≤◌, ◌<◌, ◌+◌, ◌^◌, ℕ, false, length, IfErr, IfOk};
-ghost use Rattle.be_table.specs.declared.pass.Knowledge.{Knowledge};
-ghost use Rattle.be_paged.specs.Changes.{Applies};
-ghost use Rattle.be_paged_reading.specs.Version.{IsVersion};
-ghost use Rattle.be_volume.specs.Volume.{State};
-ghost use Rattle.be_table.specs.Reading.{open_of, page_state_among, word_of_page};
-ghost use Rattle.be_table.specs.Reading.{page_state_in_work};
-ghost use Rattle.be_table.specs.Reading.{words_of};
-ghost use Rattle.be_table.specs.Works.{TakesLock};
+ghost use Rattle.be_table_tests.specs.Imports.{open_of, page_state_among, page_state_in_work};
+ghost use Rattle.be_table_tests.specs.Imports.{word_of_page, words_of, Applies, IsVersion};
+ghost use Rattle.be_table_tests.specs.Imports.{Knowledge, State, TakesLock};
 ghost use Rattle.be_table_tests.specs.Resting.{IsResting, StaysSeat};
 
 use arrayvec::ArrayVec;

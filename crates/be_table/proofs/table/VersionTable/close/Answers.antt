@@ -7,7 +7,7 @@ use Rattle.be_table.proofs.table.VersionTable.close.Goals as goal
 pub unreachable-requires : goal.unreachable-requires
 unreachable-requires c =
     let g = c.gather.ensures.passes in
-    let e = ends c.self.inside.table.shared.key c.gather.new.rest.id c.gather.new.rest.me.0 _ _ g.idle (λ k lt. g.all k (c.requires.all k (subst (λ t. k < t.limits.passes) c.self.view_is lt))) c.close_with-closed.ensures.values.2 in
+    let e = ends c.self.inside.table.shared.key c.gather.new.rest.id c.gather.new.rest.me.0 _ _ g.idle (λ k lt. g.all k (c.requires.1 k (subst (λ t. k < t.limits.passes) c.self.view_is lt))) c.close_with-closed.ensures.values.2 in
     c.in_default.not-Some e.0 (some-injective _ _ (sym c.take-slot.ensures.value ∙ e.1))
 
 closed : (c : goal.After-into_journal) → Closes c.args.self.limits (map knows_of c.args.seats.items) c.into_journal.result
@@ -16,7 +16,7 @@ closed c =
     let limits = ap (λ t. t.limits) c.self.view_is in
     subst (λ l. Closes l (map knows_of c.args.seats.items) c.into_journal.result) limits
     (closes c.self.inside.table.shared.key (map knows_of c.args.seats.items) c.gather.new.rest.id c.gather.new.rest.me.0 _ _ c.in-Some.writer_state c.into_journal.result g
-    (λ k lt. c.requires.all k (subst (λ l. k < l.passes) limits lt)) c.close_with-closed.ensures.values.2 (c.take-slot.ensures.value ∙ ap some c.in-Some.is) c.into_journal.ensures)
+    (λ k lt. c.requires.1 k (subst (λ l. k < l.passes) limits lt)) c.close_with-closed.ensures.values.2 (c.take-slot.ensures.value ∙ ap some c.in-Some.is) c.into_journal.ensures)
 
 pub returns-clause-legal : goal.returns-clause-legal
 returns-clause-legal c = (closed c).legal

@@ -8,13 +8,13 @@ use Rattle.be_table.proofs.writing.Writing.take.Goals as goal
 
 pub returns-in-Some-clause-ok : goal.returns-in-Some-clause-ok
 returns-in-Some-clause-ok c =
-    let e = c.in-Some.ensures in record { between = c.args.self.now; scan = inl refl; because = inl refl; inside = e.some.0; small = e.small; free = e.some.1; taken = e.taken; moves = e.moves }
+    let e = c.in-Some.ensures in record { between = c.args.self.now; scan = inl refl; because = inl refl; inside = e.taken.0; small = e.taken.1; free = e.taken.2; taken = e.taken.3; moves = e.taken.4 }
 
 pub returns-in-Some-take_free-clause-ok : goal.returns-in-Some-take_free-clause-ok
 returns-in-Some-take_free-clause-ok c =
     let e = c.in-Some-take_free.ensures in
     let h = subst (λ (w : Work). MakesScan w c.scan-least.new.self c.scan-least.result) c.in_default.ensures.same c.scan-least.ensures in
-    record { between = c.scan-least.new.self; scan = inr (c.scan-least.result, h); because = inr c.in_default.ensures.none; inside = e.some.0; small = e.small; free = e.some.1; taken = e.taken; moves = e.moves }
+    record { between = c.scan-least.new.self; scan = inr (c.scan-least.result, h); because = inr c.in_default.ensures.none; inside = e.taken.0; small = e.taken.1; free = e.taken.2; taken = e.taken.3; moves = e.taken.4 }
 
 pub returns-in-None-clause-full : goal.returns-in-None-clause-full
 returns-in-None-clause-full c =
