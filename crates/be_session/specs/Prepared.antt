@@ -38,20 +38,19 @@ with_found p nodes = record p { found = nodes }
 
 -- The pass that knows this refreshed a live query at its pin. These nodes were added to the answer
 -- and removed from it.
-abbrev pub RefreshesAtPin : Knowledge → LiveQuery → LiveQuery → Updates → Type 0
-RefreshesAtPin a old new updates = ((n : ℕ) × IsPinnedTo a n)
-    × Refreshes (volume_pinned a) old new updates.created.items updates.removed.items
+abbrev pub RefreshesAtPin : Knowledge → LiveQuery → LiveQuery → List ℕ → List ℕ → Type 0
+RefreshesAtPin a old new came went = ((n : ℕ) × IsPinnedTo a n)
+    × Refreshes (volume_pinned a) old new came went
+
+-- The same for a call that returns these nodes.
+abbrev pub ReturnsRefresh : Knowledge → LiveQuery → LiveQuery → Updates → Type 0
+ReturnsRefresh a old new updates =
+    RefreshesAtPin a old new updates.created.items updates.removed.items
 
 -- The reason why the pass that knows this couldn't refresh a live query, which is unchanged.
 abbrev pub StaysUnrefreshed : Knowledge → LiveQuery → LiveQuery → Fault → Type 0
 StaysUnrefreshed a old new e = (new ≡ old)
     × IsUnrefreshed (pinned_number a.phase) (scan (volume_pinned a) old.query) e
-
--- The pass that knows this refreshed a prepared query at its pin. The query keeps which nodes were
--- added to the answer and removed from it.
-abbrev pub KeepsRefresh : Knowledge → PreparedQuery → PreparedQuery → Type 0
-KeepsRefresh a old new = ((n : ℕ) × IsPinnedTo a n)
-    × Refreshes (volume_pinned a) old.live new.live new.came new.went
 
 -- The reason why the pass that knows this couldn't refresh a prepared query, which is unchanged.
 abbrev pub KeepsUnrefreshed : Knowledge → PreparedQuery → PreparedQuery → Fault → Type 0

@@ -6,7 +6,7 @@ ghost use Rattle.be_session.specs.Imports.{IsAnyOf, IsLiveOf, IsPinnedTo, Learns
 ghost use Rattle.be_session.specs.Imports.{NoSuchIndex};
 ghost use Rattle.be_session.specs.Meaning.{IsNoName};
 ghost use Rattle.be_session.specs.Ordering.{AreUnread, IsNoPage, IsPageRead};
-ghost use Rattle.be_session.specs.Prepared.{RefreshesAtPin, StaysUnrefreshed};
+ghost use Rattle.be_session.specs.Prepared.{ReturnsRefresh, StaysUnrefreshed};
 ghost use Rattle.be_session.specs.Sitting.{IsUnanswered, IsUnread};
 ghost use Rattle.be_session.specs.declared.faults.Fault.{Fault as AnyFault};
 ghost use Rattle.be_session.specs.declared.faults.Fault.TheVariants.{Refused};
@@ -227,7 +227,7 @@ impl Session {
         ensures moves { LocksAtMostOnce self.old.knows self.new.knows }
         ensures volume { volume_pinned self.new.knows ≡ volume_pinned self.old.knows }
         ensures own { IsLiveOf self.old.store live.new }
-        ensures ok { IfOk result (RefreshesAtPin self.old.knows live.old live.new) }
+        ensures ok { IfOk result (ReturnsRefresh self.old.knows live.old live.new) }
         ensures err { IfErr result (StaysUnrefreshed self.old.knows live.old live.new) }
     {
         let Some(_) = self.pass.pinned() else {

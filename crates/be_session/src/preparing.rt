@@ -5,7 +5,8 @@ ghost use Rattle.be_session.specs.Imports.{volume_pinned, Formula, HasRead, IsAn
 ghost use Rattle.be_session.specs.Imports.{IsPinnedTo, IsTextOf, Learns, LocksAtMostOnce};
 ghost use Rattle.be_session.specs.Imports.{OutOfMemory};
 ghost use Rattle.be_session.specs.Items.{IsBuilt, IsUnbuilt};
-ghost use Rattle.be_session.specs.Prepared.{IsUnasked, KeepsRefresh, KeepsUnrefreshed, with_found};
+ghost use Rattle.be_session.specs.Prepared.{IsUnasked, KeepsUnrefreshed, RefreshesAtPin};
+ghost use Rattle.be_session.specs.Prepared.{with_found};
 ghost use Rattle.be_session.specs.Ordering.{AreUnread, IsNoPage, IsPageRead};
 ghost use Rattle.be_session.specs.Sitting.{IsNoQuery, IsUnread, IsUnrefreshed};
 ghost use Rattle.be_session.specs.declared.faults.Fault.TheVariants.{Refused};
@@ -145,13 +146,16 @@ impl Prepared {
     }
 
     /// Runs the query in the session's pinned version, and keeps which nodes were added and removed
-    /// since the last refresh. An error leaves everything unchanged.
+    /// since the last refresh. The nodes that were last found stay. An error leaves everything
+    /// unchanged.
     #[tactic(auto, using(crate::proofs::Same::same_prepared))]
     pub fn refresh(&mut self, session: &mut Session) -> Result<(), Fault>
         ensures store { (session.new.store ≡ session.old.store)
             × (session.new.spare ≡ session.old.spare) }
         ensures read { HasRead session.old.knows session.new.knows }
-        ensures ok { OnOk result (KeepsRefresh session.old.knows self.old self.new) }
+        ensures ok { OnOk result (RefreshesAtPin session.old.knows self.old.live self.new.live
+            self.new.came self.new.went) }
+        ensures found { self.new.found ≡ self.old.found }
         ensures err { IfErr result (KeepsUnrefreshed session.old.knows self.old self.new) }
     {
         match session.refresh(&mut self.live) {
@@ -164,7 +168,8 @@ impl Prepared {
     }
 
     /// Does what `refresh` does, but computes the result from what was written since the last
-    /// refresh, which must have been in the session's store. An error leaves everything unchanged.
+    /// refresh, which must have been in the session's store. The nodes that were last found stay.
+    /// An error leaves everything unchanged.
     #[tactic(auto, using(crate::proofs::Same::same_prepared))]
     pub fn refresh_changed(&mut self, session: &mut Session) -> Result<(), Fault>
         requires own { IsLiveOf session.old.store self.old.live }
@@ -174,7 +179,9 @@ impl Prepared {
         ensures moves { LocksAtMostOnce session.old.knows session.new.knows }
         ensures volume { volume_pinned session.new.knows ≡ volume_pinned session.old.knows }
         ensures own { IsLiveOf session.old.store self.new.live }
-        ensures ok { OnOk result (KeepsRefresh session.old.knows self.old self.new) }
+        ensures ok { OnOk result (RefreshesAtPin session.old.knows self.old.live self.new.live
+            self.new.came self.new.went) }
+        ensures found { self.new.found ≡ self.old.found }
         ensures err { IfErr result (KeepsUnrefreshed session.old.knows self.old self.new) }
     {
         self.updates = session.refresh_changed(&mut self.live)?;

@@ -12,7 +12,7 @@ ghost use Rattle.be_session.specs.Imports.{IsWitnessOf, Learns, LocksAndUnlocks,
 ghost use Rattle.be_session.specs.Imports.{ReportsColumns, ReportsStatus, Unpins};
 ghost use Rattle.be_session.specs.Explained.{explanation_in};
 ghost use Rattle.be_session.specs.Finishing.{IsFinished, IsNotLast, IsUnfinished};
-ghost use Rattle.be_session.specs.Prepared.{RefreshesAtPin, StaysUnrefreshed};
+ghost use Rattle.be_session.specs.Prepared.{ReturnsRefresh, StaysUnrefreshed};
 ghost use Rattle.be_session.specs.Sitting.{AtPin, HasMet, IsHandedOut, IsPinned, IsTakenFrom};
 ghost use Rattle.be_session.specs.Sitting.{IsUnwritten, IsUnwrittenIf, IsNoQuery, IsOpened};
 ghost use Rattle.be_session.specs.Sitting.{IsUnpinnedAt, IsUnrefreshed, Joins, ReadAnswers};
@@ -562,7 +562,7 @@ impl Session {
     pub fn refresh(&mut self, live: &mut Live) -> Result<Updates, Fault>
         ensures store { (self.new.store ≡ self.old.store) × (self.new.spare ≡ self.old.spare) }
         ensures read { HasRead self.old.knows self.new.knows }
-        ensures ok { IfOk result (RefreshesAtPin self.old.knows live.old live.new) }
+        ensures ok { IfOk result (ReturnsRefresh self.old.knows live.old live.new) }
         ensures err { IfErr result (StaysUnrefreshed self.old.knows live.old live.new) }
     {
         let Some(_) = self.pass.pinned() else {
