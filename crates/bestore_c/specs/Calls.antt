@@ -14,7 +14,7 @@ use Rattle.be_session.specs.Items.{IsBuilt, IsUnbuilt}
 use Rattle.be_session.specs.Meaning.{HasNoMore, IsNoName, IsValueMeant}
 use Rattle.be_session.specs.Operations.{AreMeant, AreEncoded, IsInvalid, IsWriteCount, ReportNodes}
 use Rattle.be_session.specs.Explained.{explanation_in}
-use Rattle.be_session.specs.Prepared.{IsUnasked, PreparedQuery, with_found}
+use Rattle.be_session.specs.Prepared.{IsUnasked, PreparedQuery, RefreshesAtPin, with_found}
 use Rattle.be_session.specs.Sitting.{IsHandedOut, IsNoQuery, IsOpened, IsUnrefreshed, IsUnwritten}
 use Rattle.be_session.specs.Sitting.{IsUnwrittenIf, Sitting}
 use Rattle.be_session.specs.declared.faults.Fault.{Fault}
@@ -23,7 +23,6 @@ use Rattle.be_session.specs.declared.items.PredicateItem.{PredicateItem}
 use Rattle.be_session.specs.declared.lists.Operation.{Operation}
 use Rattle.be_store.specs.Conditional.{AcceptsAt}
 use Rattle.be_store.specs.History.{Accepts, IsUnreported, Learns, LocksAndUnlocks, text_seen}
-use Rattle.be_store.specs.Live.{Refreshes}
 use Rattle.be_store.specs.Passes.{HasRead, IsPinnedTo, volume_pinned}
 use Rattle.be_table.specs.Rule.{IsWithin, entries}
 use Rattle.be_table.specs.Seats.{pinned_number}
@@ -291,13 +290,12 @@ ShowsFound None from places filled count code = IsClosed count code
 ShowsFound (Some p) from places filled count code = (code ≡ 0) × (count ≡ length p.found)
     × (filled ≡ over (drop from p.found) places)
 
--- A query was refreshed in the pinned version. It keeps which nodes were added to its answer and
--- which were removed, and the call returns how many there are. If an error occurs, the call returns
--- it, and the query is unchanged.
+-- A query was refreshed in the pinned version. It still has the nodes that it found when it was
+-- last run. It keeps which nodes were added to its answer and which were removed, and the call
+-- returns how many there are. If an error occurs, the call returns it, and the query is unchanged.
 abbrev pub Refreshed : Sitting → PreparedQuery → PreparedQuery → UpdateCounts → ℕ → Type 0
 Refreshed s p q counts code =
-    ((code ≡ 0) × (n : ℕ) × IsPinnedTo s.knows n
-    × Refreshes (volume_pinned s.knows) p.live q.live q.came q.went
+    ((code ≡ 0) × RefreshesAtPin s.knows p.live q.live q.came q.went × (q.found ≡ p.found)
     × (counts.created ≡ length q.came) × (counts.removed ≡ length q.went))
     ⊎ ((e : Fault) × (code ≡ fault_code e) × (q ≡ p)
     × IsUnrefreshed (pinned_number s.knows.phase) (scan (volume_pinned s.knows) p.live.query) e)

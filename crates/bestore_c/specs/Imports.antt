@@ -6,6 +6,7 @@ pub use Rattle.std.specs.Option.{option_copied}
 pub use Rattle.std.specs.contracts.impls.GlobalAllocator.TheImpl.{ghosts}
 pub use Rattle.std.specs.declared.option.Option.{Option as AnyOption}
 pub use Rattle.std.specs.declared.result.Result.{Result as AnyResult}
+pub use Rattle.be_change.specs.contracts.changes.Change.{the_row as change_row}
 pub use Rattle.be_change.specs.declared.changes.Change.{Change}
 pub use Rattle.be_paged_reading.specs.Cells.{name_in}
 pub use Rattle.be_paged_reading.specs.Nodes.{nodes_from}
@@ -21,7 +22,9 @@ pub use Rattle.be_session.specs.Operations.{AreEncoded, makes, sets}
 pub use Rattle.be_session.specs.Prepared.{coded_prepared}
 pub use Rattle.be_session.specs.Sitting.{AtPin, HasMet, IsNoQuery, IsPinned, ReadAnswers}
 pub use Rattle.be_session.specs.States.{unreported, waiting}
-pub use Rattle.be_session.specs.contracts.session.Session.{the_row}
+pub use Rattle.be_session.specs.contracts.preparing.Prepared.{the_row as prepared_row}
+pub use Rattle.be_session.specs.contracts.session.Session.{the_row as session_row}
+pub use Rattle.be_session.specs.contracts.states.StatePlace.{the_row as place_row}
 pub use Rattle.be_session.specs.declared.faults.Fault.{Fault as AnyFault}
 pub use Rattle.be_session.specs.declared.faults.Fault.TheVariants.{AlreadyPinned, NoPass, Refused}
 pub use Rattle.be_session.specs.declared.preparing.Prepared.{Prepared}
@@ -33,6 +36,7 @@ pub use Rattle.be_store.specs.Live.{IsLiveOf}
 pub use Rattle.be_store.specs.Passes.{HasRead, volume_pinned}
 pub use Rattle.be_table.specs.Rule.{entries}
 pub use Rattle.be_table.specs.Seats.{pinned_number}
+pub use Rattle.be_table.specs.contracts.witness.Witness.{the_row as witness_row}
 pub use Rattle.be_table.specs.declared.witness.Witness.{Witness}
 pub use Rattle.be_value.specs.Name.{has_nul}
 pub use Rattle.be_value.specs.declared.refusals.Refusal.{Refusal as AnyRefusal}

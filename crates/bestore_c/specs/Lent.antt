@@ -1,59 +1,76 @@
--- What a handle owns before and after it lends its content.
+-- What an owner has before and after it lends its content, and what a struct for C has before and
+-- after it is lent as an owner.
 use Rattle.std.specs.Prelude.{Some}
 use Rattle.std.specs.Borrow.{Lends, MutBor, Fml}
-use Rattle.be_change.specs.Changing.{Changing}
+use Rattle.std.specs.contracts.alloc.Global as global
+use Rattle.std.specs.contracts.impls.GlobalAllocator.TheImpl.{ghosts}
+use denote.RattleType.{RattleType}
+use denote.RawPtr.{Ptr}
+use mir.Syntax.{Ty}
 use Rattle.be_change.specs.contracts.changes.Change as change
-use Rattle.be_session.specs.Prepared.{PreparedQuery}
-use Rattle.be_session.specs.Sitting.{Sitting}
 use Rattle.be_session.specs.contracts.preparing.Prepared as prepared
 use Rattle.be_session.specs.contracts.session.Session as session
 use Rattle.be_session.specs.contracts.states.StatePlace as place
-use Rattle.be_session.specs.declared.states.StatePlace.{StatePlace}
-use Rattle.be_table.specs.Place.{WitnessFacts}
 use Rattle.be_table.specs.contracts.witness.Witness as witness
+use Rattle.bestore_c.specs.contracts.handle.OwnedDraft as owned_draft
+use Rattle.bestore_c.specs.contracts.handle.OwnedPlace as owned_place
+use Rattle.bestore_c.specs.contracts.handle.OwnedQuery as owned_query
+use Rattle.bestore_c.specs.contracts.handle.OwnedSession as owned_session
+use Rattle.bestore_c.specs.contracts.handle.OwnedWitness as owned_witness
 use Rattle.bestore_c.specs.contracts.owned.Owned as owned
-use Rattle.bestore_c.specs.contracts.owned_draft.OwnedDraft as owned_draft
-use Rattle.bestore_c.specs.contracts.owned_place.OwnedPlace as owned_place
-use Rattle.bestore_c.specs.contracts.owned_query.OwnedQuery as owned_query
-use Rattle.bestore_c.specs.contracts.owned_witness.OwnedWitness as owned_witness
+use Rattle.bestore_c.specs.declared.handle.OwnedDraft.{OwnedDraft}
+use Rattle.bestore_c.specs.declared.handle.OwnedPlace.{OwnedPlace}
+use Rattle.bestore_c.specs.declared.handle.OwnedQuery.{OwnedQuery}
+use Rattle.bestore_c.specs.declared.handle.OwnedSession.{OwnedSession}
+use Rattle.bestore_c.specs.declared.handle.OwnedWitness.{OwnedWitness}
 use Rattle.bestore_c.specs.declared.owned.Owned.{Owned}
-use Rattle.bestore_c.specs.declared.owned_draft.OwnedDraft.{OwnedDraft}
-use Rattle.bestore_c.specs.declared.owned_place.OwnedPlace.{OwnedPlace}
-use Rattle.bestore_c.specs.declared.owned_query.OwnedQuery.{OwnedQuery}
-use Rattle.bestore_c.specs.declared.owned_witness.OwnedWitness.{OwnedWitness}
 
--- The owner, with the given session as its content.
-abbrev pub with_session : Owned → Sitting → Owned
-with_session o s = record o { value = Some s }
+-- The owner, with the given content.
+abbrev pub with_content : {T A : Type 0} → Owned T A → T → Owned T A
+with_content o x = record o { value = Some x }
 
--- When the borrow ends, the handle owns the session as it is then.
-abbrev pub LendsSession : MutBor Owned → MutBor Sitting → Fml
-LendsSession o s = Lends owned.the_row session.the_row o s (with_session o.now)
+-- When the borrow ends, the owner has the content as it is then.
+abbrev pub LendsContent : (R A : RattleType) → (A.Denot → Ty → Ptr → Fml)
+    → MutBor (Owned R.Denot A.Denot) → MutBor R.Denot → Fml
+LendsContent R A frees o x =
+    Lends (owned.the_row R A (record { dealloc_token = frees })) R o x (with_content o.now)
+
+-- An owner of boxes with this content, from the global allocator.
+abbrev pub Owner : RattleType → RattleType
+Owner R = owned.the_row R global.the_row ghosts
+
+-- The struct for C that has the same fields as an owner of a session.
+abbrev pub as_session : (Owner session.the_row).Denot → OwnedSession
+as_session o = record { at = o.at; alloc = o.alloc; value = o.value }
+
+-- When the borrow ends, the struct has the fields that the owner has then.
+abbrev pub LendsSession : MutBor OwnedSession → MutBor (Owner session.the_row).Denot → Fml
+LendsSession o x = Lends owned_session.the_row (Owner session.the_row) o x as_session
 
 -- The same definitions for a prepared query.
-abbrev pub with_query : OwnedQuery → PreparedQuery → OwnedQuery
-with_query o p = record o { value = Some p }
+abbrev pub as_query : (Owner prepared.the_row).Denot → OwnedQuery
+as_query o = record { at = o.at; alloc = o.alloc; value = o.value }
 
-abbrev pub LendsQuery : MutBor OwnedQuery → MutBor PreparedQuery → Fml
-LendsQuery o p = Lends owned_query.the_row prepared.the_row o p (with_query o.now)
+abbrev pub LendsQuery : MutBor OwnedQuery → MutBor (Owner prepared.the_row).Denot → Fml
+LendsQuery o x = Lends owned_query.the_row (Owner prepared.the_row) o x as_query
 
 -- The same definitions for a place.
-abbrev pub with_place : OwnedPlace → StatePlace → OwnedPlace
-with_place o p = record o { value = Some p }
+abbrev pub as_place : (Owner place.the_row).Denot → OwnedPlace
+as_place o = record { at = o.at; alloc = o.alloc; value = o.value }
 
-abbrev pub LendsPlace : MutBor OwnedPlace → MutBor StatePlace → Fml
-LendsPlace o p = Lends owned_place.the_row place.the_row o p (with_place o.now)
+abbrev pub LendsPlace : MutBor OwnedPlace → MutBor (Owner place.the_row).Denot → Fml
+LendsPlace o x = Lends owned_place.the_row (Owner place.the_row) o x as_place
 
 -- The same definitions for a witness.
-abbrev pub with_witness : OwnedWitness → WitnessFacts → OwnedWitness
-with_witness o w = record o { value = Some w }
+abbrev pub as_witness : (Owner witness.the_row).Denot → OwnedWitness
+as_witness o = record { at = o.at; alloc = o.alloc; value = o.value }
 
-abbrev pub LendsWitness : MutBor OwnedWitness → MutBor WitnessFacts → Fml
-LendsWitness o w = Lends owned_witness.the_row witness.the_row o w (with_witness o.now)
+abbrev pub LendsWitness : MutBor OwnedWitness → MutBor (Owner witness.the_row).Denot → Fml
+LendsWitness o x = Lends owned_witness.the_row (Owner witness.the_row) o x as_witness
 
 -- The same definitions for a change.
-abbrev pub with_draft : OwnedDraft → Changing → OwnedDraft
-with_draft o c = record o { value = Some c }
+abbrev pub as_draft : (Owner change.the_row).Denot → OwnedDraft
+as_draft o = record { at = o.at; alloc = o.alloc; value = o.value }
 
-abbrev pub LendsDraft : MutBor OwnedDraft → MutBor Changing → Fml
-LendsDraft o c = Lends owned_draft.the_row change.the_row o c (with_draft o.now)
+abbrev pub LendsDraft : MutBor OwnedDraft → MutBor (Owner change.the_row).Denot → Fml
+LendsDraft o x = Lends owned_draft.the_row (Owner change.the_row) o x as_draft

@@ -5,14 +5,12 @@ ghost use Rattle.bestore_c.specs.Calls.{Shown};
 ghost use Rattle.bestore_c.specs.Drafts.{ShowsChanged};
 
 use crate::handle::{Attribute, DraftHandle};
-use crate::owned_draft::OwnedDraft;
 use crate::places::put;
 use crate::reading::NO_ATTRIBUTE;
 use be_change::Change;
 use be_session::{Session, encoded};
 use be_store::{Name, Value};
 use std::alloc::Global;
-use std::mem;
 
 /// Writes a value, with as many of its bytes as fit, or returns the code for a missing attribute.
 fn show(found: Option<Value>, reported: &mut Attribute, bytes: &mut [u8]) -> u32
@@ -62,7 +60,7 @@ pub(crate) fn take_change(alloc: Global, draft: &mut DraftHandle) -> Option<Chan
     if !draft.live {
         return None;
     }
-    let change = mem::replace(&mut draft.owned, OwnedDraft::none(alloc)).into_box();
+    let change = draft.owned.typed().take(alloc);
     draft.live = false;
     Some(Box::into_inner(change))
 }

@@ -1,12 +1,46 @@
 //! The structs that C holds.
-ghost use Rattle.std.specs.Prelude.{◌≡◌, is_some};
+//!
+//! The content of a handle is a boxed value that is kept as a pointer, or nothing. The type of the
+//! pointer doesn't mention the value, so the struct can be stored in memory that C passes.
+ghost use Rattle.std.specs.Prelude.{◌≡◌, Option, is_some};
+ghost use Rattle.bestore_c.specs.Imports.{change_row, coded_option, coded_prepared, ghosts};
+ghost use Rattle.bestore_c.specs.Imports.{place_row, prepared_row, session_row, witness_row};
+ghost use Rattle.bestore_c.specs.Owned.{may_own};
 
 use crate::owned::Owned;
-use crate::owned_draft::OwnedDraft;
-use crate::owned_place::OwnedPlace;
-use crate::owned_query::OwnedQuery;
-use crate::owned_witness::OwnedWitness;
-use be_session::sent;
+use be_change::Change;
+use be_session::{Prepared, Session, StatePlace, sent};
+use be_store::Witness;
+use std::alloc::Global;
+use std::marker::Model;
+
+/// The content of a pass's handle.
+#[repr(C)]
+#[derive(Drop)]
+pub struct OwnedSession {
+    at: *mut u8,
+    alloc: Global,
+    pub ghost value: { Option (session_row).Denot },
+}
+
+impl Model for OwnedSession {
+    ghost also_owns = { λ p. may_own (ghosts.dealloc_token p.alloc) session_row p.at p.value };
+}
+
+unsafe impl Send for OwnedSession {}
+
+impl OwnedSession {
+    ghost use Rattle.bestore_c.specs.Imports.{sem};
+    ghost use Rattle.bestore_c.specs.Lent.{LendsSession};
+
+    /// Lends the content with a pointer of its type.
+    pub fn typed(&mut self) -> &mut Owned<Session, Global>
+        ensures* writes_back { sem 𝓛 (LendsSession self.entry result) }
+        ensures value { self.old.value ≡ result.now.value }
+    {
+        unsafe { &mut *(self as *mut OwnedSession as *mut Owned<Session, Global>) }
+    }
+}
 
 /// The handle of a pass in C, which is either closed or open with a session. A handle of all zero
 /// bytes is closed.
@@ -14,8 +48,34 @@ use be_session::sent;
 #[derive(Drop)]
 pub struct Handle {
     pub live: bool,
-    pub owned: Owned,
+    pub owned: OwnedSession,
     ghost full: { live ≡ is_some owned.value },
+}
+
+/// The content of a prepared query's handle.
+#[repr(C)]
+#[derive(Drop)]
+pub struct OwnedQuery {
+    at: *mut u8,
+    alloc: Global,
+    pub ghost value: { Option (prepared_row).Denot } by { coded_option coded_prepared },
+}
+
+impl Model for OwnedQuery {
+    ghost also_owns = { λ p. may_own (ghosts.dealloc_token p.alloc) prepared_row p.at p.value };
+}
+
+impl OwnedQuery {
+    ghost use Rattle.bestore_c.specs.Imports.{sem};
+    ghost use Rattle.bestore_c.specs.Lent.{LendsQuery};
+
+    /// Lends the content with a pointer of its type.
+    pub fn typed(&mut self) -> &mut Owned<Prepared, Global>
+        ensures* writes_back { sem 𝓛 (LendsQuery self.entry result) }
+        ensures value { self.old.value ≡ result.now.value }
+    {
+        unsafe { &mut *(self as *mut OwnedQuery as *mut Owned<Prepared, Global>) }
+    }
 }
 
 /// The handle of a prepared query in C, which is either closed or open with the query. A handle of
@@ -28,6 +88,32 @@ pub struct PreparedHandle {
     ghost full: { live ≡ is_some owned.value },
 }
 
+/// The content of a place's handle.
+#[repr(C)]
+#[derive(Drop)]
+pub struct OwnedPlace {
+    at: *mut u8,
+    alloc: Global,
+    pub ghost value: { Option (place_row).Denot },
+}
+
+impl Model for OwnedPlace {
+    ghost also_owns = { λ p. may_own (ghosts.dealloc_token p.alloc) place_row p.at p.value };
+}
+
+impl OwnedPlace {
+    ghost use Rattle.bestore_c.specs.Imports.{sem};
+    ghost use Rattle.bestore_c.specs.Lent.{LendsPlace};
+
+    /// Lends the content with a pointer of its type.
+    pub fn typed(&mut self) -> &mut Owned<StatePlace, Global>
+        ensures* writes_back { sem 𝓛 (LendsPlace self.entry result) }
+        ensures value { self.old.value ≡ result.now.value }
+    {
+        unsafe { &mut *(self as *mut OwnedPlace as *mut Owned<StatePlace, Global>) }
+    }
+}
+
 /// The handle of a place in the operations of a version in C. It is either open with the place, or
 /// closed, which means before the first operation. A handle of all zero bytes is closed.
 #[repr(C)]
@@ -38,6 +124,34 @@ pub struct PlaceHandle {
     ghost full: { live ≡ is_some owned.value },
 }
 
+/// The content of a witness's handle.
+#[repr(C)]
+#[derive(Drop)]
+pub struct OwnedWitness {
+    at: *mut u8,
+    alloc: Global,
+    pub ghost value: { Option (witness_row).Denot },
+}
+
+impl Model for OwnedWitness {
+    ghost also_owns = { λ p. may_own (ghosts.dealloc_token p.alloc) witness_row p.at p.value };
+}
+
+unsafe impl Send for OwnedWitness {}
+
+impl OwnedWitness {
+    ghost use Rattle.bestore_c.specs.Imports.{sem};
+    ghost use Rattle.bestore_c.specs.Lent.{LendsWitness};
+
+    /// Lends the content with a pointer of its type.
+    pub fn typed(&mut self) -> &mut Owned<Witness, Global>
+        ensures* writes_back { sem 𝓛 (LendsWitness self.entry result) }
+        ensures value { self.old.value ≡ result.now.value }
+    {
+        unsafe { &mut *(self as *mut OwnedWitness as *mut Owned<Witness, Global>) }
+    }
+}
+
 /// A witness's handle in C, which is either closed or open with the witness. A handle of all zero
 /// bytes is closed.
 #[repr(C)]
@@ -46,6 +160,34 @@ pub struct WitnessHandle {
     pub live: bool,
     pub owned: OwnedWitness,
     ghost full: { live ≡ is_some owned.value },
+}
+
+/// The content of a change's handle.
+#[repr(C)]
+#[derive(Drop)]
+pub struct OwnedDraft {
+    at: *mut u8,
+    alloc: Global,
+    pub ghost value: { Option (change_row).Denot },
+}
+
+impl Model for OwnedDraft {
+    ghost also_owns = { λ p. may_own (ghosts.dealloc_token p.alloc) change_row p.at p.value };
+}
+
+unsafe impl Send for OwnedDraft {}
+
+impl OwnedDraft {
+    ghost use Rattle.bestore_c.specs.Imports.{sem};
+    ghost use Rattle.bestore_c.specs.Lent.{LendsDraft};
+
+    /// Lends the content with a pointer of its type.
+    pub fn typed(&mut self) -> &mut Owned<Change, Global>
+        ensures* writes_back { sem 𝓛 (LendsDraft self.entry result) }
+        ensures value { self.old.value ≡ result.now.value }
+    {
+        unsafe { &mut *(self as *mut OwnedDraft as *mut Owned<Change, Global>) }
+    }
 }
 
 /// A change's handle in C, which is either closed or open with the change. A handle of all zero

@@ -33,13 +33,8 @@ mod entries;
 mod finishing;
 mod handle;
 mod listing;
-mod loose;
 mod ordering;
 mod owned;
-mod owned_draft;
-mod owned_place;
-mod owned_query;
-mod owned_witness;
 mod places;
 mod reading;
 mod refusing;
@@ -65,10 +60,6 @@ use ordering::{
     find_any, find_first, find_ordered, refresh_changed, refresh_prepared, report_found,
 };
 use owned::Owned;
-use owned_draft::OwnedDraft;
-use owned_place::OwnedPlace;
-use owned_query::OwnedQuery;
-use owned_witness::OwnedWitness;
 use places::{from_on, put, put_nodes};
 use reading::read;
 use refusing::{refuse, refuse_list};
@@ -120,10 +111,8 @@ pub extern "C" fn bes_open(
     match Session::open(alloc, limits) {
         Ok(session) => match Box::new(alloc, session) {
             Ok(session) => {
-                *pass = Handle {
-                    live: true,
-                    owned: Owned::of(session),
-                };
+                *pass.owned.typed() = Owned::of(session);
+                pass.live = true;
                 DONE
             }
             Err(_) => NO_MEMORY,
@@ -144,12 +133,10 @@ pub extern "C" fn bes_another(alloc: Global, pass: &mut Handle, other: &mut Hand
     if other.live {
         return OPEN;
     }
-    match pass.owned.lent().another(alloc) {
+    match pass.owned.typed().lent().another(alloc) {
         Ok(session) => {
-            *other = Handle {
-                live: true,
-                owned: Owned::of(session),
-            };
+            *other.owned.typed() = Owned::of(session);
+            other.live = true;
             DONE
         }
         Err(fault) => fault.code(),
@@ -158,7 +145,7 @@ pub extern "C" fn bes_another(alloc: Global, pass: &mut Handle, other: &mut Hand
 
 /// Moves the session of the handle to a closed handle, and closes this one.
 #[unsafe(no_mangle)]
-pub extern "C" fn bes_move(alloc: Global, pass: &mut Handle, other: &mut Handle) -> u32
+pub extern "C" fn bes_move(pass: &mut Handle, other: &mut Handle) -> u32
     ensures { MovesHandle pass.old.owned.value other.old.owned.value pass.new.owned.value
         other.new.owned.value result }
 {
@@ -168,11 +155,7 @@ pub extern "C" fn bes_move(alloc: Global, pass: &mut Handle, other: &mut Handle)
     if other.live {
         return OPEN;
     }
-    let closed = Handle {
-        live: false,
-        owned: Owned::none(alloc),
-    };
-    *other = mem::replace(pass, closed);
+    mem::swap(pass, other);
     DONE
 }
 
@@ -186,7 +169,7 @@ pub extern "C" fn bes_close(alloc: Global, pass: &mut Handle) -> u32
     if !pass.live {
         return CLOSED;
     }
-    let session = mem::replace(&mut pass.owned, Owned::none(alloc)).into_box();
+    let session = pass.owned.typed().take(alloc);
     pass.live = false;
     drop(Box::into_inner(session).close());
     DONE
@@ -209,9 +192,9 @@ pub extern "C" fn bes_finish(
         *count = 0;
         return CLOSED;
     }
-    match last_text(pass.owned.lent(), bytes.len(), count) {
+    match last_text(pass.owned.typed().lent(), bytes.len(), count) {
         Ok(text) => {
-            let session = mem::replace(&mut pass.owned, Owned::none(alloc)).into_box();
+            let session = pass.owned.typed().take(alloc);
             pass.live = false;
             end(Box::into_inner(session), text.as_str(), bytes, count)
         }
@@ -231,7 +214,7 @@ pub extern "C" fn bes_meet(pass: &mut Handle, seen: &mut u64) -> u32
         *seen = 0;
         return CLOSED;
     }
-    match pass.owned.lent().meet() {
+    match pass.owned.typed().lent().meet() {
         Ok(n) => {
             *seen = n;
             DONE
@@ -257,12 +240,10 @@ pub extern "C" fn bes_witness_of(
     if witness.live {
         return OPEN;
     }
-    match Box::new(alloc, pass.owned.lent().witness()) {
+    match Box::new(alloc, pass.owned.typed().lent().witness()) {
         Ok(made) => {
-            *witness = WitnessHandle {
-                live: true,
-                owned: OwnedWitness::of(made),
-            };
+            *witness.owned.typed() = Owned::of(made);
+            witness.live = true;
             DONE
         }
         Err(_) => NO_MEMORY,
@@ -285,17 +266,13 @@ pub extern "C" fn bes_join(pass: &mut Handle, witness: &mut WitnessHandle, seen:
     if !witness.live {
         return CLOSED;
     }
-    *seen = pass.owned.lent().join(witness.owned.lent());
+    *seen = pass.owned.typed().lent().join(witness.owned.typed().lent());
     DONE
 }
 
 /// Moves the witness of the handle to a closed handle, and closes this one.
 #[unsafe(no_mangle)]
-pub extern "C" fn bes_move_witness(
-    alloc: Global,
-    witness: &mut WitnessHandle,
-    other: &mut WitnessHandle,
-) -> u32
+pub extern "C" fn bes_move_witness(witness: &mut WitnessHandle, other: &mut WitnessHandle) -> u32
     ensures { MovesHandle witness.old.owned.value other.old.owned.value witness.new.owned.value
         other.new.owned.value result }
 {
@@ -305,11 +282,7 @@ pub extern "C" fn bes_move_witness(
     if other.live {
         return OPEN;
     }
-    let closed = WitnessHandle {
-        live: false,
-        owned: OwnedWitness::none(alloc),
-    };
-    *other = mem::replace(witness, closed);
+    mem::swap(witness, other);
     DONE
 }
 
@@ -322,7 +295,7 @@ pub extern "C" fn bes_dismiss(alloc: Global, witness: &mut WitnessHandle) -> u32
     if !witness.live {
         return CLOSED;
     }
-    let dismissed = mem::replace(&mut witness.owned, OwnedWitness::none(alloc)).into_box();
+    let dismissed = witness.owned.typed().take(alloc);
     witness.live = false;
     drop(dismissed);
     DONE
@@ -339,7 +312,7 @@ pub extern "C" fn bes_pin(pass: &mut Handle, number: &mut u64) -> u32
         *number = 0;
         return CLOSED;
     }
-    match pass.owned.lent().pin() {
+    match pass.owned.typed().lent().pin() {
         Ok(n) => {
             *number = n;
             DONE
@@ -358,7 +331,7 @@ pub extern "C" fn bes_unpin(pass: &mut Handle) -> u32
     if !pass.live {
         return CLOSED;
     }
-    match pass.owned.lent().unpin() {
+    match pass.owned.typed().lent().unpin() {
         Ok(()) => DONE,
         Err(fault) => fault.code(),
     }
@@ -388,7 +361,7 @@ pub extern "C" fn bes_apply(
         Err(invalid) => return refuse_list(invalid, entries),
     };
     let mut dones = ArrayVec::new();
-    let answer = pass.owned.lent().apply(ops.as_slice(), &mut dones);
+    let answer = pass.owned.typed().lent().apply(ops.as_slice(), &mut dones);
     match answer {
         Ok(length) => {
             *entries = length;
@@ -425,7 +398,7 @@ pub extern "C" fn bes_apply_if(
         Err(invalid) => return refuse_list(invalid, entries),
     };
     let mut dones = ArrayVec::new();
-    let session = pass.owned.lent();
+    let session = pass.owned.typed().lent();
     match session.apply_if(expected, ops.as_slice(), &mut dones) {
         Ok(number) => {
             *entries = number;
@@ -459,7 +432,7 @@ pub extern "C" fn bes_apply_change(
         Ok(ops) => ops,
         Err(invalid) => return refuse_list(invalid, number),
     };
-    let session = pass.owned.lent();
+    let session = pass.owned.typed().lent();
     match session.apply_change(ops.as_slice()) {
         Ok(commit) => {
             *number = commit;
@@ -493,14 +466,12 @@ pub extern "C" fn bes_begin_change(
     if draft.live {
         return OPEN;
     }
-    match pass.owned.lent().begin_change(alloc) {
+    match pass.owned.typed().lent().begin_change(alloc) {
         Ok(change) => {
             *number = change.number();
             *next = change.first_node();
-            *draft = DraftHandle {
-                live: true,
-                owned: OwnedDraft::of(change),
-            };
+            *draft.owned.typed() = Owned::of(change);
+            draft.live = true;
             DONE
         }
         Err(fault) => refuse(fault, number),
@@ -515,7 +486,7 @@ pub extern "C" fn bes_change_any_kind(draft: &mut DraftHandle) -> u32
     if !draft.live {
         return CLOSED;
     }
-    draft.owned.lent().take_any_kind();
+    draft.owned.typed().lent().take_any_kind();
     DONE
 }
 
@@ -535,7 +506,7 @@ pub extern "C" fn bes_change_add(
     if !draft.live {
         return CLOSED;
     }
-    match collect_operation(draft.owned.lent(), encoded, bytes) {
+    match collect_operation(draft.owned.typed().lent(), encoded, bytes) {
         Ok(made) => {
             *node = made;
             DONE
@@ -568,8 +539,9 @@ pub extern "C" fn bes_change_get(
     }
     match &name(name_bytes) {
         Ok(called) => {
-            let change = draft.owned.lent();
-            read_changed(pass.owned.lent(), change, node, called, attribute, bytes)
+            let session = pass.owned.typed().lent();
+            let change = draft.owned.typed().lent();
+            read_changed(session, change, node, called, attribute, bytes)
         }
         Err(fault) => fault.code(),
     }
@@ -594,7 +566,7 @@ pub extern "C" fn bes_change_batch(
     if !draft.live {
         return CLOSED;
     }
-    let encoded = encoded_operations(alloc, draft.owned.lent().operations());
+    let encoded = encoded_operations(alloc, draft.owned.typed().lent().operations());
     put_encoded(encoded, counts, listed, bytes)
 }
 
@@ -620,7 +592,7 @@ pub extern "C" fn bes_end_change(
     let Some(change) = taken else {
         return CLOSED;
     };
-    match pass.owned.lent().end_change(change) {
+    match pass.owned.typed().lent().end_change(change) {
         Ok(written) => {
             *number = written;
             DONE
@@ -648,17 +620,13 @@ pub extern "C" fn bes_abandon_change(
     let Some(change) = taken else {
         return CLOSED;
     };
-    pass.owned.lent().abandon_change(change);
+    pass.owned.typed().lent().abandon_change(change);
     DONE
 }
 
 /// Moves the change of the handle to a closed handle, and closes this one.
 #[unsafe(no_mangle)]
-pub extern "C" fn bes_move_draft(
-    alloc: Global,
-    draft: &mut DraftHandle,
-    other: &mut DraftHandle,
-) -> u32
+pub extern "C" fn bes_move_draft(draft: &mut DraftHandle, other: &mut DraftHandle) -> u32
     ensures { MovesHandle draft.old.owned.value other.old.owned.value draft.new.owned.value
         other.new.owned.value result }
 {
@@ -668,11 +636,7 @@ pub extern "C" fn bes_move_draft(
     if other.live {
         return OPEN;
     }
-    let closed = DraftHandle {
-        live: false,
-        owned: OwnedDraft::none(alloc),
-    };
-    *other = mem::replace(draft, closed);
+    mem::swap(draft, other);
     DONE
 }
 
@@ -686,7 +650,7 @@ pub extern "C" fn bes_number(pass: &mut Handle, number: &mut u64) -> u32
     if !pass.live {
         return CLOSED;
     }
-    *number = pass.owned.lent().number();
+    *number = pass.owned.typed().lent().number();
     DONE
 }
 
@@ -701,7 +665,7 @@ pub extern "C" fn bes_next(pass: &mut Handle, node: &mut u64) -> u32
         *node = 0;
         return CLOSED;
     }
-    match pass.owned.lent().next() {
+    match pass.owned.typed().lent().next() {
         Ok(next) => {
             *node = next;
             DONE
@@ -734,7 +698,7 @@ pub extern "C" fn bes_journal_from(
         *number = 0;
         return CLOSED;
     }
-    let session = pass.owned.lent();
+    let session = pass.owned.typed().lent();
     match report_entry(alloc, session, from, by, counts, listed, bytes) {
         Ok(length) => {
             *number = length;
@@ -762,7 +726,7 @@ pub extern "C" fn bes_query(
         Ok(query) => query,
         Err(code) => return code,
     };
-    let answer = pass.owned.lent().query(alloc, &query);
+    let answer = pass.owned.typed().lent().query(alloc, &query);
     report(answer, nodes, count)
 }
 
@@ -788,7 +752,7 @@ pub extern "C" fn bes_query_items(
         Ok(query) => query,
         Err(invalid) => return refuse_list(invalid, count),
     };
-    let answer = pass.owned.lent().query(alloc, &built);
+    let answer = pass.owned.typed().lent().query(alloc, &built);
     report(answer, nodes, count)
 }
 
@@ -810,7 +774,7 @@ pub extern "C" fn bes_explain(
         Ok(query) => query,
         Err(code) => return code,
     };
-    let answer = pass.owned.lent().explain(alloc, &query);
+    let answer = pass.owned.typed().lent().explain(alloc, &query);
     report_text(answer, bytes, count)
 }
 
@@ -835,7 +799,7 @@ pub extern "C" fn bes_nodes(
         return CLOSED;
     }
     let room = nodes.len();
-    let answer = pass.owned.lent().nodes(alloc, from, room);
+    let answer = pass.owned.typed().lent().nodes(alloc, from, room);
     report(answer, nodes, count)
 }
 
@@ -850,7 +814,7 @@ pub extern "C" fn bes_status(pass: &mut Handle, usage: &mut Usage, number: &mut 
     if !pass.live {
         return CLOSED;
     }
-    match pass.owned.lent().status() {
+    match pass.owned.typed().lent().status() {
         Ok(status) => {
             *usage = usage_of(&status);
             DONE
@@ -877,7 +841,7 @@ pub extern "C" fn bes_get(
         return CLOSED;
     }
     match &held_name(name_bytes) {
-        Ok(name) => read(pass.owned.lent(), node, name, attribute, bytes),
+        Ok(name) => read(pass.owned.typed().lent(), node, name, attribute, bytes),
         Err(fault) => fault.code(),
     }
 }
@@ -913,7 +877,7 @@ pub extern "C" fn bes_get_named(
     if !pass.live {
         return CLOSED;
     }
-    read(pass.owned.lent(), node, held, attribute, bytes)
+    read(pass.owned.typed().lent(), node, held, attribute, bytes)
 }
 
 /// Reads the attributes with these names from each of these nodes in the pinned version. Returns
@@ -938,7 +902,8 @@ pub extern "C" fn bes_columns(
         *count = 0;
         return CLOSED;
     }
-    match pass.owned.lent().columns(nodes, names, cells, bytes) {
+    let session = pass.owned.typed().lent();
+    match session.columns(nodes, names, cells, bytes) {
         Ok(needed) => {
             *count = needed;
             DONE
@@ -969,7 +934,7 @@ pub extern "C" fn bes_attributes(
     if !pass.live {
         return CLOSED;
     }
-    let answer = pass.owned.lent().attrs(alloc, node);
+    let answer = pass.owned.typed().lent().attrs(alloc, node);
     report_attributes(alloc, node, answer, counts, listed, bytes)
 }
 
@@ -993,7 +958,7 @@ pub extern "C" fn bes_indices(
     if !pass.live {
         return CLOSED;
     }
-    let answer = pass.owned.lent().indices(alloc);
+    let answer = pass.owned.typed().lent().indices(alloc);
     report_indices(alloc, answer, counts, listed, bytes)
 }
 
@@ -1026,8 +991,8 @@ pub extern "C" fn bes_state(
     };
     report_state(
         alloc,
-        pass.owned.lent(),
-        place.owned.lent(),
+        pass.owned.typed().lent(),
+        place.owned.typed().lent(),
         counts,
         listed,
         bytes,
@@ -1043,7 +1008,7 @@ pub extern "C" fn bes_leave(alloc: Global, place: &mut PlaceHandle) -> u32
     if !place.live {
         return CLOSED;
     }
-    let left = mem::replace(&mut place.owned, OwnedPlace::none(alloc)).into_box();
+    let left = place.owned.typed().take(alloc);
     place.live = false;
     drop(left);
     DONE
@@ -1066,10 +1031,8 @@ pub extern "C" fn bes_prepare(
     }
     match prepare(alloc, text) {
         Ok(query) => {
-            *prepared = PreparedHandle {
-                live: true,
-                owned: OwnedQuery::of(query),
-            };
+            *prepared.owned.typed() = Owned::of(query);
+            prepared.live = true;
             DONE
         }
         Err(fault) => refuse(fault, place),
@@ -1094,10 +1057,8 @@ pub extern "C" fn bes_prepare_items(
     }
     match prepare_items(alloc, encoded, bytes) {
         Ok(query) => {
-            *prepared = PreparedHandle {
-                live: true,
-                owned: OwnedQuery::of(query),
-            };
+            *prepared.owned.typed() = Owned::of(query);
+            prepared.live = true;
             DONE
         }
         Err(invalid) => refuse_list(invalid, place),
@@ -1121,7 +1082,7 @@ pub extern "C" fn bes_prepared_text(
     if !prepared.live {
         return CLOSED;
     }
-    match prepared.owned.lent().text(alloc) {
+    match prepared.owned.typed().lent().text(alloc) {
         Ok(printed) => {
             put_text(printed.as_str(), bytes, count);
             DONE
@@ -1133,7 +1094,6 @@ pub extern "C" fn bes_prepared_text(
 /// Moves the prepared query of the handle to a closed handle, and closes this one.
 #[unsafe(no_mangle)]
 pub extern "C" fn bes_move_prepared(
-    alloc: Global,
     prepared: &mut PreparedHandle,
     other: &mut PreparedHandle,
 ) -> u32
@@ -1146,21 +1106,13 @@ pub extern "C" fn bes_move_prepared(
     if other.live {
         return OPEN;
     }
-    let closed = PreparedHandle {
-        live: false,
-        owned: OwnedQuery::none(alloc),
-    };
-    *other = mem::replace(prepared, closed);
+    mem::swap(prepared, other);
     DONE
 }
 
 /// Moves the place of the handle to a closed handle, and closes this one.
 #[unsafe(no_mangle)]
-pub extern "C" fn bes_move_place(
-    alloc: Global,
-    place: &mut PlaceHandle,
-    other: &mut PlaceHandle,
-) -> u32
+pub extern "C" fn bes_move_place(place: &mut PlaceHandle, other: &mut PlaceHandle) -> u32
     ensures { MovesHandle place.old.owned.value other.old.owned.value place.new.owned.value
         other.new.owned.value result }
 {
@@ -1170,11 +1122,7 @@ pub extern "C" fn bes_move_place(
     if other.live {
         return OPEN;
     }
-    let closed = PlaceHandle {
-        live: false,
-        owned: OwnedPlace::none(alloc),
-    };
-    *other = mem::replace(place, closed);
+    mem::swap(place, other);
     DONE
 }
 
@@ -1187,7 +1135,7 @@ pub extern "C" fn bes_release(alloc: Global, prepared: &mut PreparedHandle) -> u
     if !prepared.live {
         return CLOSED;
     }
-    let query = mem::replace(&mut prepared.owned, OwnedQuery::none(alloc)).into_box();
+    let query = prepared.owned.typed().take(alloc);
     prepared.live = false;
     drop(query);
     DONE
@@ -1217,8 +1165,8 @@ pub extern "C" fn bes_query_prepared(
         *count = 0;
         return CLOSED;
     }
-    let query = prepared.owned.lent();
-    let answer = query.find(pass.owned.lent());
+    let query = prepared.owned.typed().lent();
+    let answer = query.find(pass.owned.typed().lent());
     report_found(answer, query, nodes, count)
 }
 
@@ -1256,8 +1204,9 @@ pub extern "C" fn bes_ordered(
         descending: descending != 0,
         most: nodes.len(),
     };
-    let query = prepared.owned.lent();
-    find_ordered(pass.owned.lent(), query, order, cursor, nodes, count, more)
+    let query = prepared.owned.typed().lent();
+    let session = pass.owned.typed().lent();
+    find_ordered(session, query, order, cursor, nodes, count, more)
 }
 
 /// Returns a prepared query's nodes in the pinned version in ascending order, starting at a given
@@ -1283,8 +1232,8 @@ pub extern "C" fn bes_first(
     if !prepared.live {
         return CLOSED;
     }
-    let query = prepared.owned.lent();
-    find_first(pass.owned.lent(), query, from, nodes, count)
+    let query = prepared.owned.typed().lent();
+    find_first(pass.owned.typed().lent(), query, from, nodes, count)
 }
 
 /// Returns arbitrary nodes of a prepared query in the pinned version, without duplicates, as many
@@ -1309,8 +1258,8 @@ pub extern "C" fn bes_any(
     if !prepared.live {
         return CLOSED;
     }
-    let query = prepared.owned.lent();
-    find_any(pass.owned.lent(), query, nodes, count)
+    let query = prepared.owned.typed().lent();
+    find_any(pass.owned.typed().lent(), query, nodes, count)
 }
 
 /// Returns the nodes that a prepared query found when it last ran, starting at an index, as many as
@@ -1330,7 +1279,7 @@ pub extern "C" fn bes_found(
     if !prepared.live {
         return CLOSED;
     }
-    let found = prepared.owned.lent().found();
+    let found = prepared.owned.typed().lent().found();
     *count = found.len() as u64;
     put(nodes, from_on(found, from));
     DONE
@@ -1357,7 +1306,8 @@ pub extern "C" fn bes_refresh(
     if !prepared.live {
         return CLOSED;
     }
-    refresh_prepared(pass.owned.lent(), prepared.owned.lent(), counts)
+    let query = prepared.owned.typed().lent();
+    refresh_prepared(pass.owned.typed().lent(), query, counts)
 }
 
 /// Refreshes a prepared query in the pinned version from what was written since its last refresh,
@@ -1382,7 +1332,8 @@ pub extern "C" fn bes_refresh_changed(
     if !prepared.live {
         return CLOSED;
     }
-    refresh_changed(pass.owned.lent(), prepared.owned.lent(), counts)
+    let query = prepared.owned.typed().lent();
+    refresh_changed(pass.owned.typed().lent(), query, counts)
 }
 
 /// Returns the nodes that the last refresh added to a prepared query's answer, and those that it
@@ -1401,7 +1352,7 @@ pub extern "C" fn bes_changes(
     if !prepared.live {
         return CLOSED;
     }
-    let query = prepared.owned.lent();
+    let query = prepared.owned.typed().lent();
     put(created, query.created());
     put(removed, query.removed());
     DONE
@@ -1418,7 +1369,7 @@ pub extern "C" fn bes_journal(pass: &mut Handle, bytes: &mut [u8], count: &mut u
         *count = 0;
         return CLOSED;
     }
-    match pass.owned.lent().journal_text() {
+    match pass.owned.typed().lent().journal_text() {
         Ok(text) => {
             put_text(text.as_str(), bytes, count);
             DONE

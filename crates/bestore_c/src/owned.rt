@@ -1,45 +1,42 @@
-//! The content of a pass handle: a boxed session that is kept as a pointer, or nothing.
+//! The content of a handle: a boxed value that is kept as a pointer, or nothing.
 //!
-//! The type of the pointer doesn't mention the session, so the struct can be stored in memory that
-//! C passes.
+//! An exported function takes no struct with a type parameter. So a handle holds one of the structs
+//! of `handle`, which have the same fields, and lends it as an `Owned`.
 ghost use Rattle.std.specs.Prelude.{◌≡◌, Option, None, Some, is_some, true};
-ghost use Rattle.bestore_c.specs.Imports.{ghosts, the_row, Session};
 ghost use Rattle.bestore_c.specs.Owned.{may_own};
 
-use crate::loose::Loose;
-use be_session::Session;
-use std::alloc::Global;
+use std::alloc::Allocator;
 use std::marker::Model;
+use std::mem;
 
+/// A box that is kept as a pointer, or nothing.
 #[repr(C)]
 #[derive(Drop)]
-pub struct Owned {
-    at: *mut u8,
-    alloc: Global,
-    pub ghost value: { Option (the_row).Denot },
+pub struct Owned<T, A: Allocator> {
+    at: *mut T,
+    alloc: A,
+    pub ghost value: { Option T },
 }
 
-impl Model for Owned {
-    ghost also_owns = { λ p. may_own (ghosts.dealloc_token p.alloc) the_row p.at p.value };
+impl<T, A: Allocator> Model for Owned<T, A> {
+    ghost also_owns = { λ p. may_own (A.dealloc_token p.alloc) T.row p.at p.value };
 }
 
-unsafe impl Send for Owned {}
-
-impl Owned {
+impl<T: Drop, A: Allocator> Owned<T, A> {
     ghost use Rattle.bestore_c.specs.Imports.{sem};
-    ghost use Rattle.bestore_c.specs.Lent.{LendsSession};
+    ghost use Rattle.bestore_c.specs.Lent.{LendsContent};
 
-    /// Lends the owned session. When the borrow ends, the handle owns the session as it is then.
-    pub fn lent(&mut self) -> &mut Session
+    /// Lends the content. When the borrow ends, the handle owns the content as it is then.
+    pub fn lent(&mut self) -> &mut T
         requires { is_some self.old.value ≡ true }
-        ensures* writes_back { sem 𝓛 (LendsSession self.entry result) }
+        ensures* writes_back { sem 𝓛 (LendsContent T.row A.row A.dealloc_token self.entry result) }
         ensures value { self.old.value ≡ Some result.now }
     {
-        unsafe { &mut *(self.at as *mut Session) }
+        unsafe { &mut *self.at }
     }
 
     /// Returns an owner of nothing, which is a null pointer.
-    pub fn none(alloc: Global) -> Owned
+    fn none(alloc: A) -> Owned<T, A>
         ensures { result.value ≡ None }
     {
         Owned {
@@ -48,39 +45,29 @@ impl Owned {
         }
     }
 
-    fn of_loose(loose: Loose<Session, Global>) -> Owned
-        ensures { result.value ≡ Some loose.value }
+    /// Takes ownership of a value, whose box becomes a pointer.
+    pub fn of(value: Box<T, A>) -> Owned<T, A>
+        ensures { result.value ≡ Some value.value }
     {
-        let Loose { at, alloc } = loose;
-        Owned {
-            at: at as *mut u8,
-            alloc,
-        }
+        let (at, alloc) = Box::into_raw_with_allocator(value);
+        Owned { at, alloc }
     }
 
-    fn into_loose(self) -> Loose<Session, Global>
+    /// Turns the owned value back into a box.
+    fn into_box(self) -> Box<T, A>
         requires { is_some self.value ≡ true }
         ensures { self.value ≡ Some result.value }
     {
         let Owned { at, alloc } = self;
-        Loose {
-            at: at as *mut Session,
-            alloc,
-        }
+        unsafe { Box::from_raw(alloc, at) }
     }
 
-    /// Takes ownership of a session, whose box becomes a pointer.
-    pub fn of(session: Box<Session, Global>) -> Owned
-        ensures { result.value ≡ Some session.value }
+    /// Takes the owned value out, and leaves nothing.
+    pub fn take(&mut self, alloc: A) -> Box<T, A>
+        requires { is_some self.old.value ≡ true }
+        ensures taken { self.old.value ≡ Some result.value }
+        ensures left { self.new.value ≡ None }
     {
-        Owned::of_loose(Loose::of(session))
-    }
-
-    /// Turns the owned session back into a box.
-    pub fn into_box(self) -> Box<Session, Global>
-        requires { is_some self.value ≡ true }
-        ensures { self.value ≡ Some result.value }
-    {
-        self.into_loose().into_box()
+        mem::replace(self, Owned::none(alloc)).into_box()
     }
 }

@@ -6,7 +6,7 @@ ghost use Rattle.bestore_c.specs.States.{ReportsNext, ReportsState, unreported_a
 
 use crate::handle::{Counts, PlaceHandle};
 use crate::listing::put_encoding;
-use crate::owned_place::OwnedPlace;
+use crate::owned::Owned;
 use be_session::{Operation, Session, StatePlace};
 use std::alloc::{AllocError, Global};
 
@@ -21,10 +21,8 @@ pub(crate) fn begin(alloc: Global, place: &mut PlaceHandle) -> Result<(), AllocE
     }
     match Box::new(alloc, StatePlace::new(alloc)) {
         Ok(begun) => {
-            *place = PlaceHandle {
-                live: true,
-                owned: OwnedPlace::of(begun),
-            };
+            *place.owned.typed() = Owned::of(begun);
+            place.live = true;
             Ok(())
         }
         Err(_) => Err(AllocError),

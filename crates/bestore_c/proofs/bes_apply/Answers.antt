@@ -21,7 +21,7 @@ returns-in-Err-clause-pass c =
 
 pub returns-clause-pass : goal.returns-clause-pass
 returns-clause-pass c =
-    let was : c.args.pass.now.owned.value ≡ Some c.lent.result.now = c.lent.ensures.value in
+    let was : c.args.pass.now.owned.value ≡ Some c.lent.result.now = c.typed.ensures.value ∙ c.lent.ensures.value in
     called c.args.pass.now.owned.value _ c.lent.result.now c.apply-answer.new.self (IsClosed c.refuse.new.number c.refuse.result) _
     was refl c.apply-answer.ensures.store.0 c.apply-answer.ensures.store.1
     (inr (

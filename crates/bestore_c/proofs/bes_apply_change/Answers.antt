@@ -24,7 +24,7 @@ returns-in-Err c =
 
 pub returns : goal.returns
 returns c =
-    let was : c.args.pass.now.owned.value ≡ Some c.lent-session.result.now = c.lent-session.ensures.value in
+    let was : c.args.pass.now.owned.value ≡ Some c.lent-session.result.now = c.typed.ensures.value ∙ c.lent-session.ensures.value in
     let number = c.refuse_list-in-Err-apply_change.new.number in
     record {
       pass = called c.args.pass.now.owned.value _ c.lent-session.result.now c.apply_change.new.self (IsClosed number c.refuse_list-in-Err-apply_change.result) _

@@ -21,7 +21,7 @@ returns-in-Err-clause-pass c =
 
 pub returns-clause-pass : goal.returns-clause-pass
 returns-clause-pass c =
-    let was : c.args.pass.now.owned.value ≡ Some c.lent-session.result.now = c.lent-session.ensures.value in
+    let was : c.args.pass.now.owned.value ≡ Some c.lent-session.result.now = c.typed.ensures.value ∙ c.lent-session.ensures.value in
     called c.args.pass.now.owned.value _ c.lent-session.result.now c.apply_if.new.self (IsClosed c.refuse.new.number c.refuse.result) _
     was refl c.apply_if.ensures.store.0 c.apply_if.ensures.store.1
     (inr (

@@ -1,4 +1,4 @@
-use Rattle.std.proofs.Common.{◌≡◌, Ok, Some, length, refl}
+use Rattle.std.proofs.Common.{◌≡◌, Ok, Some, length, refl, ◌∙◌}
 use Rattle.be_paged_reading.specs.Nodes.{nodes_from}
 use Rattle.be_store.specs.Passes.{HasRead, volume_pinned}
 use Rattle.be_table.specs.Seats.{pinned_number}
@@ -8,7 +8,7 @@ use Rattle.bestore_c.proofs.bes_nodes.Goals as goal
 
 pub returns-clause-pass : goal.returns-clause-pass
 returns-clause-pass c =
-    let was : c.args.pass.now.owned.value ≡ Some c.lent.result.now = c.lent.ensures.value in
+    let was : c.args.pass.now.owned.value ≡ Some c.lent.result.now = c.typed.ensures.value ∙ c.lent.ensures.value in
     let before = c.lent.result.now.knows in
     called c.args.pass.now.owned.value _ c.lent.result.now c.nodes-answer.new.self (IsClosed c.report.new.count c.report.result)
     (λ s t. HasRead s.knows t.knows × PutsOutAtPin (pinned_number s.knows.phase)

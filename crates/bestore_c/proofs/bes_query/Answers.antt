@@ -1,4 +1,4 @@
-use Rattle.std.proofs.Common.{◌≡◌, Some, inl, inr, refl}
+use Rattle.std.proofs.Common.{◌≡◌, Some, inl, inr, refl, ◌∙◌}
 use Rattle.be_table.specs.Seats.{pinned_number}
 use Rattle.be_store.specs.Passes.{volume_pinned}
 use Rattle.be_volume.specs.Query.{scan}
@@ -15,7 +15,7 @@ returns-in-Err-clause-pass c =
 
 pub returns-clause-pass : goal.returns-clause-pass
 returns-clause-pass c =
-    let was : c.args.pass.now.owned.value ≡ Some c.lent.result.now = c.lent.ensures.value in
+    let was : c.args.pass.now.owned.value ≡ Some c.lent.result.now = c.typed.ensures.value ∙ c.lent.ensures.value in
     called c.args.pass.now.owned.value _ c.lent.result.now c.query-answer.new.self (IsClosed c.report.new.count c.report.result)
     (λ s t. Finds s t c.args.text.now c.args.nodes.now c.report.new.nodes c.report.new.count c.report.result) was refl c.query-answer.ensures.store.0
     c.query-answer.ensures.store.1

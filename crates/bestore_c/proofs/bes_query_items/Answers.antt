@@ -24,7 +24,7 @@ returns-in-Err-clause-pass c =
 
 pub returns-clause-pass : goal.returns-clause-pass
 returns-clause-pass c =
-    let was : c.args.pass.now.owned.value ≡ Some c.lent.result.now = c.lent.ensures.value in
+    let was : c.args.pass.now.owned.value ≡ Some c.lent.result.now = c.typed.ensures.value ∙ c.lent.ensures.value in
     called c.args.pass.now.owned.value _ c.lent.result.now c.query-answer.new.self (IsClosed c.report.new.count c.report.result)
     (λ s t. FindsBuilt s t c.args.encoded.now c.args.bytes.now c.args.nodes.now c.report.new.nodes c.report.new.count c.report.result) was refl
     c.query-answer.ensures.store.0 c.query-answer.ensures.store.1

@@ -19,10 +19,10 @@ returns-in_default-clause-pass c =
 
 pub returns-clause-pass : goal.returns-clause-pass
 returns-clause-pass c =
-    let was : c.args.pass.now.owned.value ≡ Some c.lent.result.now = c.lent.ensures.value in
+    let was : c.args.pass.now.owned.value ≡ Some c.lent.result.now = c.typed.ensures.value ∙ c.lent.ensures.value in
     let volume = volume_pinned c.lent.result.now.knows in
     let there : unreported volume c.lent-2.result.now ≡ unreported_at volume c.args.place.now.owned.value =
-    ap (unreported_at volume) (sym c.lent-2.ensures.value) ∙ c.begin.ensures.same volume in
+    ap (unreported_at volume) (sym (c.typed-2.ensures.value ∙ c.lent-2.ensures.value)) ∙ c.begin.ensures.same volume in
     called c.args.pass.now.owned.value _ c.lent.result.now c.report_state.new.session _ _ was refl c.report_state.ensures.read.0 c.report_state.ensures.read.1 (
       c.report_state.ensures.read.2,
       subst (λ before. ReportsState (pinned_number c.lent.result.now.knows.phase) before (unreported volume c.report_state.new.place) c.report_state.new.counts
