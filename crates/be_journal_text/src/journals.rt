@@ -76,9 +76,7 @@ fn guess_entry(alloc: Global, number: u64, line: &[u8]) -> Result<Option<Entry>,
     let Some(ops) = read_ops(alloc, ops)? else {
         return Ok(None);
     };
-    let Some(dones) = read_outcomes(alloc, dones)? else {
-        return Ok(None);
-    };
+    let dones = read_outcomes(alloc, dones)?;
     Ok(entry_of(by, ops, dones))
 }
 

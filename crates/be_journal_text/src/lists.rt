@@ -55,9 +55,6 @@ pub fn read_ops(alloc: Global, text: &[u8]) -> Result<Option<Vec<Op>>, AllocErro
     let mut rest = text;
     while !rest.is_empty() {
         let (part, beyond) = split_around(b';', rest);
-        if part.is_empty() {
-            return Ok(None);
-        }
         let Some(op) = read_op(alloc, part)? else {
             return Ok(None);
         };
@@ -68,20 +65,16 @@ pub fn read_ops(alloc: Global, text: &[u8]) -> Result<Option<Vec<Op>>, AllocErro
 }
 
 /// The outcomes in a text that separates them with `; `.
-pub fn read_outcomes(alloc: Global, text: &[u8]) -> Result<Option<Vec<Done>>, AllocError>
+pub fn read_outcomes(alloc: Global, text: &[u8]) -> Result<Vec<Done>, AllocError>
     ensures { IfOk result (λ read. (dones : List AnyDone) → All CanBeDone dones → text.now
-        ≡ join_by done_text (codes "; ") dones →
-        option_map (λ v. v.items) read ≡ Some dones) }
+        ≡ join_by done_text (codes "; ") dones → read.items ≡ dones) }
 {
     let mut dones = Vec::new(alloc);
     let mut rest = text;
     while !rest.is_empty() {
         let (part, beyond) = split_around(b';', rest);
-        if part.is_empty() {
-            return Ok(None);
-        }
         dones.push(read_done(part))?;
         rest = skip(1, beyond);
     }
-    Ok(Some(dones))
+    Ok(dones)
 }

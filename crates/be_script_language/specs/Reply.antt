@@ -70,13 +70,17 @@ abbrev pub value_line : Option Value → List ℕ
 value_line None = codes "none\n"
 value_line (Some v) = kind_and_value v ++ codes "\n"
 
+-- `"NAME" TEXT`
+abbrev pub name_line : List ℕ → List ℕ → List ℕ
+name_line name text = quoted name ++ (codes " " ++ (text ++ codes "\n"))
+
 -- `"NAME" KIND VALUE`
 abbrev pub attribute_line : List ℕ × Value → List ℕ
-attribute_line a = quoted a.0 ++ (codes " " ++ (kind_and_value a.1 ++ codes "\n"))
+attribute_line a = name_line a.0 (kind_and_value a.1)
 
 -- `"NAME" KIND`
 abbrev pub kind_line : List ℕ × Kind → List ℕ
-kind_line i = quoted i.0 ++ (codes " " ++ (kind_name i.1 ++ codes "\n"))
+kind_line i = name_line i.0 (kind_name i.1)
 
 abbrev pub done_line : Done → List ℕ
 done_line done = done_text done ++ codes "\n"

@@ -158,42 +158,31 @@ fn value_line(alloc: Global, value: &Option<Value>) -> Result<String, AllocError
     }
 }
 
-/// `"NAME" KIND VALUE`.
-fn attribute_line(alloc: Global, name: &Name, value: &Value) -> Result<String, AllocError>
-    ensures { IfOk result (λ text. string_bytes text ≡ spec.attribute_line (name.now, value.now)) }
+/// `"NAME" TEXT`.
+fn name_line(alloc: Global, name: &Name, text: &str) -> Result<String, AllocError>
+    ensures { IfOk result (λ line. string_bytes line ≡ spec.name_line name.now text.now) }
 {
     let name = quoted(alloc, name.as_str())?;
-    let value = kind_and_value(alloc, value)?;
-    format!(in alloc; "{name} {value}\n")
+    format!(in alloc; "{name} {text}\n")
 }
 
 fn attributes_text(alloc: Global, list: &[(Name, Value)]) -> Result<String, AllocError>
     ensures { IfOk result (λ text. string_bytes text ≡ spec.text_of (spec.attributes list.now)) }
 {
-    let count = list.len();
-    let mut text = format!(in alloc; "attrs {count}\n")?;
+    let mut text = format!(in alloc; "attrs {}\n", list.len())?;
     for (name, value) in list {
-        text.push_str(attribute_line(alloc, name, value)?.as_str())?;
+        let value = kind_and_value(alloc, value)?;
+        text.push_str(name_line(alloc, name, value.as_str())?.as_str())?;
     }
     Ok(text)
-}
-
-/// `"NAME" KIND`.
-fn kind_line(alloc: Global, name: &Name, kind: Kind) -> Result<String, AllocError>
-    ensures { IfOk result (λ text. string_bytes text ≡ spec.kind_line (name.now, kind)) }
-{
-    let name = quoted(alloc, name.as_str())?;
-    let kind = kind.name();
-    format!(in alloc; "{name} {kind}\n")
 }
 
 fn kinds_text(alloc: Global, list: &[(Name, Kind)]) -> Result<String, AllocError>
     ensures { IfOk result (λ text. string_bytes text ≡ spec.text_of (spec.kinds list.now)) }
 {
-    let count = list.len();
-    let mut text = format!(in alloc; "indices {count}\n")?;
+    let mut text = format!(in alloc; "indices {}\n", list.len())?;
     for (name, kind) in list {
-        text.push_str(kind_line(alloc, name, *kind)?.as_str())?;
+        text.push_str(name_line(alloc, name, kind.name())?.as_str())?;
     }
     Ok(text)
 }

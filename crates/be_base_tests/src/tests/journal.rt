@@ -247,17 +247,13 @@ journal 3 unset 7 m -> ok | rmindex k -> ok | drop 7 -> ok => 1 by 0 unset 7 \"m
     replies(rt.alloc(), lines)
 }
 
-/// A journal of 1,100 entries is completely reported, checked and replayed.
+/// A journal of 1,100 entries is completely reported, checked and replayed. Entries are found in a
+/// journal's first block when it is exactly full, and in the following blocks.
 #[test]
-fn long_journal(rt: HostRuntime) -> Result<(), Fail> {
-    let lines = "nodes => 1100 by 0 new -> node 1100 / legal, spent, next 1101 / attrs 0";
-    replies(rt.alloc(), lines)
-}
-
-/// Entries are found in a journal's first block when it is exactly full, and in the following
-/// blocks.
-#[test]
-fn journal_of_blocks(rt: HostRuntime) -> Result<(), Fail> {
-    let lines = "lists 15 => 15 found\nlists 16 => 16 found\nlists 46 => 46 found";
+fn long_journals(rt: HostRuntime) -> Result<(), Fail> {
+    let lines = "nodes => 1100 by 0 new -> node 1100 / legal, spent, next 1101 / attrs 0
+lists 15 => 15 found
+lists 16 => 16 found
+lists 46 => 46 found";
     replies(rt.alloc(), lines)
 }

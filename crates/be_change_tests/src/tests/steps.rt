@@ -12,6 +12,13 @@ use std::alloc::Global;
 /// The maximum number of tries of a write while another pass holds the lock.
 pub(crate) const TRIES: u64 = 10_000_000;
 
+/// The limits of a store with two passes.
+const FOR_TWO: Limits = Limits {
+    pages: 64,
+    passes: 2,
+    commits: 100,
+};
+
 /// What a call that collects an operation returns. WrongKind becomes NotIndexable here.
 pub(crate) fn collected<T: Drop>(answer: Result<T, CollectError>) -> Result<T, Refusal> {
     match answer {
@@ -171,9 +178,9 @@ pub(crate) fn open_for_one(alloc: Global, commits: u64) -> Result<(Store, Pass),
     ensures { IfOk result (λ r. IsPassOf r.0 r.1) }
 {
     let limits = Limits {
-        pages: 64,
         passes: 1,
         commits,
+        ..FOR_TWO
     };
     let (store, mut passes) = Store::open(alloc, limits)?;
     match passes.pop() {
@@ -186,12 +193,7 @@ pub(crate) fn open_for_one(alloc: Global, commits: u64) -> Result<(Store, Pass),
 pub(crate) fn open_for_two(alloc: Global) -> Result<(Store, Pass, Pass), Refusal>
     ensures { IfOk result (λ r. IsPassOf r.0 r.1 × IsPassOf r.0 r.2) }
 {
-    let limits = Limits {
-        pages: 64,
-        passes: 2,
-        commits: 100,
-    };
-    let (store, passes) = Store::open(alloc, limits)?;
+    let (store, passes) = Store::open(alloc, FOR_TWO)?;
     let (first, second) = both_of(passes)?;
     Ok((store, first, second))
 }

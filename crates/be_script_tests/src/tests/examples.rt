@@ -3,18 +3,13 @@ use super::{FIVE, check, check_after, check_bytes};
 use be_test_tools::{COVERAGE, EXAMPLES, TEXTS, TWO_INDICES};
 use std::test::Fail;
 
-/// The examples that every form of a volume has to answer the same way.
+/// The examples that every form of a volume has to answer the same way, and what only a script can
+/// ask after three of them.
 #[test]
 fn shared_examples(rt: HostRuntime) -> Result<(), Fail> {
     for rows in EXAMPLES {
         check(rt.alloc(), rows)?;
     }
-    Ok(())
-}
-
-/// What only a script can ask, after three of these examples.
-#[test]
-fn after_examples(rt: HostRuntime) -> Result<(), Fail> {
     check_after(
         rt.alloc(),
         TEXTS,
@@ -28,15 +23,13 @@ fn after_examples(rt: HostRuntime) -> Result<(), Fail> {
 
 #[test]
 fn faults(rt: HostRuntime) -> Result<(), Fail> {
-    check(
-        rt.alloc(),
-        r#"
+    let rows = r#"
         query name=="[a" => refused 13 BadPattern 7
         query (a==1 => refused 12 Syntax 5
         query a==1 b => refused 12 Syntax 5
         query a==1 & b==2 => refused 12 Syntax 5
-        query => refused 12 Syntax 0"#,
-    )
+        query => refused 12 Syntax 0"#;
+    check(rt.alloc(), rows)
 }
 
 /// A batch is written whole, or not at all if one of its operations is refused. The reply says if

@@ -137,18 +137,10 @@ fn refused_memory_of_a_journal_run(rt: HostRuntime) -> Result<(), Fail> {
     let alloc = rt.alloc();
     let mut printed = list_with_room(alloc)?;
     let ended = run_with_journal(alloc, &mut b"new\n".as_slice(), &mut printed, LIMITS);
-    let (well, by_memory) = (
-        matches!(&ended, Ok(true)),
-        matches!(&ended, Err(RunFault::Memory)),
-    );
-    assert!(rt;
-        may_write(
-            str::from_utf8(&printed)?,
-            well,
-            by_memory,
-            [OF_ONE, OF_NONE]
-        )
-    );
+    let well = matches!(&ended, Ok(true));
+    let by_memory = matches!(&ended, Err(RunFault::Memory));
+    let printed = str::from_utf8(&printed)?;
+    assert!(rt; may_write(printed, well, by_memory, [OF_ONE, OF_NONE]));
     Ok(())
 }
 

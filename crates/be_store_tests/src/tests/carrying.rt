@@ -1,62 +1,28 @@
-//! Writes a state to a second room, list by list, while another pass writes.
+//! Writes a state to a second room while another pass writes.
 ghost use Rattle.std.specs.Prelude.{◌≡◌};
 ghost use Rattle.be_store.specs.Passes.{IsPassOf};
 ghost use Rattle.be_store_tests.specs.Staying.{StaysPass};
 
 use crate::tests::races::make_hundred;
 use crate::tests::room::{Room, for_one};
-use crate::tests::states::next_list;
-use be_store::{Pass, Place, Refusal, Store};
+use crate::tests::states::lists_of;
+use be_store::{Pass, Refusal, Store};
 use be_test_tools::again;
 use std::alloc::Global;
 use std::thread;
 use std::thread::Threads;
 
-/// Reads the next list and writes it to the room; reads again if memory runs out. Returns false if
-/// there was none.
-fn carry_list(
-    store: &Store,
-    alloc: Global,
-    pass: &mut Pass,
-    place: &mut Place,
-    room: &mut Room,
-) -> Result<bool, Refusal>
-    requires { IsPassOf store.now pass.old }
-    ensures { StaysPass store.now pass.old pass.new }
-{
-    let Some(ops) = again!(next_list(store, alloc, pass, place))? else {
-        return Ok(false);
-    };
-    room.write_list(ops.as_slice())?;
-    Ok(true)
-}
-
-/// Writes all lists at the pin to the room. BadLimits if there are a hundred or more.
-fn carry_lists(
-    store: &Store,
-    alloc: Global,
-    pass: &mut Pass,
-    room: &mut Room,
-) -> Result<(), Refusal>
-    requires { IsPassOf store.now pass.old }
-    ensures { StaysPass store.now pass.old pass.new }
-{
-    let mut place = Place::new(alloc);
-    for _ in 0..100 {
-        if !carry_list(store, alloc, pass, &mut place, room)? {
-            return Ok(());
-        }
-    }
-    Err(Refusal::BadLimits)
-}
-
-/// A room to which the state at the pin was written, with each list accepted.
+/// A room to which the state at the pin was written, with each list accepted. The lists are read
+/// again if memory runs out.
 fn carried(store: &Store, alloc: Global, pass: &mut Pass) -> Result<Room, Refusal>
     requires { IsPassOf store.now pass.old }
     ensures { StaysPass store.now pass.old pass.new }
 {
+    let lists = again!(lists_of(store, alloc, pass))?;
     let mut room = for_one(alloc, 64, 100)?;
-    carry_lists(store, alloc, pass, &mut room)?;
+    for ops in &lists {
+        room.write_list(ops.as_slice())?;
+    }
     Ok(room)
 }
 

@@ -12,15 +12,7 @@ use std::alloc::{AllocError, Global};
 /// The next operations, None after the last, or why they were refused.
 type List = Result<Option<Vec<Op>>, Refusal>;
 
-/// Adds a line for each of these operations. Returns false if there are none.
-fn push_list(alloc: Global, list: List, text: &mut String) -> Result<bool, Refusal> {
-    let Some(ops) = list? else {
-        return Ok(false);
-    };
-    push_lines(alloc, ops.as_slice(), text)?;
-    Ok(true)
-}
-
+/// Adds a line for each of these operations.
 fn push_lines(alloc: Global, ops: &[Op], text: &mut String) -> Result<(), AllocError> {
     for op in ops {
         text.push_str(op_text(alloc, op)?.as_str())?;
@@ -40,7 +32,7 @@ fn first_list(store: &Store, alloc: Global, pass: &mut Pass, place: &mut Place) 
 }
 
 /// The next list at the pin; for a pass that isn't pinned, the first list.
-pub(crate) fn next_list(store: &Store, alloc: Global, pass: &mut Pass, place: &mut Place) -> List
+fn next_list(store: &Store, alloc: Global, pass: &mut Pass, place: &mut Place) -> List
     requires { IsPassOf store.now pass.old }
     ensures { StaysPass store.now pass.old pass.new }
 {
@@ -50,48 +42,40 @@ pub(crate) fn next_list(store: &Store, alloc: Global, pass: &mut Pass, place: &m
     }
 }
 
-/// Adds a line for each operation of the next list. Returns whether another list may follow.
-fn push_next(
+/// The lists at the pin; for a pass that isn't pinned, only the first list. BadLimits if there are
+/// a hundred or more.
+pub(crate) fn lists_of(
     store: &Store,
     alloc: Global,
     pass: &mut Pass,
-    place: &mut Place,
-    text: &mut String,
-) -> Result<bool, Refusal>
+) -> Result<Vec<Vec<Op>>, Refusal>
     requires { IsPassOf store.now pass.old }
     ensures { StaysPass store.now pass.old pass.new }
 {
-    let list = next_list(store, alloc, pass, place);
-    Ok(push_list(alloc, list, text)? && pass.pinned().is_some())
-}
-
-/// Adds a line for each operation of up to a hundred lists.
-fn push_lists(
-    store: &Store,
-    alloc: Global,
-    pass: &mut Pass,
-    text: &mut String,
-) -> Result<(), Refusal>
-    requires { IsPassOf store.now pass.old }
-    ensures { StaysPass store.now pass.old pass.new }
-{
+    let mut lists = Vec::new(alloc);
     let mut place = Place::new(alloc);
     for _ in 0..100 {
-        if !push_next(store, alloc, pass, &mut place, text)? {
-            return Ok(());
+        let Some(ops) = next_list(store, alloc, pass, &mut place)? else {
+            return Ok(lists);
+        };
+        lists.push(ops)?;
+        if pass.pinned().is_none() {
+            return Ok(lists);
         }
     }
-    Ok(())
+    Err(Refusal::BadLimits)
 }
 
-/// The operations of up to a hundred lists at the pin; if the pass isn't pinned, only those of the
-/// first list.
+/// The operations of the lists at the pin; if the pass isn't pinned, only those of the first list.
 pub(crate) fn state_text(store: &Store, alloc: Global, pass: &mut Pass) -> Text
     requires { IsPassOf store.now pass.old }
     ensures { StaysPass store.now pass.old pass.new }
 {
+    let lists = lists_of(store, alloc, pass)?;
     let mut text = String::new(alloc);
-    push_lists(store, alloc, pass, &mut text)?;
+    for ops in &lists {
+        push_lines(alloc, ops.as_slice(), &mut text)?;
+    }
     Ok(text)
 }
 

@@ -1,7 +1,6 @@
 //! Four threads whose writes depend on what they have read.
 ghost use Rattle.std.specs.Prelude.{◌≡◌, None};
-ghost use Rattle.be_store.specs.Passes.{IsPassOf};
-ghost use Rattle.be_store.specs.Seats.{pinned_number};
+ghost use Rattle.be_store_writers_tests.specs.Imports.{pinned_number, IsPassOf};
 
 use be_store::{ApplyIfError, Kind, Limits, Name, Op, Pass, Refusal, Store, Value, parse};
 use std::alloc::{AllocGlobal, Global};
@@ -97,21 +96,20 @@ fn change_fifty(store: &Store, mut pass: Pass) -> Result<(), Refusal>
     Ok(())
 }
 
+/// Makes fifty changes by each of two passes, on two threads.
 fn change_by_two<R: Threads + Sync>(
     rt: &R,
     store: &Store,
     first: Pass,
     second: Pass,
-) -> Result<(), Refusal>
+) -> (Result<(), Refusal>, Result<(), Refusal>)
     requires { IsPassOf store.now first × IsPassOf store.now second }
 {
-    let (one, other) = thread::join(
+    thread::join(
         rt,
         || change_fifty(store, first),
         || change_fifty(store, second),
-    );
-    one?;
-    other
+    )
 }
 
 /// Whether a query finds exactly fifty nodes, at a pin that is released after the read.
@@ -183,7 +181,7 @@ pub(crate) fn change_by_four<R: AllocGlobal + Threads + Sync>(
         &mut reader,
         &[Op::New, Op::MkIndex(Name::new("by")?, Kind::Ullg)],
     )?;
-    let (one, other) = thread::join(
+    let ((one, two), (three, four)) = thread::join(
         rt,
         ||
             requires { IsPassOf store first × IsPassOf store second }
@@ -193,6 +191,8 @@ pub(crate) fn change_by_four<R: AllocGlobal + Threads + Sync>(
         { change_by_two(rt, &store, third, fourth) },
     );
     one?;
-    other?;
+    two?;
+    three?;
+    four?;
     totals(&store, rt.alloc(), &mut reader)
 }

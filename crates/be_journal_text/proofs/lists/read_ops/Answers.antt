@@ -44,13 +44,3 @@ loop-rest-smaller c =
     let some : 1 ≤ length c.loop-rest.rest.now = grind (arith, nat_tests, c.loop-rest-test.true, c.is_empty.ensures) in
     let less : length c.skip-rest.result.now < length c.loop-rest.rest.now =
     omega (arith, ap length c.skip-rest.ensures, length-drop 1 c.split_around.result.1.now, c.split_around.ensures.shorter some) in less
-
-pub returns-then-is_empty : goal.returns-then-is_empty
-returns-then-is_empty c = λ ops are is.
-    let some : 1 ≤ length c.loop-rest.rest.now = grind (arith, nat_tests, c.loop-rest-test.true, c.is_empty.ensures) in
-    let rest = c.loop-rest.rest.now in
-    let cut = joined_cut CanBeOp op_text rest c.split_around.result.0.now c.split_around.result.1.now (λ y h. op_part 59 refl refl y h)
-    c.split_around.ensures.ends c.split_around.ensures.alone in
-    let first = first_left CanBeOp op_text c.args.text.now rest c.split_around.result.0.now _ c.loop-rest.ops.items some c.loop-rest.invariant cut ops are is in
-    let none : length c.split_around.result.0.now ≡ 0 = grind (arith, nat_tests, c.if-is_empty.ensures) in
-    absurd (omega (arith, op_long first.0 first.1, ap length first.2, none))

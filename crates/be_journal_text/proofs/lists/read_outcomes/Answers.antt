@@ -1,11 +1,11 @@
-use Rattle.std.proofs.Common.{◌≡◌, ◌<◌, ◌≤◌, List, length, Some, refl, sym, ap, ◌∙◌, subst, arith}
+use Rattle.std.proofs.Common.{◌≡◌, ◌<◌, ◌≤◌, List, length, refl, sym, ap, ◌∙◌, subst, arith}
 use Rattle.std.proofs.lemmas.Bool.Decides.{nat_tests}
 use Rattle.std.proofs.lemmas.List.{length-drop}
 use Rattle.be_journal.specs.Text.{done_text}
 use Rattle.be_volume.specs.declared.ops.Done.{Done}
 use Rattle.be_entry_bytes.specs.Encoding.{CanBeDone}
 use Rattle.be_journal_text.proofs.LineLemmas.{done_part}
-use Rattle.be_journal_text.proofs.ReadLemmas.{IsLeft, all_left, done_long, first_left, joined_cut, less_left, none_left}
+use Rattle.be_journal_text.proofs.ReadLemmas.{IsLeft, all_left, done_long, joined_cut, less_left, none_left}
 use Rattle.be_journal_text.proofs.lists.read_outcomes.Goals as goal
 
 pub loop-rest-init : goal.loop-rest-init
@@ -25,22 +25,11 @@ loop-rest-preserved c =
     c.in_ok-push.ensures.items
 
 pub returns : goal.returns
-returns c = λ xs are is. ap Some (none_left CanBeDone done_text c.args.text.now c.loop-rest.rest.now c.loop-rest.dones.items done_long
-    (grind (arith, nat_tests, c.loop-rest-test.false, c.is_empty.ensures)) c.loop-rest.invariant xs are is)
+returns c = λ xs are is. none_left CanBeDone done_text c.args.text.now c.loop-rest.rest.now c.loop-rest.dones.items done_long
+    (grind (arith, nat_tests, c.loop-rest-test.false, c.is_empty.ensures)) c.loop-rest.invariant xs are is
 
 pub loop-rest-smaller : goal.loop-rest-smaller
 loop-rest-smaller c =
     let some : 1 ≤ length c.loop-rest.rest.now = grind (arith, nat_tests, c.loop-rest-test.true, c.is_empty.ensures) in
     let less : length c.skip-rest.result.now < length c.loop-rest.rest.now =
     omega (arith, ap length c.skip-rest.ensures, length-drop 1 c.split_around.result.1.now, c.split_around.ensures.shorter some) in less
-
-pub returns-then-is_empty : goal.returns-then-is_empty
-returns-then-is_empty c = λ dones are is.
-    let some : 1 ≤ length c.loop-rest.rest.now = grind (arith, nat_tests, c.loop-rest-test.true, c.is_empty.ensures) in
-    let rest = c.loop-rest.rest.now in
-    let cut = joined_cut CanBeDone done_text rest c.split_around.result.0.now c.split_around.result.1.now (λ y h. done_part 59 refl refl y h)
-    c.split_around.ensures.ends c.split_around.ensures.alone in
-    let first = first_left CanBeDone done_text c.args.text.now rest c.split_around.result.0.now _ c.loop-rest.dones.items
-    some c.loop-rest.invariant cut dones are is in
-    let none : length c.split_around.result.0.now ≡ 0 = grind (arith, nat_tests, c.if-is_empty.ensures) in
-    absurd (omega (arith, done_long first.0 first.1, ap length first.2, none))
