@@ -713,8 +713,8 @@ uint32_t bes_get_named(bes_pass *pass, uint64_t node, const bes_name *name, bes_
  * [out] bytes    the first bytes; at most bytes_room
  * [out] bytes_count  how many bytes there are; if there are more than bytes_room, call again with a larger array
  * BES_CLOSED, BES_NOT_PINNED, BES_BAD_COUNT (more than 2^32 cells). After an error, cells and bytes are unchanged, and bytes_count is 0.
- * Cost: one tree descent for a node whose named attributes are adjacent; one more descent for each name that the node lacks, and for each
- * named attribute that is followed by another attribute. No memory. */
+ * Cost: one tree descent for a node if the names are in ascending order and at most five other attributes lie between each and the next.
+ * Any other named attribute takes one more descent, and so may each name that the node lacks. No memory. */
 uint32_t bes_columns(bes_pass *pass, const uint64_t *nodes, size_t nodes_count, const bes_name *names, size_t names_count,
                      bes_cell *cells, size_t cells_room, uint8_t *bytes, size_t bytes_room, uint64_t *bytes_count);
 

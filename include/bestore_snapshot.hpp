@@ -479,7 +479,8 @@ public:
     template <class T> std::optional<T> get(Node node, const Attribute<T> &attribute) { return get<T>(node, attribute.name()); }
 
     // Returns several attributes of many nodes: for each name, a list with each node's value, which is empty if the node has no such
-    // attribute. A node whose named attributes are adjacent takes one tree search. In a change, each value takes one search.
+    // attribute. A node takes one tree search if the names are in ascending order and few of its other attributes lie between. In a change,
+    // each value takes one search.
     std::vector<std::vector<std::optional<Value>>> columns(const std::vector<Node> &nodes, const std::vector<std::string_view> &names)
     {
         std::vector<std::vector<std::optional<Value>>> columns(names.size(), std::vector<std::optional<Value>>(nodes.size()));

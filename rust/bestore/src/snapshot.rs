@@ -202,8 +202,8 @@ impl<'a> Snapshot<'a> {
     }
 
     /// Reads several attributes of many nodes. For each name, returns a list with each node's value, or `None` if the node has no such
-    /// attribute. If a node's attributes with these names are adjacent, the node takes only one tree search, which is faster than calling
-    /// [`Snapshot::get`] for each.
+    /// attribute. If the names are in ascending order and few other attributes of the node lie between, the node takes only one tree search,
+    /// which is faster than calling [`Snapshot::get`] for each.
     ///
     /// # Errors
     /// [`Error::NameLength`], [`Error::HasNul`], [`Error::BadCount`] if there are more than 2^32 values, [`Error::Forked`].
