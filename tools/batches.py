@@ -3,6 +3,8 @@
 A function is proved from its own body and from the contracts of what it calls. So edits in the bodies of different functions
 don't affect each other's proofs, and a check reports each function separately. There is one exception: while a function isn't
 proved, those that call it aren't judged. Their mutants remain undecided, and a later check tries them without it.
+
+A mutant that edits anything but a body gets a check of its own. All checks start from one proof of the crate.
 """
 from __future__ import annotations
 
@@ -28,6 +30,16 @@ FUNCTION = re.compile(r'^(\s*)(?:pub(?:\([a-z]+\))? )?(?:const |unsafe |extern "
 SAID = re.compile(r"^(?:note: )?(?:\./)?((?:src|proofs)/\S+?):(\d+):\d+: (.*)", re.M)
 NAMES = re.compile(r"has no field|is not in scope|has no `|was not admitted")
 OPEN = r"^fn {path}(?:\S+::)?{function}: (?:not proved$|no proof: expected answers)"
+# Any complaint of a check, and one that proves nothing because it only misses a name.
+TOLD = re.compile(r"^(?:note: \S+?:\d+:\d+:|\S+?:\d+:\d+: error).*", re.M)
+MISSED = re.compile(rf"(?:\./)?proofs/.*(?:{NAMES.pattern})")
+# What a check says if it couldn't read the edited text, or what was kept of a library.
+UNREAD = re.compile(
+    r"^(?:\./)?(?:src|specs)/\S+?:\d+:\d+: error: (?!`[^`]*`: )"
+    r"|^(?:\./)?(?:src|specs)/.*: error: .*(?:is not in scope|has no field|is no name|operand is missing|expected the end|cannot continue)"
+    r"|Run the lower steps again",
+    re.M,
+)
 
 
 class Place(NamedTuple):
@@ -97,10 +109,24 @@ def is_refused(said: str, crate: str, place: Place) -> bool:
     return any(place.has(file, int(line)) and not NAMES.search(text) for file, line, text in SAID.findall(said))
 
 
-def deal(waiting: dict[Edit, Place], size: int) -> list[list[Edit]]:
+def is_refused_alone(ran: subprocess.CompletedProcess[str]) -> bool:
+    """Returns whether the check of a single mutant left a goal open, wherever it is, as `rt must-fail` would say."""
+    is_judged = ran.returncode == 1 and ran.stdout.rstrip("\n").rpartition("\n")[2].startswith("logic=not-proved")
+    return is_judged and not UNREAD.search(ran.stdout) and any(not MISSED.match(it) for it in TOLD.findall(ran.stdout))
+
+
+def refused_in(batch: list[Edit], ran: subprocess.CompletedProcess[str], crate: str, places: dict[Edit, Place | None]) -> list[Edit]:
+    """Returns which of a batch's mutants its check refuses."""
+    if len(batch) == 1 and is_refused_alone(ran):
+        return batch
+    return [it for it in batch for place in [places[it]] if place and is_refused(ran.stdout, crate, place)]
+
+
+def deal(waiting: dict[Edit, Place | None], size: int) -> list[list[Edit]]:
     """Divides the mutants into batches, each with at most one per function. Functions of the same file often call each other, so
-    their mutants go into different batches if possible."""
-    order = sorted(waiting, key=lambda it: (waiting[it].file, waiting[it].first))
+    their mutants go into different batches if possible. A mutant that edits no body has a batch of its own."""
+    places = {edit: place for edit, place in waiting.items() if place}
+    order = sorted(places, key=lambda it: (places[it].file, places[it].first))
     batches: list[list[Edit]] = [[] for _ in range(-(-len(order) // size))]
     for number, edit in enumerate(order):
         turns = [batches[(number + turn) % len(batches)] for turn in range(len(batches))]
@@ -109,15 +135,16 @@ def deal(waiting: dict[Edit, Place], size: int) -> list[list[Edit]]:
             fits = [[]]
             batches.append(fits[0])
         fits[0].append(edit)
-    return [it for it in batches if it]
+    return [it for it in batches if it] + [[edit] for edit, place in waiting.items() if not place]
 
 
 def run_for(words: list[str], folder: Path, seconds: float | None) -> subprocess.CompletedProcess[str] | None:
     """Runs a command, and returns None if it isn't done in time."""
     if seconds is not None and seconds <= 0:
         return None
-    how = {"stdout": subprocess.PIPE, "stderr": subprocess.STDOUT, "text": True}
-    with subprocess.Popen(words, cwd=folder, start_new_session=True, **how) as ran:
+    with subprocess.Popen(
+        words, cwd=folder, start_new_session=True, stdout=subprocess.PIPE, stderr=subprocess.STDOUT, text=True
+    ) as ran:
         try:
             said = ran.communicate(timeout=seconds)[0]
         except BaseException as stopped:
@@ -140,8 +167,8 @@ def link_copy(folder: Path, to: Path) -> None:
     shutil.copytree(folder, to, copy_function=copy)
 
 
-def check_batch(folder: Path, batch: list[Edit], words: list[str], seconds: float | None) -> str:
-    """Returns what a check of the crate with these edits prints, or an empty string if it isn't done in time."""
+def check_batch(folder: Path, batch: list[Edit], words: list[str], seconds: float | None) -> subprocess.CompletedProcess[str] | None:
+    """Checks the crate with these edits. Returns None if the check isn't done in time."""
     with tempfile.TemporaryDirectory(prefix="rt-edit-batch-", dir=folder / "out") as name:
         room = Path(name)
         for part in PARTS:
@@ -151,8 +178,7 @@ def check_batch(folder: Path, batch: list[Edit], words: list[str], seconds: floa
             file = room / edit.file
             file.write_text(file.read_text().replace(edit.old, edit.new))
         link_copy(folder / "out/incremental", room / "kept")
-        ran = run_for([*words, "--jobs", "1", "--incremental", "kept"], room, seconds)
-    return ran.stdout if ran else ""
+        return run_for([*words, "--jobs", "1", "--incremental", "kept"], room, seconds)
 
 
 def lanes() -> int:
@@ -161,24 +187,35 @@ def lanes() -> int:
     return max(1, min(len(os.sched_getaffinity(0)), int(found[1]) // MEMORY if found else 1))
 
 
+def can_apply(edit: Edit, crate: Path) -> bool:
+    """Returns whether a mutant's old text stands once in its file."""
+    file = crate / edit.file
+    return file.is_file() and file.read_text().count(edit.old) == 1
+
+
 def try_together(clone: Path, crate: str, mutants: list[Path], left: Callable[[], float | None], note: Callable[[Path], None]) -> None:
-    """Calls `note` with each mutant that is refused. Those that remain have to be tried one by one."""
+    """Calls `note` with each mutant that a check refuses. `rt must-fail` has to judge the others."""
     folder, rattle = clone / "crates" / crate, find_rt().with_name("rattle")
-    edits = [it for it in map(read_edit, mutants) if it]
-    waiting = {edit: place for edit in edits for place in [place_of(edit, folder)] if place}
-    if len(waiting) < 2 or not rattle.is_file() or not (folder / "src/lib.rt").is_file():
+    edits = [it for it in map(read_edit, mutants) if it and can_apply(it, folder)]
+    if len(edits) < 2 or not rattle.is_file() or not (folder / "src/lib.rt").is_file():
         return
     proved = run_for(["rt", "check"], folder, left())
     if not proved or proved.returncode:
         return
     words, size = rattle_words("check", crate, "src/lib.rt", read_libraries(), clone), TOGETHER
+    waiting = {edit: place_of(edit, folder) for edit in edits}
+
+    def try_batch(batch: list[Edit]) -> list[Edit]:
+        ran = check_batch(folder, batch, words, left())
+        refused = refused_in(batch, ran, crate, waiting) if ran else []
+        for edit in refused:
+            note(edit.mutant)
+        return refused
+
     while waiting:
         batches = deal(waiting, size)
         with ThreadPoolExecutor(lanes()) as pool:
-            said = list(pool.map(lambda batch: check_batch(folder, batch, words, left()), batches))
-        refused = [it for batch, text in zip(batches, said) for it in batch if is_refused(text, crate, waiting[it])]
+            refused = [it for found in pool.map(try_batch, batches) for it in found]
         done = {*refused, *(batch[0] for batch in batches if len(batch) == 1)}
-        for edit in refused:
-            note(edit.mutant)
         waiting = {edit: place for edit, place in waiting.items() if edit not in done}
         size = size if done else 1
