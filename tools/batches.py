@@ -4,7 +4,7 @@ A function is proved from its own body and from the contracts of what it calls. 
 don't affect each other's proofs, and a check reports each function separately. There is one exception: while a function isn't
 proved, those that call it aren't judged. Their mutants remain undecided, and a later check tries them without it.
 
-A mutant that edits anything but a body gets a check of its own. All checks start from one proof of the crate.
+A mutant that edits anything but a body, or two places, gets a check of its own. All checks start from one proof of the crate.
 """
 from __future__ import annotations
 
@@ -64,26 +64,38 @@ class Place(NamedTuple):
 
 
 class Edit(NamedTuple):
-    """A mutant that replaces one text with another in one file."""
+    """A mutant that replaces texts in one file, each with another."""
 
     mutant: Path
     file: str
-    old: str
-    new: str
+    pairs: tuple[tuple[str, str], ...]
+
+    def applied(self, text: str) -> str | None:
+        """Returns the file's text with this edit, or None if a text that the edit replaces doesn't stand in it once."""
+        for old, new in self.pairs:
+            if text.count(old) != 1:
+                return None
+            text = text.replace(old, new)
+        return text
 
 
-def read_edit(mutant: Path) -> Edit | None:
-    """Returns a mutant that has one pair of texts, and None for any other."""
-    found = re.fullmatch(r"file: (src/\S+)\nold: (.+)\nnew: ?(.*)\n*", mutant.read_text())
-    return Edit(mutant, *found.groups()) if found else None
+def read_edit(mutant: Path, crate: Path) -> Edit | None:
+    """Returns a mutant that edits one file, if it can be applied to the crate."""
+    text = mutant.read_text()
+    found = re.fullmatch(r"file: (src/\S+)\n((?:old: .+\nnew:.*\n+)+)", text.rstrip("\n") + "\n")
+    if not found or not (crate / found[1]).is_file():
+        return None
+    pairs = re.findall(r"old: (.+)\nnew: ?(.*)", found[2])
+    edit = Edit(mutant, found[1], tuple((old, new) for old, new in pairs))
+    return edit if edit.applied((crate / edit.file).read_text()) is not None else None
 
 
 def place_of(edit: Edit, crate: Path) -> Place | None:
-    """Returns where a mutant edits a function's body, or None if it edits anything else or can't be applied."""
-    text = (crate / edit.file).read_text() if (crate / edit.file).is_file() else ""
-    if text.count(edit.old) != 1:
+    """Returns the function whose body a mutant edits at one place, or None if it edits anything else."""
+    if len(edit.pairs) > 1:
         return None
-    lines, at = text.split("\n"), text[: text.index(edit.old)].count("\n")
+    text = (crate / edit.file).read_text()
+    lines, at = text.split("\n"), text[: text.index(edit.pairs[0][0])].count("\n")
     for first in range(at, -1, -1):
         head = FUNCTION.match(lines[first])
         if not head:
@@ -176,7 +188,8 @@ def check_batch(folder: Path, batch: list[Edit], words: list[str], seconds: floa
                 shutil.copytree(folder / part, room / part)
         for edit in batch:
             file = room / edit.file
-            file.write_text(file.read_text().replace(edit.old, edit.new))
+            text = file.read_text()
+            file.write_text(edit.applied(text) or text)
         link_copy(folder / "out/incremental", room / "kept")
         return run_for([*words, "--jobs", "1", "--incremental", "kept"], room, seconds)
 
@@ -187,16 +200,10 @@ def lanes() -> int:
     return max(1, min(len(os.sched_getaffinity(0)), int(found[1]) // MEMORY if found else 1))
 
 
-def can_apply(edit: Edit, crate: Path) -> bool:
-    """Returns whether a mutant's old text stands once in its file."""
-    file = crate / edit.file
-    return file.is_file() and file.read_text().count(edit.old) == 1
-
-
 def try_together(clone: Path, crate: str, mutants: list[Path], left: Callable[[], float | None], note: Callable[[Path], None]) -> None:
     """Calls `note` with each mutant that a check refuses. `rt must-fail` has to judge the others."""
     folder, rattle = clone / "crates" / crate, find_rt().with_name("rattle")
-    edits = [it for it in map(read_edit, mutants) if it and can_apply(it, folder)]
+    edits = [edit for mutant in mutants for edit in [read_edit(mutant, folder)] if edit]
     if len(edits) < 2 or not rattle.is_file() or not (folder / "src/lib.rt").is_file():
         return
     proved = run_for(["rt", "check"], folder, left())
