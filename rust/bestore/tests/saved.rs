@@ -5,6 +5,7 @@ mod common;
 
 use bestore::saved::{self, Error as SavedError, Options, Place, Saved};
 use bestore::{Batch, Error, Kind, Limits, Live, Pass, Value};
+use bestore_types::saved::file::File;
 use common::Folder;
 use rusqlite::Connection;
 use std::collections::BTreeMap;
@@ -235,6 +236,27 @@ fn the_state_takes_the_place_of_the_entries() {
     assert_eq!(number(&folder.file(), "SELECT min(number) FROM entry"), 6);
     let saved = saved::open(folder.file()).unwrap();
     assert_eq!(sizes(&mut saved.pass().unwrap()), [1, 2, 4]);
+}
+
+/// Of two threads that compact at the same time, the one that has copied the earlier snapshot may be the last to write its copy.
+#[test]
+fn an_earlier_state_replaces_no_later_one() {
+    let folder = of_three("earlier");
+    let saved = saved::open(folder.file()).unwrap();
+    let mut pass = saved.pass().unwrap();
+    let earlier = saved.store().copy_state().unwrap();
+    let number = saved.number_in_file(earlier.number);
+    file_size(&mut pass, 4).unwrap();
+    saved.compact().unwrap();
+    file_size(&mut pass, 5).unwrap();
+    saved.close().unwrap();
+    let mut file = File::open(&folder.file()).unwrap();
+    let batches = earlier.batches.into_iter().map(Ok);
+    file.write_state(number, earlier.next, batches).unwrap();
+    assert_eq!(file.state().unwrap().entries, number + 1);
+    drop(file);
+    let saved = saved::open(folder.file()).unwrap();
+    assert_eq!(sizes(&mut saved.pass().unwrap()), [1, 2, 3, 4, 5]);
 }
 
 #[test]

@@ -549,13 +549,17 @@ impl File {
     }
 
     /// Replaces the old state and the entries up to `number` with this state, which contains them, and empties the WAL. If the file is
-    /// in the earlier format, adds checksums.
+    /// in the earlier format, adds checksums. If the old state contains later entries, the file isn't changed.
     pub fn write_state(
         &mut self,
         number: u64,
         next: u64,
         batches: impl Iterator<Item = crate::Result<Batch>>,
     ) -> Result<()> {
+        // Another thread may have written a newer state since this one was copied. The entries between the two are only in that state.
+        if number < self.state()?.entries {
+            return Ok(());
+        }
         // This way, the next attempt isn't due immediately if this one fails.
         self.due_bytes = self.due_bytes.max(self.entry_bytes) + LEAST_DUE;
         // The new state then overwrites the WAL's earlier contents instead of following them.
