@@ -197,6 +197,15 @@ class Kept(Files):
             store.new_node()
             self.assertEqual(modes(), {"test.bestore": 0o640, "test.bestore-last": 0o600, "test.bestore-wal": 0o640})
 
+    def test_mode_of_a_link(self):
+        """The link may be there before the file that it names."""
+        self.addCleanup(os.umask, os.umask(0))
+        os.symlink("elsewhere", self.path)
+        with saved.open(self.path, pages=64) as store:
+            store.new_node()
+            modes = {os.stat(os.path.join(self.folder, name)).st_mode & 0o7777 for name in os.listdir(self.folder)}
+        self.assertEqual(modes, {0o600})
+
     def test_each_call(self):
         """Every call that writes is saved, from every pass, even from one that is gone."""
         with saved.open(self.path, 64) as store, store.another() as other, other.another() as third:

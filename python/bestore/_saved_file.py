@@ -55,7 +55,7 @@ def _make_private(path: str) -> None:
     """Creates the file if it doesn't exist, with a mode that lets only the user read it. SQLite gives the `-wal` file the same
     mode."""
     with suppress(OSError, ValueError):  # if the file can't be created, opening it says why
-        os.close(os.open(path, os.O_WRONLY | os.O_CREAT | os.O_EXCL, 0o600))
+        os.close(os.open(os.path.realpath(path), os.O_WRONLY | os.O_CREAT | os.O_EXCL, 0o600))
 
 
 class File:

@@ -11,7 +11,7 @@ use rusqlite::Connection;
 use std::collections::BTreeMap;
 use std::fs::Permissions;
 use std::io::{BufRead, BufReader, Write};
-use std::os::unix::fs::PermissionsExt;
+use std::os::unix::fs::{symlink, PermissionsExt};
 use std::path::Path;
 use std::process::{Child, Command, Stdio};
 use std::thread;
@@ -106,6 +106,18 @@ fn the_user_alone_may_read_a_file() {
         found.len() > 1 && found.values().all(|mode| *mode == 0o640),
         "{found:?}"
     );
+}
+
+#[test]
+fn the_user_alone_may_read_a_file_that_a_link_names_first() {
+    let folder = Folder::new("linked");
+    symlink("elsewhere", folder.file()).unwrap();
+    let saved = saved::open(folder.file()).unwrap();
+    saved.pass().unwrap().new_node().unwrap();
+    std::fs::remove_file(folder.file()).unwrap();
+    let found = modes(&folder);
+    assert!(found.contains_key("elsewhere-wal"), "{found:?}");
+    assert!(found.values().all(|mode| *mode == 0o600), "{found:?}");
 }
 
 #[test]

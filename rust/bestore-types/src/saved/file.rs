@@ -108,9 +108,14 @@ impl Token {
 
 /// Creates the file, accessible only to the user, if it doesn't exist. SQLite gives the `-wal` file the same mode.
 fn make_private(path: &Path) {
-    let made = OpenOptions::new().write(true).create_new(true).mode(0o600).open(path);
-    // If the file couldn't be created, the call that opens it will report why.
-    drop(made);
+    let mut options = OpenOptions::new();
+    options.write(true).mode(0o600);
+    // If the file can't be created, the call that opens it will report why.
+    let made = options.create_new(true).open(path);
+    // A link may name a file that doesn't exist yet. An existing file isn't opened, because closing it would release its lock.
+    if made.is_err() && !path.exists() {
+        drop(options.create_new(false).create(true).open(path));
+    }
 }
 
 #[derive(Debug)]
