@@ -1,5 +1,6 @@
 //! A connection to the server.
 
+use crate::options::end_of;
 use crate::pushes::Pushes;
 use crate::wire::{self, Command, Json, Nothing, Numbers, Push, Refusal, Request};
 use crate::{Error, Options, Result, SocketPath};
@@ -237,8 +238,8 @@ impl Client {
 
     fn receive_any<T: DeserializeOwned>(&mut self, id: u64) -> Result<T> {
         let wait = self.waits.remove(&id).unwrap_or_default();
-        let time = self.options.timeout.map(|timeout| timeout + wait);
-        let until = time.map(|time| Instant::now() + time);
+        let time = self.options.timeout.map(|timeout| timeout.saturating_add(wait));
+        let until = time.map(end_of);
         loop {
             let end = match (self.read_line(until)?, time) {
                 (Some(end), _) => end,
@@ -327,7 +328,7 @@ impl Client {
         if let Some(push) = self.pushes.take() {
             return Ok(Some(push));
         }
-        let until = Instant::now() + within;
+        let until = end_of(within);
         while let Some(end) = self.read_line(Some(until))? {
             let push = pushed(&self.received[..end]);
             self.received.drain(..end);

@@ -14,6 +14,14 @@ const PUSHED: usize = 64 << 20;
 /// The interval between attempts to connect to a server that isn't listening yet.
 const AGAIN: Duration = Duration::from_millis(10);
 
+/// The longest time that a call waits. Longer ones, such as `Duration::MAX`, would exceed the range of an `Instant`.
+const YEAR: Duration = Duration::from_secs(365 * 24 * 3600);
+
+/// Returns when this time, which begins now, is over.
+pub(crate) fn end_of(time: Duration) -> Instant {
+    Instant::now() + time.min(YEAR)
+}
+
 /// Options for connecting a client, including how long it waits for replies.
 ///
 /// ```no_run
@@ -92,7 +100,7 @@ impl Options {
     /// effective user nor as root. [`Error::TimedOut`]. If the server refuses the connection, the first call returns that error.
     pub fn connect(&self, socket: impl Into<SocketPath>) -> Result<Client> {
         let socket = socket.into();
-        let until = Instant::now() + self.wait;
+        let until = end_of(self.wait);
         loop {
             match self.connect_once(&socket) {
                 Err(Error::Io(error)) if may_start(&error) && Instant::now() < until => thread::sleep(AGAIN),

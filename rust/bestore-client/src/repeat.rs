@@ -1,5 +1,6 @@
 //! Retries writes, on a new connection if necessary, until the server answers.
 
+use crate::options::end_of;
 use crate::wire::{self, Command, ErrorName, Hello, Token};
 use crate::{Client, Error, Result};
 use std::process;
@@ -38,7 +39,7 @@ impl Client {
 
     /// Returns the time at which to give up on a write that begins now, or `None` if writes aren't retried.
     pub(crate) fn repeats_until(&self) -> Option<Instant> {
-        self.options.repeat.map(|time| Instant::now() + time)
+        self.options.repeat.map(end_of)
     }
 
     /// Returns whether to make the call again after this error and before that time. If a new connection is needed, makes it first. A

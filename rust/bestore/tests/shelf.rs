@@ -349,6 +349,7 @@ fn a_snapshot_stays_and_a_held_one_is_pinned_again() {
     pass.release();
     assert_eq!(pass.pin().unwrap().get(made, "size").unwrap(), Some(2_i64.into()));
     assert!(pass.reach(&[1, 3], Duration::ZERO).unwrap());
+    assert!(pass.reach(&[1, 3], Duration::MAX).unwrap());
     assert!(!pass.reach(&[2, 3], Duration::from_millis(5)).unwrap());
     assert!(matches!(
         pass.reach(&[1, 1, 1], Duration::ZERO),

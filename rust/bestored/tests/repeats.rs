@@ -40,6 +40,20 @@ fn count(client: &mut Client) -> u64 {
 }
 
 #[test]
+fn the_longest_times_are_no_fault() {
+    let folder = Folder::new();
+    let server = Server::start(&folder, &[]);
+    let mut options = Options::new();
+    options.wait(Duration::MAX).timeout(Some(Duration::MAX));
+    let mut client = options.repeat(Duration::MAX).connect(server.socket()).unwrap();
+    assert_eq!(client.apply(Batch::new().new_node()).unwrap().number, 1);
+    assert_eq!(client.reach(&[1], Duration::MAX).unwrap().commit, 1);
+    client.watch(None).unwrap();
+    server.client().apply(Batch::new().new_node()).unwrap();
+    assert_eq!(client.next_push(Duration::MAX).unwrap().unwrap().commit, 2);
+}
+
+#[test]
 fn a_batch_with_its_token_is_written_once() {
     let folder = Folder::new();
     let server = Server::start(&folder, &[]);

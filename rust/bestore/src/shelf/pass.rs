@@ -270,13 +270,13 @@ impl ShelfPass {
         if numbers.len() > self.volumes.len() {
             return self.volume(self.volumes.len() as u32).map(|_| false);
         }
-        let until = Instant::now() + within;
+        let begin = Instant::now();
         loop {
             let status = self.status()?;
             if numbers.iter().zip(&status).all(|(least, now)| now.entries >= *least) {
                 return Ok(true);
             }
-            if Instant::now() >= until {
+            if begin.elapsed() >= within {
                 return Ok(false);
             }
             thread::sleep(LOOK);
