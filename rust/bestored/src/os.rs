@@ -69,19 +69,33 @@ fn wait<const N: usize>(
 }
 
 /// Returns a descriptor that becomes readable when a signal arrives that should end the program. Threads created later don't
-/// receive these signals.
+/// receive these signals. If SIGHUP is ignored, as it is under `nohup`, it stays ignored.
 pub fn ending_signals() -> io::Result<File> {
     let mut signals = MaybeUninit::uninit();
     // SAFETY: `sigemptyset` initialises the set before the other calls use it.
     unsafe {
         check(libc::sigemptyset(signals.as_mut_ptr()))?;
-        for signal in [libc::SIGTERM, libc::SIGINT, libc::SIGHUP] {
+        for signal in [libc::SIGTERM, libc::SIGINT] {
             check(libc::sigaddset(signals.as_mut_ptr(), signal))?;
+        }
+        if !is_ignored(libc::SIGHUP)? {
+            check(libc::sigaddset(signals.as_mut_ptr(), libc::SIGHUP))?;
         }
         check(libc::sigprocmask(libc::SIG_BLOCK, signals.as_ptr(), ptr::null_mut()))?;
         let fd = check(libc::signalfd(-1, signals.as_ptr(), libc::SFD_CLOEXEC))?;
         Ok(File::from_raw_fd(fd))
     }
+}
+
+/// Returns whether the process ignores this signal.
+fn is_ignored(signal: libc::c_int) -> io::Result<bool> {
+    let mut action = MaybeUninit::<libc::sigaction>::uninit();
+    // SAFETY: the call writes a `sigaction`, which is read only if the call succeeded.
+    let action = unsafe {
+        check(libc::sigaction(signal, ptr::null(), action.as_mut_ptr()))?;
+        action.assume_init()
+    };
+    Ok(action.sa_sigaction == libc::SIG_IGN)
 }
 
 /// Returns how many more bytes this user can store on the disk that holds this file, or `None` if the file system doesn't say.

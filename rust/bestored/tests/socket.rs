@@ -53,9 +53,33 @@ fn help_and_version_are_shown() {
     }
 }
 
+/// Returns whether the tests run under `nohup`, and the servers with them.
+fn ignores_hangups() -> bool {
+    let status = fs::read_to_string("/proc/self/status").unwrap();
+    let ignored = status.lines().find_map(|line| line.strip_prefix("SigIgn:")).unwrap();
+    u64::from_str_radix(ignored.trim(), 16).unwrap() & 1 == 1
+}
+
+#[test]
+fn under_nohup_a_server_stays() {
+    let folder = Folder::new();
+    let server = command(&folder.join("socket"), &[]);
+    let mut nohup = Command::new("nohup");
+    nohup.arg(server.get_program()).args(server.get_args());
+    let server = Server::run(nohup, &folder.join("socket"));
+    assert!(server.answers());
+    server.signal("HUP");
+    thread::sleep(Duration::from_millis(200));
+    server.client().hello().unwrap();
+    assert!(server.end_by("TERM").success());
+}
+
 #[test]
 fn the_socket_is_of_the_user_alone_and_goes_with_the_server() {
     for signal in ["TERM", "INT", "HUP"] {
+        if signal == "HUP" && ignores_hangups() {
+            continue;
+        }
         let folder = Folder::new();
         let server = Server::start(&folder, &[]);
         let socket = folder.join("socket");
