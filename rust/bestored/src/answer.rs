@@ -240,7 +240,7 @@ impl<'a> Desk<'a> {
             Command::Reach(reach) => {
                 // Earlier replies must not wait for the commit.
                 self.send(view.since())?;
-                let reached = reach::reach(view, &self.shared.pressure, &reach);
+                let reached = reach::reach(view, &self.shared.pressure, self.client, &reach);
                 reached.map(|reached| self.reply(id, &reached))
             }
             Command::Info(_) => info::info(self.shared, view).map(|info| self.reply(id, &info)),

@@ -1,5 +1,6 @@
 //! The connected clients, and what each of them is doing.
 
+use crate::os;
 use bestore::{Pass, ShelfSnapshot};
 use bestore_client::socket::peer_process;
 use bestore_client::wire;
@@ -101,6 +102,11 @@ impl Client {
     /// Records that the command is finished.
     pub fn ends(&self) {
         lock(&self.doing).command = None;
+    }
+
+    /// Waits for this time, but only while the connection is open. Returns whether the connection has been closed.
+    pub fn is_gone_within(&self, time: Duration) -> bool {
+        os::wait_closed(&self.stream, time).unwrap_or(true)
     }
 
     /// Returns how long the client has had a snapshot pinned.

@@ -49,6 +49,12 @@ pub fn wait_writable(stream: &UnixStream, time: Duration) -> io::Result<()> {
     wait([stream.as_raw_fd()], libc::POLLOUT, Some(time)).map(drop)
 }
 
+/// Waits until the connection is closed in both directions, but no longer than `time`, and returns whether it is.
+pub fn wait_closed(stream: &UnixStream, time: Duration) -> io::Result<bool> {
+    // This event is reported even if no others are asked for.
+    wait([stream.as_raw_fd()], 0, Some(time)).map(|[is_closed]| is_closed)
+}
+
 /// Waits for any of these events on the descriptors, and returns which descriptors have one.
 fn wait<const N: usize>(
     descriptors: [RawFd; N],

@@ -1,10 +1,10 @@
 //! Waits for commit numbers.
 
 use crate::answer::View;
+use crate::clients::Client;
 use crate::failure::Failure;
 use crate::pressure::Pressure;
 use bestore_client::wire::{self, ErrorName, Numbers};
-use std::thread;
 use std::time::{Duration, Instant};
 
 /// The default and the maximum time to wait.
@@ -15,8 +15,13 @@ const MOST: Duration = Duration::from_secs(60);
 const LOOK: Duration = Duration::from_millis(2);
 
 /// Waits until each volume has the entry with the number requested for it. Later reads of the current snapshot include these
-/// entries. If a snapshot is pinned, the wait ends when it has to be unpinned.
-pub fn reach(view: &View<'_, '_>, pressure: &Pressure, reach: &wire::Reach) -> Result<wire::Commit, Failure> {
+/// entries. If a snapshot is pinned, the wait ends when it has to be unpinned. It also ends when the client's connection is closed.
+pub fn reach(
+    view: &View<'_, '_>,
+    pressure: &Pressure,
+    client: &Client,
+    reach: &wire::Reach,
+) -> Result<wire::Commit, Failure> {
     let wanted = numbers(&reach.commit, view.volumes())?;
     let within = reach.within.map_or(WITHIN, Duration::from_millis).min(MOST);
     let until = Instant::now() + within;
@@ -29,10 +34,9 @@ pub fn reach(view: &View<'_, '_>, pressure: &Pressure, reach: &wire::Reach) -> R
                 commits: wire::several(&found),
             });
         }
-        if is_over() {
+        if is_over() || client.is_gone_within(LOOK) {
             return Err(not_reached(&wanted, &found));
         }
-        thread::sleep(LOOK);
     }
 }
 

@@ -1,11 +1,12 @@
 //! Tests `info`, `clients` and `kick`, and what a server reports on standard error.
 
-use crate::common::{command, wait_until, Folder, Server};
+use crate::common::{command, wait_until, wait_within, Folder, Server};
 use bestore::Batch;
 use bestore_client::{Client, Error, ErrorName};
 use std::fs::{self, File};
 use std::path::PathBuf;
 use std::process;
+use std::time::Duration;
 
 /// A server whose output is written to a file.
 struct Saying {
@@ -121,6 +122,14 @@ fn a_client_that_waits_is_shown_and_ended_too() {
     });
     client.kick(found.unwrap().client).unwrap();
     assert_eq!(waiting.line(), "");
+    // It doesn't wait any longer, and neither does a client that has left by itself.
+    let is_alone = |client: &mut Client| client.clients().unwrap().len() == 1;
+    wait_within(Duration::from_secs(30), "it is gone", || is_alone(&mut client));
+    let mut waiting = server.talk();
+    waiting.send(b"{\"id\":1,\"reach\":{\"commit\":5,\"within\":60000}}\n");
+    wait_until("it waits", || !is_alone(&mut client));
+    drop(waiting);
+    wait_within(Duration::from_secs(30), "it is gone", || is_alone(&mut client));
 }
 
 #[test]
