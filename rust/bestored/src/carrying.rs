@@ -49,7 +49,7 @@ impl Carrying {
             match shelf.carry_on_if_due().map_err(Error::without_volume) {
                 Ok(()) => {}
                 Err(Error::InUse) => shared.pressure.waits(),
-                Err(error) => eprintln!("bestored: the journal in memory can't be made shorter now: {error}"),
+                Err(error) => report!("bestored: the journal in memory can't be made shorter now: {error}"),
             }
             release(shared);
         }

@@ -183,7 +183,7 @@ fn answer(
     if let (Some(took), true) = (took, took >= slow) {
         let Client { number, process, .. } = client;
         let took = milliseconds(took);
-        eprintln!("bestored: {name} of client {number} (process {process}) took {took} ms");
+        report!("bestored: {name} of client {number} (process {process}) took {took} ms");
     }
     Ok(())
 }

@@ -68,7 +68,7 @@ pub fn kick(shared: &Shared, own: &Client, kick: &wire::Kick) -> Result<wire::No
         Some(Ok(client)) => {
             let (number, process) = (client.number, client.process);
             let by = own.process;
-            eprintln!("bestored: client {number} (process {process}) was disconnected at the request of process {by}");
+            report!("bestored: client {number} (process {process}) was disconnected at the request of process {by}");
             Ok(wire::Nothing {})
         }
         Some(Err(error)) => Err(Failure::new(ErrorName::Unexpected, error.to_string())),

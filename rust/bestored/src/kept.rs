@@ -107,12 +107,12 @@ impl InFiles {
         let saved = self.saved.clone();
         let thread = thread::Builder::new().name("compaction".into()).spawn(move || {
             if let Err(error) = saved.compact_if_due() {
-                eprintln!("bestored: the state couldn't be rewritten: {error}");
+                report!("bestored: the state couldn't be rewritten: {error}");
             }
         });
         match thread {
             Ok(thread) => *compacting = Some(thread),
-            Err(error) => eprintln!("bestored: no thread could be started to rewrite the state: {error}"),
+            Err(error) => report!("bestored: no thread could be started to rewrite the state: {error}"),
         }
     }
 

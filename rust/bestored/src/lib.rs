@@ -4,6 +4,13 @@
 #![warn(missing_debug_implementations, rust_2018_idioms)]
 #![deny(unsafe_code)]
 
+/// Prints a line on standard error.
+macro_rules! report {
+    ($($text:tt)*) => {
+        $crate::report(format_args!($($text)*))
+    };
+}
+
 mod answer;
 mod background;
 mod carrying;
@@ -44,14 +51,22 @@ use pressure::Pressure;
 use server::Shared;
 use socket::Place;
 use std::error::Error;
+use std::fmt;
+use std::io::{self, Write};
 use std::process::ExitCode;
 use std::sync::{Arc, Mutex};
 use tokens::Tokens;
 
+/// Prints a line on standard error. `eprintln` would panic if the line can't be printed, for example on a full disk or after the
+/// reader of a pipe has ended.
+fn report(line: fmt::Arguments<'_>) {
+    let _ = writeln!(io::stderr(), "{line}");
+}
+
 /// Runs the program with the options from its command line.
 pub fn main() -> ExitCode {
     start(Options::read()).unwrap_or_else(|error| {
-        eprintln!("bestored: {error}");
+        report!("bestored: {error}");
         ExitCode::FAILURE
     })
 }

@@ -43,7 +43,7 @@ impl Notifier {
     fn send(&self, text: &str) {
         if let Some(socket) = &self.socket {
             if let Err(error) = os::send_datagram(socket, text.as_bytes()) {
-                eprintln!("bestored: the service manager at NOTIFY_SOCKET can't be reached: {error}");
+                report!("bestored: the service manager at NOTIFY_SOCKET can't be reached: {error}");
             }
         }
     }

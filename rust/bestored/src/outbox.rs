@@ -139,7 +139,7 @@ impl Pusher<'_> {
             Ok(true) => return true,
             Ok(false) if !self.unsent.waits_for(self.patience) => {}
             Ok(false) => {
-                eprintln!("bestored: a client was disconnected, because it doesn't read what is pushed");
+                report!("bestored: a client was disconnected, because it doesn't read what is pushed");
                 self.give_up();
             }
             Err(_) => self.give_up(),

@@ -94,7 +94,7 @@ pub fn run(
     shared.carrying.end();
     for (what, thread) in [("the live queries", watching), ("the journals", carrying)] {
         if thread.join().is_err() {
-            eprintln!("bestored: the thread for {what} has crashed");
+            report!("bestored: the thread for {what} has crashed");
         }
     }
     shared.kept.finish()
@@ -108,8 +108,8 @@ fn listen(place: Place, starter: Option<Starter>, run: &str) -> io::Result<Socke
         starter.listens_at(path)?;
     }
     match path {
-        Some(path) => eprintln!("bestored: run {run} listens at {}", path.display()),
-        None => eprintln!("bestored: run {run} listens at the socket of systemd"),
+        Some(path) => report!("bestored: run {run} listens at {}", path.display()),
+        None => report!("bestored: run {run} listens at the socket of systemd"),
     }
     Ok(socket)
 }
@@ -121,7 +121,7 @@ fn accept(listener: &UnixListener, notifier: &mut Notifier, signals: &File, shar
             Ok([_, true]) => break,
             Ok([true, _]) => {}
             Ok(_) => continue,
-            Err(error) => eprintln!("bestored: waiting for clients failed: {error}"),
+            Err(error) => report!("bestored: waiting for clients failed: {error}"),
         }
         take_client(listener, shared);
     }
@@ -137,7 +137,7 @@ fn take_client(listener: &UnixListener, shared: &Arc<Shared>) -> bool {
         Err(error) if error.kind() == ErrorKind::Interrupted => {}
         Err(error) if error.kind() == ErrorKind::WouldBlock => return false,
         Err(error) => {
-            eprintln!("bestored: a client could not connect: {error}");
+            report!("bestored: a client could not connect: {error}");
             thread::sleep(Duration::from_millis(100));
             return false;
         }
@@ -152,7 +152,7 @@ fn welcome(shared: &Arc<Shared>, stream: Arc<UnixStream>) {
         other => {
             let other = other.map_or_else(|error| error.to_string(), |user| format!("user {user}"));
             let process = peer_process(&stream).unwrap_or(0);
-            eprintln!("bestored: process {process} of {other} was refused: the server belongs to another user");
+            report!("bestored: process {process} of {other} was refused: the server belongs to another user");
             return refuse(&stream, &Failure::named(ErrorName::NotAllowed));
         }
     }
@@ -171,7 +171,7 @@ fn welcome(shared: &Arc<Shared>, stream: Arc<UnixStream>) {
         serve(&of_thread, &leaving.client, stream);
     });
     if let Err(error) = started {
-        eprintln!("bestored: no thread could be started for a client: {error}");
+        report!("bestored: no thread could be started for a client: {error}");
         shared.clients.leave(&client);
     }
 }
@@ -183,7 +183,7 @@ fn refuse_for_now(shared: &Shared, stream: &UnixStream) {
     if said.map_or(true, |said| said.elapsed() >= SAID) {
         *said = Some(Instant::now());
         let process = peer_process(stream).unwrap_or(0);
-        eprintln!("bestored: process {process} was refused: {}", failure.0.message);
+        report!("bestored: process {process} was refused: {}", failure.0.message);
     }
     drop(said);
     refuse(stream, &failure);

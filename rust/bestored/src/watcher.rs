@@ -323,7 +323,7 @@ fn round(clients: &[Arc<Watches>], pass: &mut ShelfPass, pressure: &Pressure, ke
             Ok(true) if kept.flush_if_each().is_err() => return false,
             Ok(_) => is_left |= client.push(),
             Err(error) => {
-                eprintln!("bestored: the live queries could not get a snapshot: {error}");
+                report!("bestored: the live queries could not get a snapshot: {error}");
                 is_left = true;
             }
         }

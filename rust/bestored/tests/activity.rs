@@ -133,6 +133,19 @@ fn a_client_that_waits_is_shown_and_ended_too() {
 }
 
 #[test]
+fn a_server_goes_on_if_its_reports_are_lost() {
+    let folder = Folder::new();
+    let socket = folder.join("socket");
+    let mut command = command(&socket, &["--passes", "1"]);
+    command.stderr(File::options().write(true).open("/dev/full").unwrap());
+    let server = Server::run(command, &socket);
+    assert!(server.answers());
+    let mut client = server.patient_client();
+    assert!(server.client().hello().unwrap_err().is(ErrorName::NoPass));
+    client.hello().unwrap();
+}
+
+#[test]
 fn the_server_says_when_it_starts_refuses_and_is_slow() {
     let saying = Saying::start(&["--passes", "1", "--slow", "1"]);
     let mut client = saying.server.patient_client();

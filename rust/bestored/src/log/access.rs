@@ -54,7 +54,7 @@ fn config(in_log: &InLog) -> Result<Config> {
     check_plain(ssl_mode(&in_log.url).or(environment.as_deref()))?;
     let mut config: Config = in_log.url.parse().map_err(Error::Url)?;
     match (config.get_password(), std::env::var("PGPASSWORD")) {
-        (Some(_), _) => eprintln!(
+        (Some(_), _) => report!(
             "bestored: the password in the URL is visible in the list of processes; leave it out, and write it to a file for --passfile"
         ),
         (None, Ok(password)) => drop(config.password(password)),

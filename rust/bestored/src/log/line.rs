@@ -28,8 +28,8 @@ impl Role {
     /// Reports the server's new role.
     pub fn say(self, leader: &str) {
         match self {
-            Role::Leader { term } => eprintln!("bestored: this server leads the log, in term {term}"),
-            Role::Follower => eprintln!("bestored: this server follows the log of {leader}"),
+            Role::Leader { term } => report!("bestored: this server leads the log, in term {term}"),
+            Role::Follower => report!("bestored: this server follows the log of {leader}"),
         }
     }
 }

@@ -126,7 +126,7 @@ impl Member {
     fn note(&self, error: Error) {
         let text = error.to_string();
         if self.line.trouble(error, self.tried) {
-            eprintln!("bestored: {text}; trying again");
+            report!("bestored: {text}; trying again");
         }
     }
 
@@ -208,7 +208,7 @@ impl Member {
     /// If such a leader tries to add entries later, its term is out of date, so they aren't added.
     async fn gets_lock(&self, head: &Head) -> Result<bool> {
         if head.silence.map_or(false, |silence| silence >= LEASE) && self.database.end_leader(LEASE).await? {
-            eprintln!(
+            report!(
                 "bestored: {} leads, but has been silent for {LEASE} seconds; ending its session",
                 head.leader
             );
@@ -445,14 +445,14 @@ impl Member {
         let shared = shared.clone();
         let writing = thread::Builder::new().name("log-state".into()).spawn(move || {
             if let Err(failure) = shared.kept.compact() {
-                eprintln!(
+                report!(
                     "bestored: the state of the log couldn't be written: {}",
                     failure.0.message
                 );
             }
         });
         if let Err(error) = writing {
-            eprintln!("bestored: no thread could be started to write the state of the log: {error}");
+            report!("bestored: no thread could be started to write the state of the log: {error}");
         }
     }
 }

@@ -72,7 +72,7 @@ impl Log {
                 Err(error) if error.is_unreachable() => {
                     opening.notifier.waits(&error.to_string());
                     if !mem::replace(&mut is_said, true) {
-                        eprintln!("bestored: {error}; trying again");
+                        report!("bestored: {error}; trying again");
                     }
                 }
                 begun => return begun.map(Some),
