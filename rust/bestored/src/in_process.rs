@@ -47,7 +47,7 @@ pub fn replies_to(lines: &[u8], volumes: u32) -> Result<Vec<u8>, Box<dyn Error>>
     let options = options(volumes);
     let kept = Kept::Memory(Shelf::open(volumes, options.limits())?);
     let mut pass = kept.pass()?;
-    let tokens = Arc::new(Tokens::new(volumes as usize));
+    let tokens = Arc::new(Tokens::default());
     let shared = share(kept, tokens, "in process".into(), options)?;
     let (stream, server) = UnixStream::pair()?;
     let server = Arc::new(server);

@@ -353,7 +353,6 @@ fn not_kept() -> Failure {
 /// Adds the tokens that were found in the volumes' files.
 fn add_tokens(found: Vec<Vec<saved::Token>>, tokens: &Tokens) {
     let count = found.len();
-    tokens.make_room(count);
     for (volume, of_volume) in (0..).zip(found) {
         for token in of_volume {
             let written = Written {

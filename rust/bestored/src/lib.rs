@@ -101,7 +101,7 @@ fn serve(options: Options, place: Place, starter: Option<Starter>) -> Result<(),
     let signals = os::ending_signals()?;
     let run = server::run_text()?;
     let notifier = Notifier::of_environment();
-    let tokens = Arc::new(Tokens::new(options.volumes.unwrap_or(1) as usize));
+    let tokens = Arc::new(Tokens::default());
     let opening = Opening {
         options: &options,
         run: &run,

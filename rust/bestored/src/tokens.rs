@@ -3,7 +3,7 @@
 
 use bestore::saved::TOKENS;
 use bestore_client::wire::Written;
-use std::collections::{HashMap, VecDeque};
+use std::collections::{BTreeMap, HashMap, VecDeque};
 use std::sync::{Arc, Condvar, Mutex, MutexGuard, PoisonError};
 
 /// What the server knows about the write that has a token.
@@ -18,13 +18,12 @@ enum Known {
 #[derive(Debug, Default)]
 struct Table {
     known: HashMap<Arc<str>, Known>,
-    /// The tokens of the writes that were made, oldest first.
-    made: VecDeque<Arc<str>>,
-    most: usize,
+    /// For each volume, the tokens of the writes that were made there, oldest first.
+    made: BTreeMap<Option<u32>, VecDeque<Arc<str>>>,
 }
 
-/// The tokens of the most recent writes that had one: 65,536 per volume.
-#[derive(Debug)]
+/// The tokens of the most recent writes that had one: 65,536 in each volume.
+#[derive(Debug, Default)]
 pub struct Tokens {
     table: Mutex<Table>,
     changed: Condvar,
@@ -47,21 +46,6 @@ pub struct Writing<'a> {
 }
 
 impl Tokens {
-    /// Creates an empty table for a server with this many volumes.
-    pub fn new(volumes: usize) -> Self {
-        let tokens = Self {
-            table: Mutex::default(),
-            changed: Condvar::new(),
-        };
-        tokens.make_room(volumes);
-        tokens
-    }
-
-    /// Sets the table's size to the number of tokens that a server with this many volumes remembers.
-    pub fn make_room(&self, volumes: usize) {
-        self.lock().most = TOKENS * volumes.max(1);
-    }
-
     fn lock(&self) -> MutexGuard<'_, Table> {
         self.table.lock().unwrap_or_else(PoisonError::into_inner)
     }
@@ -92,13 +76,15 @@ impl Tokens {
     /// Adds a write that an earlier run or another server made.
     pub fn add(&self, token: Arc<str>, written: Written) {
         let mut table = self.lock();
-        if let Some(Known::Made(_)) = table.known.insert(token.clone(), Known::Made(written)) {
+        let Table { known, made } = &mut *table;
+        let made = made.entry(written.volume).or_default();
+        if let Some(Known::Made(_)) = known.insert(token.clone(), Known::Made(written)) {
             return;
         }
-        table.made.push_back(token);
-        if table.made.len() > table.most {
-            if let Some(oldest) = table.made.pop_front() {
-                table.known.remove(&oldest);
+        made.push_back(token);
+        if made.len() > TOKENS {
+            if let Some(oldest) = made.pop_front() {
+                known.remove(&oldest);
             }
         }
         self.changed.notify_all();
@@ -144,7 +130,7 @@ mod tests {
 
     #[test]
     fn what_was_made_is_known_and_what_was_not_is_new() {
-        let tokens = Tokens::new(1);
+        let tokens = Tokens::default();
         assert_eq!(commit_of(&tokens, "a"), None);
         assert_eq!(commit_of(&tokens, "a"), None);
         match tokens.begin("a") {
@@ -157,7 +143,7 @@ mod tests {
 
     #[test]
     fn what_another_server_made_meanwhile_stays_known() {
-        let tokens = Tokens::new(1);
+        let tokens = Tokens::default();
         let refused = tokens.begin("a");
         tokens.add("a".into(), written(7));
         assert_eq!(tokens.made("a"), Some(written(7)));
@@ -167,7 +153,7 @@ mod tests {
 
     #[test]
     fn the_last_65536_are_known() {
-        let tokens = Tokens::new(1);
+        let tokens = Tokens::default();
         for number in 0..=65_536 {
             tokens.add(number.to_string().into(), written(number));
         }
@@ -177,8 +163,22 @@ mod tests {
     }
 
     #[test]
+    fn writes_to_one_volume_are_known_however_many_others_have() {
+        let tokens = Tokens::default();
+        let in_volume = |volume| Written {
+            volume: Some(volume),
+            ..Written::default()
+        };
+        tokens.add("a".into(), in_volume(1));
+        for number in 0..3 * TOKENS {
+            tokens.add(number.to_string().into(), in_volume(0));
+        }
+        assert_eq!(tokens.made("a"), Some(in_volume(1)));
+    }
+
+    #[test]
     fn who_repeats_early_waits_for_the_outcome() {
-        let tokens = &Tokens::new(1);
+        let tokens = &Tokens::default();
         thread::scope(|scope| {
             let writing = tokens.begin("a");
             let repeating: Vec<_> = (0..4).map(|_| scope.spawn(|| commit_of(tokens, "a"))).collect();
