@@ -160,6 +160,14 @@ class Conditions(unittest.TestCase):
                     store.apply_if(number, batch)
                 self.assertEqual((conflict.exception.expected, conflict.exception.found), (number, 3))
 
+    def test_apply_if_takes_only_a_number(self):
+        """None isn't the condition that always holds, and text isn't compared with every number there is."""
+        with bestore.open(64, 2, 100) as store:
+            for number in None, "0", 0.0:
+                self.assertRaises(TypeError, store.apply_if, number, bestore.Batch().new_node())
+            self.assertEqual(store.status().entries, 0)
+            self.assertEqual(store.apply_if(bestore.Int64(0), bestore.Batch().new_node()), (1, [1]))
+
     def test_new_nodes(self):
         with bestore.open(1024, 1, 100) as store:
             self.assertEqual((store.new_nodes(0), store.new_nodes(150), store.status().entries), ([], list(range(1, 151)), 3))

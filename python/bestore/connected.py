@@ -276,7 +276,7 @@ def _read_attributes(ok: JSON) -> Dict[str, Typed]:
 
 def _in_volume(volume: Optional[int]) -> JSON:
     """Returns the volume parameter, if a volume is given. Raises `NoVolume` if its value can't be a volume."""
-    if volume is not None and volume not in RANGES[Kind.UINT32]:
+    if volume is not None and operator.index(volume) not in RANGES[Kind.UINT32]:
         raise NoVolume(volume, 0)
     return {} if volume is None else {"volume": volume}
 

@@ -355,10 +355,11 @@ class Pass(Owner, ABC):
         """Applies a batch like `apply`, but only if the journal has exactly `number` entries, that is, if nothing was written
         after the snapshot with this number. Otherwise raises `Conflict`, and nothing is written. With several volumes, the
         journal is that of the batch's volume. Raises `NoVolume` if the batch names no node and `volume` isn't given."""
+        expected = operator.index(number)
         try:
-            return self._written(batch, tries, number, volume)
+            return self._written(batch, tries, expected, volume)
         except Conflict as conflict:
-            conflict.expected = number
+            conflict.expected = expected
             raise
 
     def _written(self, batch: Batch, tries: int, expected: Optional[int] = None,
