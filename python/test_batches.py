@@ -1,6 +1,7 @@
 """Tests of reading batches back, as operations and as bytes, and of reading journal entries."""
 
 import os
+import pathlib
 import random
 import threading
 import unittest
@@ -58,6 +59,14 @@ class Operations(unittest.TestCase):
             bestore.MakeIndex("a", bestore.INT32)])
         self.assertEqual(list(bestore.Batch([bestore.SetAttribute(1, "a", 5)])), [bestore.SetAttribute(1, "a", 5, bestore.INT64)])
         self.assertNotEqual(bestore.NewNode(5), bestore.RemoveNode(5))
+
+    def test_what_isnt_an_operation(self):
+        """Something else with a name doesn't remove the index of this name."""
+        for other in pathlib.PurePath("size"), bestore.INT64, "size", 5:
+            with self.assertRaisesRegex(TypeError, "isn't an operation"):
+                bestore.Batch([other])
+        for other in 5, "BEB", None:
+            self.assertRaises(TypeError, bestore.Batch.from_bytes, other)
         for operation in EACH:
             self.assertEqual(eval(repr(operation), vars(bestore), {"bestore": bestore}), operation)
 

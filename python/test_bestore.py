@@ -391,6 +391,22 @@ class WhatIsMissing(unittest.TestCase):
                     self.refused(TypeError, "'1' isn't a node: a node is an int", read)
                 self.assertEqual(version.attributes(1), {})
 
+    def test_queries(self):
+        """What is neither a text nor prepared isn't taken for items, nor asked for its attributes."""
+        with bestore.open(64, 1, 100) as store:
+            store.make_index("a", bestore.STRING)
+            with store.pin() as version:
+                for query in b"a==x", ["a", "x"], 5, None:
+                    for ask in (version.query, version.count, version.explain, version.hints, bestore.prepare, store.prepare,
+                                lambda query: version.any(query, 1), lambda query: version.query(query, by="a"),
+                                lambda query: version.query(query, limit=1), lambda query: version.rows(query, ["a"])):
+                        self.refused(TypeError, f"{query!r} isn't a query's text, which is a str", lambda: ask(query))
+                    self.refused(TypeError, f"{query!r} isn't a prepared query", lambda: version.refresh(query))
+            for text in b"x", 5:
+                for call in bestore.escape, bestore.any_case, store.remove_index:
+                    self.refused(TypeError, f"{text!r} isn't a str", lambda: call(text))
+            self.refused(TypeError, "b'a' isn't a query's text, which is a str", lambda: store.watch(b"a"))
+
 
 class Whole(unittest.TestCase):
     def test_nodes(self):

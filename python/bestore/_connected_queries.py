@@ -152,13 +152,13 @@ class QueriedVersion(Version):
 
 def _text_of(asked: Query) -> str:
     """Returns the text to send for a query. Items are sent as their canonical text."""
-    if isinstance(asked, str):
-        encoded_query(asked)
-        return asked
+    if isinstance(asked, tuple):
+        with prepare_items(*asked) as prepared:
+            return prepared.text
     if isinstance(asked, Prepared):
         return asked._asked_text()
-    with prepare_items(*asked) as prepared:
-        return prepared.text
+    encoded_query(asked)
+    return asked
 
 
 def _read_page(ok: JSON) -> Tuple[List[int], Optional[int]]:

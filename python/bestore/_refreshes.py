@@ -4,8 +4,9 @@ from __future__ import annotations
 
 from typing import TYPE_CHECKING, Iterable, List, Tuple
 
+from .queries import Prepared
+
 if TYPE_CHECKING:
-    from .queries import Prepared
     from .versions import Version
 
 
@@ -19,6 +20,8 @@ def refreshed(prepared: Prepared, nodes: Iterable[int], is_in_library: bool) -> 
 
 def refreshed_by_all(prepared: Prepared, version: Version) -> Tuple[List[int], List[int]]:
     """Returns the nodes that joined the answer and those that left it, for a version that the library doesn't know."""
+    if not isinstance(prepared, Prepared):
+        raise TypeError(f"{prepared!r} isn't a prepared query")
     prepared._check_process()
     with prepared._refreshing:
         return refreshed(prepared, version._nodes_of(prepared), is_in_library=False)

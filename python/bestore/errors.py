@@ -499,7 +499,9 @@ def no_room(limit: int) -> NoRoom:
 
 
 def encoded(text: str) -> bytes:
-    """Encodes a name or a value. Raises `NotUTF8` if it contains half of a surrogate pair."""
+    """Encodes a name or a value. Raises a TypeError if it isn't a str, and `NotUTF8` if it contains half of a surrogate pair."""
+    if not isinstance(text, str):
+        raise TypeError(f"{text!r} isn't a str")
     try:
         return text.encode()
     except UnicodeEncodeError:
@@ -507,7 +509,9 @@ def encoded(text: str) -> bytes:
 
 
 def encoded_query(text: str) -> bytes:
-    """Encodes a query's text. Raises `QueryNotUTF8` if it contains half of a surrogate pair."""
+    """Encodes a query's text. Raises a TypeError if it isn't a str, and `QueryNotUTF8` if it contains half of a surrogate pair."""
+    if not isinstance(text, str):
+        raise TypeError(f"{text!r} isn't a query's text, which is a str")
     try:
         return text.encode()
     except UnicodeEncodeError as error:

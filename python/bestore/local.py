@@ -61,16 +61,12 @@ class LocalVersion(_native.Reader, Version):
         return node.value
 
     def _nodes_of(self, asked: Query) -> List[int]:
-        if isinstance(asked, str):
-            return self.query(asked)
-        if isinstance(asked, Prepared):
-            return self.query_prepared(asked)
-        return self._query_items(asked, *encode_items(asked))
+        if isinstance(asked, tuple):
+            return self._query_items(asked, *encode_items(asked))
+        return self.query_prepared(asked) if isinstance(asked, Prepared) else self.query(asked)
 
     def _count_of(self, asked: Query) -> int:
-        if isinstance(asked, (str, Prepared)):
-            return self.count(asked)
-        return self._count_items(asked, *encode_items(asked))
+        return self._count_items(asked, *encode_items(asked)) if isinstance(asked, tuple) else self.count(asked)
 
     def _first_of(self, asked: Query, start: int, limit: int) -> List[int]:
         if isinstance(asked, Prepared):
@@ -102,7 +98,7 @@ class LocalVersion(_native.Reader, Version):
     def _page_of(self, asked: Asked, order: Order, after: Optional[Cursor], limit: Optional[int],
                  names: Optional[List[str]] = None) -> Page[Any]:
         """Returns a page of nodes, or of rows if there are names."""
-        if isinstance(asked, str):
+        if not isinstance(asked, Prepared):
             with prepare(asked) as prepared:
                 return self._page_of(prepared, order, after, limit, names)
         check, kind, key = asked._check, 0, b""

@@ -150,22 +150,22 @@ class Batch:
         """Sets an attribute. If `kind` is None, a str is a STRING, bytes are RAW, an `Int32` or similar class has the kind that
         it is named after, and any other int is an INT64."""
         code, number, taken = encode_value(value, kind)
-        return self._add_encoded(SET, node, _name(name), code, number, taken)
+        return self._add_encoded(SET, node, encoded(name), code, number, taken)
 
     def unset(self: _Self, node: int, name: str) -> _Self:
         """Removes an attribute."""
-        return self._add_encoded(UNSET, node, _name(name), 0, 0, b"")
+        return self._add_encoded(UNSET, node, encoded(name), 0, 0, b"")
 
     def make_index(self: _Self, name: str, kind: int) -> _Self:
         """Creates an index with this name, for values of this kind. The index receives only attributes that are set from then on."""
         code = operator.index(kind)
         if code not in RANGES[Kind.UINT32]:
             raise NoKind()
-        return self._add_encoded(MAKE_INDEX, 0, _name(name), code, 0, b"")
+        return self._add_encoded(MAKE_INDEX, 0, encoded(name), code, 0, b"")
 
     def remove_index(self: _Self, name: str) -> _Self:
         """Removes the index with this name."""
-        return self._add_encoded(REMOVE_INDEX, 0, _name(name), 0, 0, b"")
+        return self._add_encoded(REMOVE_INDEX, 0, encoded(name), 0, 0, b"")
 
     def add(self, operation: Operation) -> Batch:
         """Adds an operation, in the form that `for operation in batch` yields."""
@@ -179,7 +179,9 @@ class Batch:
             return self.unset(operation.node, operation.name)
         if isinstance(operation, MakeIndex):
             return self.make_index(operation.name, operation.kind)
-        return self.remove_index(operation.name)
+        if isinstance(operation, RemoveIndex):
+            return self.remove_index(operation.name)
+        raise TypeError(f"{operation!r} isn't an operation")
 
     def to_bytes(self) -> bytes:
         """Returns the batch as bytes, which `from_bytes` and the libraries for C, C++ and Rust can read. Raises `BadCount`
@@ -240,13 +242,6 @@ def _node(node: int) -> int:
     return number
 
 
-def _name(name: str) -> bytes:
-    """Returns a name in UTF-8. Raises a TypeError if the argument isn't a str."""
-    if not isinstance(name, str):
-        raise TypeError(f"{name!r} isn't a str")
-    return encoded(name)
-
-
 def _copied(kind: Type[Batch], operations: bytes, texts: bytes) -> Batch:
     """Returns a batch of this class with these operations, which are in the library's form."""
     batch = kind()
@@ -286,7 +281,7 @@ class _Reader:
     """Reads a batch from bytes."""
 
     def __init__(self, data: bytes) -> None:
-        self._data, self._at = bytes(data), 0
+        self._data, self._at = bytes(memoryview(data)), 0  # bytes of an int would be that many zeros
 
     def _take(self, count: int, what: str) -> bytes:
         """Returns the next `count` bytes."""

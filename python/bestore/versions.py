@@ -129,7 +129,7 @@ class Version(ABC):
 
     def _page_of(self, asked: Asked, order: Order, after: Optional[Cursor], limit: Optional[int]) -> Page[int]:
         """Returns a page in this order, which has all nodes if `limit` is None."""
-        if isinstance(asked, str):
+        if not isinstance(asked, Prepared):
             return with_prepared(asked, lambda prepared: self._page_of(prepared, order, after, limit))
         if after is None:
             after = Cursor(order, asked._check)
@@ -243,7 +243,7 @@ class Version(ABC):
     def hints(self, query: Union[str, Prepared]) -> List[Hint]:
         """Returns the comparisons in a query that are never true because the value isn't a number of the kind that the name's
         index takes, such as size>1.5 or last_modified>2024-01-01. Raises a `QueryError` if the text isn't a valid query."""
-        text = query if isinstance(query, str) else query._asked_text()
+        text = query._asked_text() if isinstance(query, Prepared) else query
         return hints_in(text, self.indices())
 
     @abstractmethod

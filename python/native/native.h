@@ -78,7 +78,7 @@ enum { KINDS = 7 };
 typedef struct Known {
     PyObject *refusal;       /* makes the error for an error number */
     PyObject *forked;        /* the class of the error in a forked child */
-    PyObject *encoded_query; /* raises the error for a query's text that isn't valid UTF-8 */
+    PyObject *encoded_query; /* raises the error for a query that isn't a str in valid UTF-8 */
     PyObject *encode_value;  /* encodes values of less common types */
     PyObject *typed;         /* the class of pairs of a value and its kind */
     PyObject *batch;         /* the class of batches */

@@ -246,7 +246,7 @@ static bool read_query(PyObject *text, Asked *asked)
     Py_ssize_t length;
     const char *bytes = PyUnicode_AsUTF8AndSize(text, &length);
     if (bytes == NULL) {
-        if (PyErr_ExceptionMatches(PyExc_UnicodeEncodeError)) {
+        if (!PyUnicode_Check(text) || PyErr_ExceptionMatches(PyExc_UnicodeEncodeError)) {
             PyErr_Clear();
             Py_XDECREF(PyObject_CallFunctionObjArgs(known.encoded_query, text, NULL));
         }
