@@ -140,6 +140,9 @@ class OfThisProcess(Watches):
                 self.assertRaises(bestore.Pinned, watch.wait, 0)
                 self.assertRaises(bestore.Pinned, self.store.watch)
             self.assertIsNone(watch.wait(0))
+            self.later(watch.close)
+            self.assertRaises(bestore.Closed, watch.wait, PATIENCE)
+        with self.store.watch() as watch:
             self.later(self.store.close)
             self.assertRaises(bestore.Closed, watch.wait, PATIENCE)
 

@@ -116,3 +116,5 @@ class LocalWatch(Watch):
         self._is_open = False
         if self._live is not None:
             self._live.close()
+        for store in self._user._commits:
+            store.wake()  # a thread waiting with this watch finds it closed
