@@ -13,6 +13,7 @@ import tempfile
 import threading
 import time
 import unittest
+from concurrent import futures
 from unittest import mock
 
 import bestore
@@ -156,6 +157,15 @@ class Connecting(WithServer):
                 call()
         version.unpin()
         watch.close()
+
+    def test_closed_by_two_threads(self):
+        """Both find the pass open before either closes it."""
+        lock, both = self.store._lock, threading.Barrier(2)
+        self.store._lock = mock.MagicMock()
+        self.store._lock.__enter__.side_effect = lambda: both.wait(PATIENCE) >= 0 and lock.acquire()
+        self.store._lock.__exit__.side_effect = lambda *_: lock.release()
+        with futures.ThreadPoolExecutor(2) as pool:
+            self.assertEqual(list(pool.map(lambda _: self.store.close(), range(2))), [None, None])
 
     def test_not_through_a_server(self):
         for call, error in [

@@ -88,6 +88,19 @@ class Repeats(unittest.TestCase):
             self.assertEqual(other.new_node(), 1)
             del version, watch
 
+    def test_ended_watch(self):
+        """A watch that has ended can't be lost, even while the program still refers to it."""
+        with self.connect() as closed, self.connect() as refused:
+            closed.make_index("size", bestore.INT64)
+            with closed.watch() as one:
+                pass
+            other = refused.watch("size>=0")
+            refused.remove_index("size")
+            self.assertRaises(bestore.NotCovered, other.wait, PATIENCE)
+            self.start_again()
+            self.assertEqual([closed.new_node(), refused.new_node()], [1, 2])
+            del one, other
+
     def test_given_up(self):
         """The server isn't back in time."""
         store = self.connect(repeat=0.2)

@@ -450,8 +450,9 @@ class ConnectedPass(LockOwner, ThreadPass):
         """Closes the connection if it is open, which returns the pass. The store remains on the server."""
         if self._connection is not None and not self._is_dead:
             with self._lock:
-                self._connection.close()
-                self._connection = None
+                connection, self._connection = self._connection, None
+                if connection is not None:  # unless another thread has closed it meanwhile
+                    connection.close()
 
     def finish(self) -> str:
         """Raises `Unavailable`, because only the server closes its store."""
@@ -663,7 +664,8 @@ class ConnectedWatch(Watch):
         """Takes changes. Returns whether the same commit has more changes."""
         error = push.get("error")
         if error is not None:
-            self._error, self._number = error_of(self._user.path, error, self.query), None
+            self._error = error_of(self._user.path, error, self.query)
+            self._forget()
         came, went = set(read_nodes(push["created"])), set(read_nodes(push["removed"]))
         created, removed = self._created - went | came - self._removed, self._removed - came | went - self._created
         self._check_room(max(len(created), len(removed)))
@@ -678,6 +680,13 @@ class ConnectedWatch(Watch):
         pages = self._user.server.pages * self._user.server.volumes
         if nodes > pages * _WORDS:
             raise ValueError(f"the server pushed more nodes than its {pages:,} pages have room for")
+
+    def _forget(self) -> Optional[int]:
+        """Ends the watch here. Returns its number, unless it had already ended."""
+        number, self._number = self._number, None
+        if number is not None:
+            self._user._watches.pop(number, None)
+        return number
 
     def _returned(self) -> Changes:
         changes = Changes(sorted(self._created), sorted(self._removed))
@@ -736,7 +745,7 @@ class ConnectedWatch(Watch):
 
     def close(self) -> None:
         """Ends the watch, unless it has already ended."""
-        user, number, self._number = self._user, self._number, None
+        user, number = self._user, self._forget()
         if number is not None and not user._is_dead:
             with suppress(BrokenConnection), user._lock:
                 user._ended.append(number)
