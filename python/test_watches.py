@@ -6,6 +6,7 @@ import shutil
 import signal
 import tempfile
 import threading
+import time
 import unittest
 from unittest import mock
 
@@ -140,11 +141,13 @@ class OfThisProcess(Watches):
                 self.assertRaises(bestore.Pinned, watch.wait, 0)
                 self.assertRaises(bestore.Pinned, self.store.watch)
             self.assertIsNone(watch.wait(0))
+            begun = time.monotonic()
             self.later(watch.close)
             self.assertRaises(bestore.Closed, watch.wait, PATIENCE)
         with self.store.watch() as watch:
             self.later(self.store.close)
             self.assertRaises(bestore.Closed, watch.wait, PATIENCE)
+        self.assertLess(time.monotonic() - begun, PATIENCE)  # each of them woke this thread
 
     def test_many_wait(self):
         passes, seen = [self.store.another() for _ in range(8)], []
