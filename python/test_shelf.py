@@ -211,6 +211,13 @@ class Writes(Indexed):
         self.assertRaises(bestore.PartialIndex, store.apply, mixed)
         self.assertRaises(bestore.PartialIndex, store.change, lambda change: change.make_index("a", bestore.STRING))
 
+    def test_index_of_the_only_volume(self):
+        store = self.indexed(1)
+        store.change(lambda change: change.make_index("name", bestore.STRING))
+        store.change(lambda change: change.remove_index("size"))
+        with store.pin() as version:
+            self.assertEqual((version.indices(), version.number), ({"name": bestore.STRING}, 3))
+
     def test_reindex(self):
         store = self.shelf(2)
         made = [self.sized(store, number % 2, number) for number in range(150)]

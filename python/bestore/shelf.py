@@ -371,8 +371,8 @@ class Shelf(ThreadPass):
         return ShelfVersion(self, taken(user.pin for user in self._passes))
 
     def _begin_change(self, check_kinds: bool, volume: Optional[int]) -> Change:
-        if volume is not None:
-            self._checked(volume)
+        if volume is not None or len(self._passes) == 1:
+            volume = self._checked(volume)
         return ShelfChange(self.pin(), self._passes, check_kinds, volume)
 
     def _change_on(self, version: Version, check_kinds: bool) -> Change:
