@@ -59,14 +59,18 @@ class Session(ABC):
         """Returns whether something may have been written since the last call."""
 
     def written(self, since: Numbers, version: bestore.Version) -> Optional[Set[Node]]:
-        """Returns the nodes whose attributes were set after these commits, up to a snapshot, or None if there is too much to read."""
+        """Returns the nodes whose attributes were set after these commits, up to a snapshot, or None if there is too much to read,
+        or if the server has freed some of it."""
         now = version.numbers
         if len(now) != len(since) or sum(now) - sum(since) > MANY:
             return None
         nodes: Set[Node] = set()
-        for volume, (first, last) in enumerate(zip(since, now)):
-            for entry in self._entries(volume if len(now) > 1 else None, first, last):
-                nodes.update(it.node for it in entry.operations if isinstance(it, (bestore.SetAttribute, bestore.UnsetAttribute)))
+        try:
+            for volume, (first, last) in enumerate(zip(since, now)):
+                for entry in self._entries(volume if len(now) > 1 else None, first, last):
+                    nodes.update(it.node for it in entry.operations if isinstance(it, (bestore.SetAttribute, bestore.UnsetAttribute)))
+        except bestore.Expired:
+            return None
         return nodes
 
     def _entries(self, volume: Optional[int], first: int, last: int) -> Iterator[bestore.Entry]:

@@ -277,6 +277,36 @@ class OverServer(unittest.TestCase):
         self.assertEqual([it.fault for it in self.reports("--keep", "FOLDER/file")], [None, None])
         self.assertEqual([it.fault for it in self.reports()], ["there is a different store now"] * 2)
 
+    def test_entries_that_were_freed(self) -> None:
+        """If the server has freed entries that haven't been read, all hits are read again."""
+        with servers.Server("--pages", 512, "--journal", 1) as server, server.connect() as store:
+            store.make_index("size", bestore.INT64)
+            node, names = file_of(store, name="a", size=1), []  # type: int, List[object]
+            read = store.committed
+            asking = Asker(ServerSource(server.path))
+            self.addCleanup(asking.end)
+            asking.start()
+            asking.send(Ask(1, "size==1", ("name",)))
+
+            def shown(name: str) -> bool:
+                while not asking.reports.empty():
+                    report = asking.reports.get()
+                    if isinstance(report, Came):
+                        names.extend(hit.attributes["name"] for hit in report.hits)
+                return names[-1:] == [name]
+
+            def is_freed() -> bool:
+                store.set(node, "name", "b")
+                try:
+                    return not any(store.journal_from(read))
+                except bestore.Expired:
+                    return True
+            self.assertTrue(wait_for(lambda: shown("a")))
+            with mock.patch.object(_ServerSession, "has_news", return_value=False):
+                self.assertTrue(wait_for(is_freed))
+            self.assertTrue(wait_for(lambda: shown("b")))
+            asking.end()
+
 
 if __name__ == "__main__":
     unittest.main()
