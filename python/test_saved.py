@@ -481,6 +481,20 @@ class Refused(Files):
             refused = self.refusal(path)
             self.assertEqual((type(refused), refused.path), (saved.SqliteError, path))
             self.assertIn("unable to open", str(refused))
+        missing = self.refusal(os.path.join(self.folder, "missing", "file"))
+        self.assertTrue(str(missing).endswith("unable to open database file: No such file or directory"), missing)
+
+    def test_read_only(self):
+        three(self.path)
+        os.chmod(self.path, 0o444)
+        os.chmod(self.folder, 0o755)
+        own = os.geteuid()
+        os.seteuid(own or 65534)  # root may write every file
+        try:
+            refused = self.refusal()
+        finally:
+            os.seteuid(own)
+        self.assertTrue(str(refused).endswith("unable to open database file: Permission denied"), refused)
 
     def test_names(self):
         """SQLite doesn't treat these names as plain file names."""

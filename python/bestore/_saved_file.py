@@ -4,6 +4,7 @@ format."""
 from __future__ import annotations
 
 import ctypes
+import errno
 import os
 import sqlite3
 import weakref
@@ -53,9 +54,14 @@ class About(NamedTuple):
 
 def _make_private(path: str) -> None:
     """Creates the file if it doesn't exist, with a mode that lets only the user read it. SQLite gives the `-wal` file the same
-    mode."""
-    with suppress(OSError, ValueError):  # if the file can't be created, opening it says why
-        os.close(os.open(os.path.realpath(path), os.O_WRONLY | os.O_CREAT | os.O_EXCL, 0o600))
+    mode. If the system refuses, raises SQLite's error with the system's reason, which SQLite wouldn't give."""
+    try:
+        with suppress(FileExistsError, ValueError):
+            os.close(os.open(os.path.realpath(path), os.O_WRONLY | os.O_CREAT | os.O_EXCL, 0o600))
+        if os.path.exists(path) and not os.access(path, os.R_OK | os.W_OK, effective_ids=True):
+            raise PermissionError(errno.EACCES, os.strerror(errno.EACCES))
+    except OSError as error:
+        raise sqlite3.OperationalError(f"unable to open database file: {error.strerror}") from error
 
 
 class File:

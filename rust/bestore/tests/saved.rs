@@ -9,10 +9,10 @@ use bestore_types::saved::file::File;
 use common::Folder;
 use rusqlite::Connection;
 use std::collections::BTreeMap;
-use std::fs::Permissions;
+use std::fs::{self, Permissions};
 use std::io::{BufRead, BufReader, Write};
 use std::os::unix::fs::{symlink, PermissionsExt};
-use std::path::Path;
+use std::path::{Path, PathBuf};
 use std::process::{Child, Command, Stdio};
 use std::thread;
 use std::time::{Duration, SystemTime, UNIX_EPOCH};
@@ -352,6 +352,36 @@ fn files_of_others_are_refused() {
     );
     let missing = refusal(&folder.0.join("no folder/file"));
     assert!(matches!(missing, SavedError::Sqlite { .. }), "{missing}");
+}
+
+/// Returns why a user who isn't root can't open the file.
+fn refusal_to_user(path: PathBuf) -> SavedError {
+    let other = thread::spawn(move || {
+        // The thread opens files as this user, if root runs the tests.
+        unsafe { libc::setfsuid(65_534) };
+        refusal(&path)
+    });
+    other.join().unwrap()
+}
+
+#[test]
+fn a_file_that_cannot_be_opened_says_why() {
+    let folder = Folder::new("unopened");
+    let (absent, empty) = (folder.file(), folder.0.join("empty"));
+    fs::write(&empty, "").unwrap();
+    fs::set_permissions(&empty, Permissions::from_mode(0o444)).unwrap();
+    let nothing = "No such file or directory (os error 2)";
+    for (refused, why) in [
+        (refusal(&folder.0.join("no folder/file")), nothing),
+        (Options::new().load(&absent).unwrap_err(), nothing),
+        (refusal(&folder.0), "Is a directory (os error 21)"),
+        (refusal_to_user(empty), "Permission denied (os error 13)"),
+    ] {
+        let said = refused.to_string();
+        let end = format!(": unable to open database file: {why}");
+        assert!(said.ends_with(&end), "{said}");
+    }
+    assert!(!absent.exists());
 }
 
 #[test]

@@ -5,7 +5,7 @@ use super::tables::{self, APPLICATION, FORMAT, WITHOUT_CHECKSUMS};
 use super::{Error, Place, Result};
 use crate::{Batch, Limits};
 use rusqlite::config::DbConfig;
-use rusqlite::{Connection, OpenFlags, Transaction};
+use rusqlite::{ffi, Connection, OpenFlags, Transaction};
 use std::collections::VecDeque;
 use std::fs::OpenOptions;
 use std::ops::RangeInclusive;
@@ -118,6 +118,25 @@ fn make_private(path: &Path) {
     }
 }
 
+/// Adds the system's reason if SQLite couldn't open the file or, unless the file is only read, couldn't write it: SQLite doesn't say why. If a
+/// store of this process has the file open, SQLite's error is another one, and the file mustn't be opened here, which would unlock it.
+fn explained(opened: Result<File>, place: &Path, writes: bool) -> Result<File> {
+    let (path, error) = match opened {
+        Err(Error::Sqlite { path, error }) => (path, error),
+        opened => return opened,
+    };
+    let mut again = OpenOptions::new();
+    again.read(true).write(writes).create(writes).mode(0o600);
+    let error = match again.open(place) {
+        Ok(_) => error,
+        Err(why) => {
+            let failed = ffi::Error::new(ffi::SQLITE_CANTOPEN);
+            rusqlite::Error::SqliteFailure(failed, Some(format!("unable to open database file: {why}")))
+        }
+    };
+    Err(Error::Sqlite { path, error })
+}
+
 #[derive(Debug)]
 pub struct File {
     connection: Connection,
@@ -140,9 +159,8 @@ impl File {
         // SQLite doesn't treat `:memory:` or an empty name as a file. After a folder's name, SQLite takes every name as that of a file.
         let within = Path::new(".").join(path);
         make_private(&within);
-        let mut file = Self::connect(&within, path, flags)?;
-        file.take()?;
-        Ok(file)
+        let opened = Self::connect(&within, path, flags).and_then(|mut file| file.take().map(|()| file));
+        explained(opened, &within, true)
     }
 
     /// Connects to the file at `place`, which errors call `path`.
@@ -162,7 +180,8 @@ impl File {
     /// Opens a store's file for reading, without changing it.
     pub fn open_to_read(path: &Path) -> Result<Self> {
         let flags = OpenFlags::SQLITE_OPEN_READ_ONLY | OpenFlags::SQLITE_OPEN_NO_MUTEX;
-        let mut file = Self::connect(&Path::new(".").join(path), path, flags)?;
+        let within = Path::new(".").join(path);
+        let mut file = explained(Self::connect(&within, path, flags), &within, false)?;
         file.sqlite(file.connection.busy_timeout(Duration::ZERO))?;
         match file.check_format()? {
             false => Ok(file),
