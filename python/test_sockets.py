@@ -1,6 +1,7 @@
 """Tests of a server's socket: where it is, who may own the server, and how long connecting takes."""
 
 import contextlib
+import errno
 import os
 import socket
 import tempfile
@@ -73,6 +74,13 @@ class Users(unittest.TestCase):
             with variables(BESTORE_SOCKET=path):
                 bestore.connect().close()
             bestore.connect(path).close()
+
+    def test_no_permission(self):
+        refused = PermissionError(errno.EACCES, os.strerror(errno.EACCES))
+        with mock.patch.object(_connection, "_connects", side_effect=refused), self.assertRaises(bestore.NoServer) as fault:
+            bestore.connect("p")
+        self.assertEqual(str(fault.exception), "p: no server can be reached: Permission denied; only the server's own user and root "
+                         "may connect")
 
     def test_own_user_and_root(self):
         for user in os.geteuid(), 0:

@@ -19,9 +19,13 @@ class NoServer(ServerError, ConnectionError):
     """No server can be reached through the socket. The system's error is in `__cause__`."""
 
     error_class = ErrorClass.GONE
-    _summary = "no server can be reached: {reason}; start it with `bestored --background`"
-
     reason: str
+
+    @property
+    def summary(self) -> str:
+        is_refused = isinstance(self.__cause__, PermissionError)
+        advice = "only the server's own user and root may connect" if is_refused else "start it with `bestored --background`"
+        return f"no server can be reached: {self.reason}; {advice}"
 
 
 @dataclass(eq=False, repr=False)

@@ -16,8 +16,8 @@ use std::{fmt, io};
 /// Why a command failed.
 #[derive(Debug, thiserror::Error)]
 pub enum Failure {
-    /// No server is listening at the socket.
-    #[error("no server answers at {}: {1}\n  {} starts one", shown(.0.path()), start_of(.0))]
+    /// No server is listening at the socket, or it is another user's.
+    #[error("no server answers at {}: {1}\n  {}", shown(.0.path()), advice(.0, .1))]
     NoServer(SocketPath, io::Error),
     /// The server refused a request, or the connection failed.
     #[error("{}", message(.0))]
@@ -143,11 +143,14 @@ impl fmt::Display for QueryRefused {
     }
 }
 
-/// Returns the command that starts a server at this socket.
-fn start_of(socket: &SocketPath) -> String {
+/// Says which command starts a server at this socket, unless the system doesn't let this user connect to it.
+fn advice(socket: &SocketPath, error: &io::Error) -> String {
+    if error.kind() == io::ErrorKind::PermissionDenied {
+        return "only the server's own user and root may connect".into();
+    }
     match socket {
-        SocketPath::Named(path) => format!("bestored --background --socket {}", shown(path)),
-        SocketPath::Default(_) => "bestored --background".into(),
+        SocketPath::Named(path) => format!("bestored --background --socket {} starts one", shown(path)),
+        SocketPath::Default(_) => "bestored --background starts one".into(),
     }
 }
 

@@ -4,7 +4,7 @@ use crate::common::files::Folder;
 use crate::common::{server_program, Said, Server, BE};
 use bestore_client::Client;
 use std::fs;
-use std::os::unix::fs::PermissionsExt;
+use std::os::unix::fs::{MetadataExt, PermissionsExt};
 use std::os::unix::net::UnixListener;
 use std::os::unix::process::CommandExt;
 use std::path::Path;
@@ -64,6 +64,27 @@ fn a_wait_ends() {
         assert_eq!(said.status, 1);
         assert!(said.error.contains("no server answers at "), "{said:?}");
     }
+}
+
+#[test]
+fn a_socket_of_another_user_is_reported_as_such() {
+    let folder = Folder::new();
+    fs::set_permissions(&folder.0, fs::Permissions::from_mode(0o755)).unwrap();
+    let socket = folder.word("socket");
+    let _listener = UnixListener::bind(&socket).unwrap();
+    fs::set_permissions(&socket, fs::Permissions::from_mode(0)).unwrap();
+    let mut command = be(&["--socket", &socket, "status"]);
+    if fs::metadata(&socket).unwrap().uid() == 0 {
+        command.uid(NOBODY).gid(NOBODY); // root may connect to any socket
+    }
+    let said: Said = match command.output() {
+        Ok(output) => output.into(),
+        Err(error) => return println!("be, a socket of another user: skipped, another user can't run be: {error}"),
+    };
+    let why = format!(
+        "be: no server answers at {socket}: Permission denied (os error 13)\n  only the server's own user and root may connect\n"
+    );
+    assert_eq!((said.status, said.error), (1, why));
 }
 
 #[test]
