@@ -69,9 +69,13 @@ _be() {
         case $command:$cur in
         *:-*) _be_offer < <(_be_options "$command") ;;
         :*) _be_offer < <(printf '%s\n' query addattr catattr listattr rmattr rmnode import mkindex lsindex rmindex reindex status info clients kick backup restore dump) ;;
-        query:* | addattr:* | catattr:* | rmattr:* | rmindex:* | reindex:*) _be_offer < <(_be_indices) ;;
+        query:* | rmindex:* | reindex:*) _be_offer < <(_be_indices) ;;
+        addattr:* | catattr:* | rmattr:*)
+            compopt -o default
+            _be_offer < <(_be_indices)
+            ;;
         import:*) compopt -o dirnames ;;
-        backup:* | restore:*) compopt -o default ;;
+        listattr:* | rmnode:* | backup:* | restore:*) compopt -o default ;;
         esac
         ;;
     esac

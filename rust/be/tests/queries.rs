@@ -461,9 +461,10 @@ fn words_are_completed() {
         ". {functions}; . {}/completion/be.bash; complete_line() {{ \
          COMP_LINE=$1; COMP_POINT=${{#1}}; read -ra COMP_WORDS <<<\"${{1//:/ : }}\"; \
          [[ $1 != *' ' ]] || COMP_WORDS+=(''); COMP_CWORD=$((${{#COMP_WORDS[@]}} - 1)); \
-         _be; echo \"${{COMPREPLY[*]}}\"; }}; \
+         _be; echo \"${{COMPREPLY[*]}}\"; }}; compopt() {{ echo \"$*\"; }}; \
          complete_line 'be lsi'; complete_line 'be query --co'; complete_line 'be addattr -t uint'; \
-         complete_line 'be rmindex s'; complete_line 'be rmindex MAIL:f'; complete_line 'be query --sort si'",
+         complete_line 'be rmindex s'; complete_line 'be rmindex MAIL:f'; complete_line 'be query --sort si'; \
+         complete_line 'be catattr size so'; complete_line 'be rmnode s'",
         env!("CARGO_MANIFEST_DIR")
     );
     let mut command = Command::new("bash");
@@ -475,7 +476,7 @@ fn words_are_completed() {
         .env("PATH", path);
     let said: Said = command.output().unwrap().into();
     assert_eq!(
-        said.out, "lsindex\n--columns --count\nuint32 uint64\nsize\nfrom\nsize\n",
+        said.out, "lsindex\n--columns --count\nuint32 uint64\nsize\nfrom\nsize\n-o default\n\n-o default\n\n",
         "{}",
         said.error
     );
