@@ -488,6 +488,34 @@ fn extended_attributes_are_read_and_written() {
 }
 
 #[test]
+fn what_is_set_on_a_node_stays_until_the_files_extended_attributes_change() {
+    let server = server!(Server::start());
+    let folder = small();
+    let (file, word) = (folder.path("a/x.txt"), folder.word("a/x.txt"));
+    for (name, value) in [("user.rating", "5"), ("user.mark", "x")] {
+        if let Err(error) = xattr::set(&file, name, value.as_bytes()) {
+            println!("be, changes of extended attributes: skipped, {error}");
+            return;
+        }
+    }
+    server.done(&["mkindex", "-t", "int32", "rating"]);
+    server.import(&folder);
+    for (rating, option) in [("3", "--json"), ("2", "--xattr"), ("1", "--reread")] {
+        server.done(&["addattr", "-t", "int32", "rating", rating, &word]);
+        fs::write(&file, rating.repeat(rating.parse::<usize>().unwrap() + 9)).unwrap();
+        server.done(&["import", option, &folder.all()]);
+        assert_eq!(server.value("rating", &file), rating);
+    }
+    server.done(&["rmattr", "mark", &word]);
+    fs::write(&file, "changed").unwrap();
+    server.import(&folder);
+    assert!(!server.done(&["listattr", &word]).contains("mark"));
+    xattr::set(&file, "user.rating", b"4").unwrap();
+    server.import(&folder);
+    assert_eq!(server.value("rating", &file), "4");
+}
+
+#[test]
 fn a_file_of_as_many_attributes_as_a_node_holds_is_imported() {
     let server = server!(Server::start());
     let folder = small();

@@ -67,6 +67,11 @@ const MOST: usize = 64;
 const VALUE: usize = 255;
 const NAME_LENGTH: usize = 63;
 
+/// The byte before the sum of a file's extended attributes in `FILE:xattrs`; it is in no name. The sum follows the names, which have up to
+/// this many bytes. As long as it stays the same, what a user has set on the node since the file was last read is newer than the file.
+pub const SUM: u8 = 0xff;
+const NAMES: usize = VALUE - 10;
+
 /// How many bytes of a file to read in order to determine its type.
 const BEGIN: usize = 1 << 12;
 
@@ -144,14 +149,16 @@ impl Reader {
     }
 
     /// Adds the file's `user.*` extended attributes.
-    fn add_extended(&self, path: &Path, content: &mut Content) {
-        let mut listed: Vec<u8> = Vec::new();
+    pub fn add_extended(&self, path: &Path, content: &mut Content) {
+        let (mut listed, mut sum): (Vec<u8>, u32) = (Vec::new(), 0);
         for full in xattr::list(path).into_iter().flatten() {
             let name = match full.as_bytes().strip_prefix(b"user.") {
                 Some(name) => name,
                 None => continue,
             };
-            match self.extended(path, &full, name) {
+            let extended = self.extended(path, &full, name);
+            sum = extended.iter().map(sum_of).fold(sum, u32::wrapping_add);
+            match extended {
                 Some((name, value)) if content.values.len() + 3 < MOST => {
                     if !listed.is_empty() {
                         listed.push(0);
@@ -164,6 +171,8 @@ impl Reader {
         }
         listed.truncate(whole_names(&listed));
         if !listed.is_empty() {
+            listed.extend_from_slice(&[0, SUM]);
+            listed.extend_from_slice(format!("{sum:08x}").as_bytes());
             content.values.insert(XATTRS.into(), listed.into());
         }
     }
@@ -198,12 +207,21 @@ impl Reader {
     }
 }
 
-/// Returns how many bytes of a list of names fit into a value without cutting a name short.
-pub fn whole_names(listed: &[u8]) -> usize {
-    if listed.len() <= VALUE {
+/// Returns how many bytes of a list of names fit into a value, before the sum, without cutting a name short.
+fn whole_names(listed: &[u8]) -> usize {
+    if listed.len() <= NAMES {
         return listed.len();
     }
-    listed[..=VALUE].iter().rposition(|byte| *byte == 0).unwrap_or(0)
+    listed[..=NAMES].iter().rposition(|byte| *byte == 0).unwrap_or(0)
+}
+
+/// Returns the FNV-1a sum of an extended attribute.
+fn sum_of((name, value): &(String, Value)) -> u32 {
+    let bytes = bytes_of(value);
+    let all = name.bytes().chain([0]).chain(bytes.iter().copied());
+    all.fold(0x811c_9dc5, |sum, byte| {
+        (sum ^ u32::from(byte)).wrapping_mul(0x0100_0193)
+    })
 }
 
 /// Returns a file's name within its folder. The root folder's name is `/`.
@@ -262,9 +280,9 @@ mod tests {
     #[test]
     fn a_list_of_names_is_cut_between_names() {
         assert_eq!(whole_names(b"a\0b"), 3);
-        let mut long = vec![b'a'; 250];
+        let mut long = vec![b'a'; 240];
         long.extend_from_slice(b"\0bcdefgh");
-        assert_eq!(whole_names(&long), 250);
+        assert_eq!(whole_names(&long), 240);
         assert_eq!(whole_names(&[b'a'; 300]), 0);
     }
 

@@ -1,6 +1,6 @@
 //! Changes to the nodes of files that already have one.
 
-use super::content::{is_same, OWN, PARENT, ROOT, STAT, XATTRS};
+use super::content::{is_same, OWN, PARENT, ROOT, STAT, SUM, XATTRS};
 use bestore_types::{Batch, Value};
 use std::collections::{BTreeMap, BTreeSet};
 use std::path::PathBuf;
@@ -40,7 +40,8 @@ impl Edits {
     }
 }
 
-/// Returns the changes that turn a node's attributes into its file's. Attributes that users have set are preserved.
+/// Returns the changes that turn a node's attributes into its file's. Attributes that users have set are preserved, and so is what they have
+/// done to those that come from extended attributes, unless the file's extended attributes have changed.
 pub fn between(had: &BTreeMap<String, Value>, wanted: &BTreeMap<String, Value>) -> Vec<Edit> {
     let listed = names_listed(had);
     let is_from_file = |name: &&String| OWN.contains(&name.as_str()) || listed.contains(name.as_str());
@@ -50,8 +51,10 @@ pub fn between(had: &BTreeMap<String, Value>, wanted: &BTreeMap<String, Value>) 
         .filter(|name| !wanted.contains_key(*name))
         .map(|name| Edit::Unset(name.clone()));
     let differs = |(name, value): &(&String, &Value)| had.get(*name).map_or(true, |had| !is_same(had, value));
+    let is_newer = sum_listed(had).is_some() && sum_listed(had) == sum_listed(wanted);
     let set = stat_last(wanted)
         .filter(differs)
+        .filter(|(name, _)| !is_newer || OWN.contains(&name.as_str()))
         .map(|(name, value)| Edit::Set(name.clone(), value.clone()));
     unset.chain(set).collect()
 }
@@ -64,9 +67,18 @@ pub fn stat_last(values: &BTreeMap<String, Value>) -> impl Iterator<Item = (&Str
 
 /// Returns the names of the attributes that come from the file's extended attributes.
 pub fn names_listed(attributes: &BTreeMap<String, Value>) -> BTreeSet<String> {
-    let bytes = attributes.get(XATTRS).and_then(Value::as_bytes).unwrap_or_default();
-    let names = bytes.split(|byte| *byte == 0).filter(|name| !name.is_empty());
+    let names = parts_listed(attributes).filter(|name| !name.is_empty() && name[0] != SUM);
     names.map(|name| String::from_utf8_lossy(name).into_owned()).collect()
+}
+
+/// Returns the sum of the file's extended attributes, which earlier versions didn't record.
+fn sum_listed(attributes: &BTreeMap<String, Value>) -> Option<&[u8]> {
+    parts_listed(attributes).find(|part| part.first() == Some(&SUM))
+}
+
+fn parts_listed(attributes: &BTreeMap<String, Value>) -> impl Iterator<Item = &[u8]> {
+    let bytes = attributes.get(XATTRS).and_then(Value::as_bytes).unwrap_or_default();
+    bytes.split(|byte| *byte == 0)
 }
 
 /// Returns whether a user has set an attribute on the node.

@@ -1,6 +1,6 @@
 //! `--xattr`: writes the attributes of nodes to extended attributes of their files.
 
-use super::content::{bytes_of, whole_names, OWN, STAT, XATTRS};
+use super::content::{bytes_of, Content, OWN, STAT, XATTRS};
 use super::edit::{Edit, Edits};
 use super::stat::{Form, Stat};
 use super::summary::Summary;
@@ -32,7 +32,7 @@ impl Import<'_> {
                 Ok((0, _)) => {}
                 Ok((written, stat)) => {
                     summary.xattrs_written += written;
-                    edits.push(self.written(path, node, &attributes, stat));
+                    edits.push(self.written(path, node, stat));
                 }
                 Err(error) => summary.refused.push((path, error.to_string())),
             }
@@ -42,18 +42,16 @@ impl Import<'_> {
     }
 
     /// Returns the changes to make to the node once its attributes are in the file.
-    fn written(&mut self, path: PathBuf, node: u64, attributes: &BTreeMap<String, Value>, stat: Stat) -> Edits {
+    fn written(&mut self, path: PathBuf, node: u64, stat: Stat) -> Edits {
         let text = stat.text();
         if let Some(known) = self.tree.files.get_mut(&path) {
             known.stat = text.clone();
         }
-        let names: Vec<&str> = users(attributes).map(|(name, _)| name.as_str()).collect();
-        let mut listed = names.join("\0").into_bytes();
-        listed.truncate(whole_names(&listed));
-        let edits = vec![
-            Edit::Set(STAT.into(), text.into()),
-            Edit::Set(XATTRS.into(), listed.into()),
-        ];
+        let mut content = Content::default();
+        self.reader.add_extended(&path, &mut content);
+        let listed = content.values.remove(XATTRS);
+        let mut edits = vec![Edit::Set(STAT.into(), text.into())];
+        edits.extend(listed.map(|listed| Edit::Set(XATTRS.into(), listed)));
         Edits { path, node, edits }
     }
 }
