@@ -5,6 +5,7 @@ use super::stat::{Form, Stat};
 use super::types::{Types, UNKNOWN};
 use super::walk::Found;
 use bestore_types::{Kind, Value};
+use crc32fast::Hasher;
 use std::borrow::Cow;
 use std::collections::BTreeMap;
 use std::ffi::OsStr;
@@ -215,13 +216,13 @@ fn whole_names(listed: &[u8]) -> usize {
     listed[..=NAMES].iter().rposition(|byte| *byte == 0).unwrap_or(0)
 }
 
-/// Returns the FNV-1a sum of an extended attribute.
+/// Returns the checksum of an extended attribute.
 fn sum_of((name, value): &(String, Value)) -> u32 {
-    let bytes = bytes_of(value);
-    let all = name.bytes().chain([0]).chain(bytes.iter().copied());
-    all.fold(0x811c_9dc5, |sum, byte| {
-        (sum ^ u32::from(byte)).wrapping_mul(0x0100_0193)
-    })
+    let mut sum = Hasher::new();
+    for part in [name.as_bytes(), &[0], &bytes_of(value)] {
+        sum.update(part);
+    }
+    sum.finalize()
 }
 
 /// Returns a file's name within its folder. The root folder's name is `/`.
