@@ -72,7 +72,7 @@ fn a_socket_of_another_user_is_reported_as_such() {
     fs::set_permissions(&folder.0, fs::Permissions::from_mode(0o755)).unwrap();
     let socket = folder.word("socket");
     let _listener = UnixListener::bind(&socket).unwrap();
-    fs::set_permissions(&socket, fs::Permissions::from_mode(0)).unwrap();
+    fs::set_permissions(&socket, fs::Permissions::from_mode(0o000)).unwrap();
     let mut command = be(&["--socket", &socket, "status"]);
     if fs::metadata(&socket).unwrap().uid() == 0 {
         command.uid(NOBODY).gid(NOBODY); // root may connect to any socket
