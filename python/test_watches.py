@@ -1,7 +1,9 @@
 """Tests of watches and of waiting for a commit: in this process, across several volumes, saved in a file, and with a server,
 which BESTORED names."""
 
+import copy
 import os
+import pickle
 import shutil
 import signal
 import tempfile
@@ -112,6 +114,22 @@ class Watches(Stores):
                             for volume in range(self.store.volumes) for _ in range(2)])
         self.assertEqual(self.store.reach(expected, PATIENCE), tuple(expected))
         self.assertRaises(bestore.NotReached, self.store.reach, [number + 1 for number in expected], 0.01)
+
+    def test_copies(self):
+        """A copy of a handle would close what the original still uses, so there are none."""
+        node = self.sized(7)
+        with self.store.watch("size>=5") as watch, self.store.prepare("size>=5") as prepared:
+            with self.store.pin() as version:
+                for handle in (self.store, watch, prepared, version):
+                    self.assert_uncopied(handle)
+                self.assertEqual(version.query_prepared(prepared), [node])
+            self.store.change(self.assert_uncopied)
+            self.assertEqual(watch.wait(PATIENCE), ([node], []))
+
+    def assert_uncopied(self, handle):
+        for copying in (copy.copy, copy.deepcopy, pickle.dumps):
+            with self.assertRaisesRegex(TypeError, "^a [a-z ]+ can't be copied or pickled; [a-z]+ "):
+                copying(handle)
 
 
 class OfThisProcess(Watches):

@@ -3,7 +3,7 @@
 from __future__ import annotations
 
 from abc import abstractmethod
-from typing import ClassVar, Dict, Iterable, Iterator, List, MutableMapping, Optional, Tuple
+from typing import Dict, Iterable, Iterator, List, MutableMapping, Optional, Tuple
 
 from .language import Hint
 from .operations import MOST_OPERATIONS, Batch
@@ -22,7 +22,8 @@ class Change(Version):
     query outside a change, because the function may run again. A 65th operation raises `BadCount`. A call that raises collects
     nothing, and the operations collected earlier are unaffected."""
 
-    _shown: ClassVar[str] = "change"
+    _what = "change"
+    _instead = "use it only in the function that it is passed to"
 
     def __init__(self, snapshot: Version) -> None:
         self._snapshot = snapshot

@@ -5,13 +5,25 @@ from __future__ import annotations
 import os
 import threading
 from types import TracebackType
-from typing import ClassVar, Optional, Type, TypeVar
+from typing import ClassVar, NoReturn, Optional, SupportsIndex, Type, TypeVar
 
 from .errors import Forked
 
 _Self = TypeVar("_Self", bound="Owner")
 
-class Owner:
+class Uncopied:
+    """Something of which there is only one, because a copy would release what the original still uses. Copying or pickling it
+    raises a TypeError."""
+
+    _what: ClassVar[str] = "handle"  # in messages
+    _instead: ClassVar[str] = "open another one"  # what to do instead
+
+    def __reduce_ex__(self, protocol: SupportsIndex) -> NoReturn:
+        """Raises, because `copy`, `deepcopy` and `pickle` all begin with this call."""
+        raise TypeError(f"a {self._what} can't be copied or pickled; {self._instead}")
+
+
+class Owner(Uncopied):
     """Owns a handle and releases it on `close`, at the end of a `with`, or when the owner is destroyed.
 
     A handle takes one call at a time, so calls from several threads wait for each other. In a forked child, the handle is dead:

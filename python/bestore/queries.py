@@ -30,6 +30,9 @@ class Prepared(Owner):
     """A query that `prepare` or `prepare_items` has parsed once, for repeated use. It belongs to no store.
     `Version.query_prepared` runs the query, and `Version.refresh` returns what changed since its last refresh."""
 
+    _what = "prepared query"
+    _instead = "prepare its text again"
+
     source: Optional[str]
     """The text that the query was prepared from, or None if it was prepared from items."""
     _refreshing: threading.RLock  # held while the query is refreshed; guards the fields below

@@ -123,6 +123,9 @@ class Witness(Owner, ABC):
     """Records what a pass has seen of its store, so that another thread's pass of the same store can join it. `Pass.witness`
     creates a witness, and `Pass.join` joins it. A witness keeps no part of the store in use."""
 
+    _what = "witness"
+    _instead = "give it to the other thread as it is, or ask the pass for another one"
+
     @abstractmethod
     def close(self) -> None:
         """Closes the witness if it is open."""
@@ -133,6 +136,8 @@ class Pass(Owner, ABC):
     returns a pass of a server's store. `another` returns further passes. Give each thread its own pass, because calls on the
     same pass wait for each other."""
 
+    _what = "pass"
+    _instead = "get one for another thread from `another`; another process connects to a server"
     _committed: int
     _is_changing: bool  # whether this thread is running a change's function
 

@@ -6,9 +6,10 @@ import operator
 from abc import ABC, abstractmethod
 from bisect import bisect_left
 from types import TracebackType
-from typing import ClassVar, Dict, Iterable, Iterator, List, Literal, Mapping, Optional, Tuple, Type, TypeVar, Union, overload
+from typing import Dict, Iterable, Iterator, List, Literal, Mapping, Optional, Tuple, Type, TypeVar, Union, overload
 
 from .errors import NoAttribute, NoNode, NotCovered, NoVolume, no_index, no_room
+from .handles import Uncopied
 from .language import Hint, all_in, comparisons, hints_in
 from .operations import Batch
 from .pages import After, Cursor, Order, Page, cursor_of, decode_key, encode_key, order_by
@@ -40,14 +41,15 @@ def not_covered(asked: Query, indices: Iterable[str]) -> NotCovered:
     return error
 
 
-class Version(ABC):
+class Version(Uncopied, ABC):
     """A snapshot: the store as it was when the pass was pinned, whatever is written in the meantime. A version can be read
     until it is unpinned, which happens at the end of a `with` block, by `unpin`, or when the object is destroyed. After that,
     each read raises `NotPinned`. `version[node]` returns a node's attributes, `node in version` says whether the node exists,
     and `for node in version` iterates over all nodes. While a version is pinned, the store keeps the version's pages, so unpin
     the version soon."""
 
-    _shown: ClassVar[str] = "version"
+    _what = "version"
+    _instead = "pin another one, or copy what you read from it"
 
     @property
     @abstractmethod
@@ -65,7 +67,7 @@ class Version(ABC):
         """Whether the version is still pinned."""
 
     def __repr__(self) -> str:
-        return f"<{self._shown} at commit {self.number}>"
+        return f"<{self._what} at commit {self.number}>"
 
     def __enter__(self: _Self) -> _Self:
         return self

@@ -8,6 +8,7 @@ from typing import TYPE_CHECKING, Iterator, List, NamedTuple, Optional
 
 from .commits import waiting
 from .errors import Closed
+from .handles import Uncopied
 from .queries import prepare
 
 if TYPE_CHECKING:
@@ -23,7 +24,7 @@ class Changes(NamedTuple):
     """The nodes that left, in ascending order."""
 
 
-class Watch(ABC):
+class Watch(Uncopied, ABC):
     """A live query that waits for changes, created by `Pass.watch`. The first time, all nodes that match the query join.
 
         with store.watch("MAIL:status==New") as unread:
@@ -32,6 +33,9 @@ class Watch(ABC):
 
     The changes returned so far add up to what the query finds at `commit`. Changes from several commits are returned together.
     Without a query, a watch waits for every commit and never returns nodes."""
+
+    _what = "watch"
+    _instead = "watch the query once more, through another pass in another thread"
 
     def __init__(self, query: Optional[str]) -> None:
         self.query = query
