@@ -12,7 +12,7 @@ from unittest import mock
 
 import bestore
 import test_changes
-from bestore import nodes, saved
+from bestore import local, nodes, saved
 from bestore._saved_file import File
 from servers import BESTORED, MEMORY, Server
 
@@ -307,6 +307,56 @@ class LocalWrites(InProcess, Writes, unittest.TestCase):
             self.assertRaises(bestore.NoVolume, alone.apply, bestore.Batch().new_node(), volume=1)
             self.assertEqual((alone.volumes, alone.apply(bestore.Batch().new_node(), volume=0)[1]), (1, [1]))
             self.assertEqual((alone.reach(1, 0), alone.statuses()), ((1,), [alone.status()]))
+
+    def test_indices_before_the_volume(self):
+        """A change's operation on an index that isn't valid raises immediately, though the change has no volume yet."""
+        store = self.shelf(2)
+
+        def invalid(change):
+            change.make_index("size", bestore.INT64)
+            for error, name, kind in [
+                    (bestore.NoKind, "a", 999), (bestore.NameLength, "", bestore.INT64), (bestore.NameLength, "a" * 64, bestore.INT64),
+                    (bestore.HasNul, "a\0", bestore.INT64), (bestore.NotUTF8, "\ud800", bestore.INT64), (TypeError, 5, bestore.INT64)]:
+                self.assertRaises(error, change.make_index, name, kind)
+            self.assertRaises(bestore.NameLength, change.remove_index, "")
+            self.assertEqual(change.room, 63)
+            return change.new()
+        node = store.change(invalid)
+        with store.pin() as version:
+            self.assertEqual((list(version), version.partial_indices()), ([node], {"size": [bestore.volume_of(node)]}))
+
+        def too_many(change):
+            for place in range(64):
+                change.make_index(f"n{place}", bestore.INT64)
+            change.make_index("n64", bestore.INT64)
+        self.assertRaises(bestore.BadCount, store.change, too_many)
+
+        def unpinned(change):
+            change.unpin()
+            change.make_index("a", bestore.INT64)
+        self.assertRaises(bestore.NotPinned, store.change, unpinned)
+
+    def test_indices_that_the_volume_takes_later(self):
+        """If an early operation can't be collected once the volume is known, the next call collects it."""
+        store, make_index, errors = self.shelf(2), local.LocalChange.make_index, [bestore.NoMemory(), bestore.NoMemory()]
+
+        def failing(change, name, kind):
+            if errors:
+                raise errors.pop()
+            make_index(change, name, kind)
+
+        def index(change):
+            change.make_index("size", bestore.INT64)
+            for _ in range(2):
+                self.assertRaises(bestore.NoMemory, change.new)
+            self.assertEqual(change.room, 63)
+        with mock.patch.object(local.LocalChange, "make_index", failing):
+            store.change(index)
+        self.assertEqual([list(indices) for indices in map(self.indices_in, store._passes)], [["size"], []])
+
+    def indices_in(self, user):
+        with user.pin() as version:
+            return version.indices()
 
     def test_witness(self):
         store = self.shelf(2, passes=2)

@@ -2,10 +2,10 @@
 
 from __future__ import annotations
 
-from typing import TYPE_CHECKING, Callable, Dict, Iterable, List, Optional, Tuple
+from typing import TYPE_CHECKING, Callable, Dict, Iterable, List, Optional, Tuple, Union
 
 from .change import Change
-from .errors import NoNode, NotPinned, OtherVolume, PartialIndex
+from .errors import HasNul, NameLength, NoNode, NotPinned, OtherVolume, PartialIndex
 from .nodes import NUMBERS, node_in, node_number, of_volume, volume_of
 from .operations import Batch
 from .values import Typed, Value
@@ -13,6 +13,9 @@ from .values import Typed, Value
 if TYPE_CHECKING:
     from .shelf import ShelfVersion
     from .store import Pass
+
+_OfIndex = Callable[[Union[Change, Batch]], object]
+"""Adds an operation on an index to a change, or to a batch."""
 
 
 class ShelfChange(Change):
@@ -28,16 +31,16 @@ class ShelfChange(Change):
         self.volume = volume
         """The volume that is written, once it is known."""
         self._within: Optional[Change] = None
-        self._early: List[Callable[[Change], None]] = []  # operations on indices before the volume is known
+        self._early: List[_OfIndex] = []  # operations on indices that the volume's change doesn't have yet
 
     @property
     def _count(self) -> int:
-        return len(self._early) if self._within is None else self._within._count
+        return len(self._early) + (0 if self._within is None else self._within._count)
 
     def _collected(self) -> Batch:
-        if self._within is None or self.volume is None:
+        if self.volume is None:
             raise PartialIndex(0)
-        return of_volume(self._within._collected(), self.volume)
+        return of_volume(self._in(self.volume)._collected(), self.volume)
 
     def _in(self, volume: int) -> Change:
         """Returns the change to this volume. Raises `OtherVolume` if a different volume is written."""
@@ -47,18 +50,19 @@ class ShelfChange(Change):
             raise OtherVolume(self.volume, self._count)
         if self._within is None:
             self._within = self._begun(volume)
+        while self._early:  # after an error, the next call goes on with the operation that failed
+            self._early[0](self._within)
+            del self._early[0]
         return self._within
 
     def _begun(self, volume: int) -> Change:
-        """Returns the change to this volume, with the index operations collected so far."""
+        """Returns the change to this volume."""
         if not self._snapshot._is_pinned:
             raise NotPinned()
         within = self._users[volume]._change_on(self._snapshot.volumes[volume], self._check_kinds)
         versions = list(self._snapshot.volumes)
         versions[volume] = within
         self._snapshot.volumes = tuple(versions)
-        for collect in self._early:
-            collect(within)
         return within
 
     def _end(self) -> Tuple[int, Change]:
@@ -94,17 +98,32 @@ class ShelfChange(Change):
         within.unset(number, name)
 
     def make_index(self, name: str, kind: int) -> None:
-        self._about_index(lambda within: within.make_index(name, kind))
+        self._about_index(lambda to: to.make_index(name, kind))
 
     def remove_index(self, name: str) -> None:
-        self._about_index(lambda within: within.remove_index(name))
+        self._about_index(lambda to: to.remove_index(name))
 
-    def _about_index(self, collect: Callable[[Change], None]) -> None:
-        """Collects an operation that names no node, once the volume is known."""
+    def _about_index(self, collect: _OfIndex) -> None:
+        """Collects an operation that names no node. Until the volume is known, only checks it."""
         if self.volume is None:
+            self._check_early(collect)
             self._early.append(collect)
         else:
             collect(self._in(self.volume))
+
+    def _check_early(self, collect: _OfIndex) -> None:
+        """Raises the error that a volume's change would raise for this operation."""
+        if not self._snapshot._is_pinned:
+            raise NotPinned()
+        early = Batch()
+        for each in (*self._early, collect):
+            each(early)
+        early.to_bytes()
+        place, name = len(self._early), early._parts()[-1][4]
+        if not name:
+            raise NameLength(place, listed="operation")
+        if b"\0" in name:
+            raise HasNul(place, listed="operation")
 
     def get(self, node: int, name: str) -> Optional[Value]:
         return self._snapshot.get(node, name)
