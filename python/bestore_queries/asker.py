@@ -291,7 +291,7 @@ class Asker(threading.Thread):
                 continue
             try:
                 self._serve(session)
-            except bestore.ServerError as error:
+            except bestore.Error as error:
                 self._report(Lost(str(error)))
                 self._ended.wait(RETRY)
             finally:

@@ -8,6 +8,7 @@ from unittest import mock
 
 import bestore
 from bestore_queries import asker
+from bestore.local import LocalPass
 from bestore.pages import Order
 from bestore_queries.asker import (
     Accepted, Ask, Asker, Begin, Came, Counted, First, Lost, Opened, Refused, Sort, Went, Write, Written)
@@ -183,6 +184,20 @@ class Asking(unittest.TestCase):
             self.asker.start()
             self.assertTrue(wait_for(lambda: self.has(Lost)))
         self.assertTrue(wait_for(lambda: self.has(Opened)))
+
+    def test_store_without_memory(self) -> None:
+        """An error that isn't the connection's is reported too, and the store is opened again."""
+        self.file("a")
+        pin, errors = LocalPass.pin, [bestore.NoMemory()]
+
+        def failing(user: LocalPass) -> bestore.Version:
+            if errors:
+                raise errors.pop()
+            return pin(user)
+        with mock.patch.object(LocalPass, "pin", failing), mock.patch.object(asker, "RETRY", 0.01):
+            self.start("size==1")
+            self.becomes("a")
+        self.assertEqual([it for it in self.others if isinstance(it, Lost)], [Lost(str(bestore.NoMemory()))])
 
     def breaks(self, *errors: Optional[bestore.Error]) -> "mock._patch[object]":
         """Makes the next writes end with these errors instead of being made. For None, the write is made."""
