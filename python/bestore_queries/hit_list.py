@@ -117,7 +117,7 @@ class HitList(tk.Frame):
     def clear(self) -> None:
         """Shows no hits."""
         self.selection.clear()
-        self.editor.end()
+        self._give_edit_up("The list was emptied during an edit")
         self._top, self._top_node = 0, -1
         self.paint()
 
@@ -126,7 +126,12 @@ class HitList(tk.Frame):
         self.selection.forget(node)
         cell = self.editor.cell
         if cell is not None and cell.node == node:
-            self._actions.warn(f"What you were editing is no longer a hit. You had typed: {self.editor.text}")
+            self._give_edit_up("What you were editing is no longer a hit")
+
+    def _give_edit_up(self, reason: str) -> None:
+        """Ends an edit that can't be finished, and shows what was typed."""
+        if self.editor.cell is not None:
+            self._actions.warn(f"{reason}. You had typed: {self.editor.text}")
             self.editor.end()
 
     def paint(self) -> None:

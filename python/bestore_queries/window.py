@@ -296,7 +296,9 @@ class Window:
         if isinstance(report, Opened):
             self._is_open, self._lost = True, ""
             self._take_indices(report.indices)
+            warning = self._warning
             self.ask(self._query.get() or find.everything(self._indices) or "")
+            self.warn(warning)  # because the user may not have seen it yet
         else:
             self._is_open, self._lost = False, report.reason
             self._take_nothing()

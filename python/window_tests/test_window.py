@@ -579,6 +579,27 @@ class OverServer(OnDisplay):
         self.shows(window, "a", "b")
         self.becomes(window, lambda: str(window.notice["text"]) == "")
 
+    def test_edit_as_the_server_goes(self) -> None:
+        """What was typed is shown, even once the server is back."""
+        self.make_files()
+        window = self.show(ServerSource(self.server.path), saved=self.saved)
+        self.shows(window, "a", "b", "home")
+        press(window, 0, 3)
+        window.list.edit()
+        entry = window.list.editor.entry
+        assert entry is not None
+        entry.insert(0, "text/x")
+        self.server.kill()
+        self.becomes(window, lambda: "The store can't be reached" in str(window.notice["text"]))
+        self.assertRegex(str(window.notice["text"]), "\nThe list was emptied during an edit. You had typed: text/x$")
+        self.server.start()
+        self.store = self.server.connect()
+        self.make_files()
+        self.shows(window, "a", "b", "home")
+        self.assertEqual(str(window.notice["text"]), "The list was emptied during an edit. You had typed: text/x")
+        window.ask("size>=0")
+        self.becomes(window, lambda: str(window.notice["text"]) == "")
+
     def test_own_server(self) -> None:
         """If no server is listening, the window starts one that saves its store, and stops it later."""
         folder = tempfile.mkdtemp(prefix="own-", dir=servers.MEMORY)
