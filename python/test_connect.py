@@ -464,6 +464,24 @@ class Dying(WithServer):
         with self.assertRaises(bestore.Disconnected):
             self.store.status()
 
+    def test_interrupted_pin(self):
+        """An exception that interrupts a pin, before it is sent or after its reply, doesn't leave the pass pinned."""
+        ask = connected.ConnectedPass._ask
+        for is_sent in False, True:
+            interrupts = [KeyboardInterrupt()]
+
+            def interrupted(user, command, *given, **named):
+                if command == "pin" and interrupts:
+                    if is_sent:
+                        ask(user, command, *given, **named)
+                    raise interrupts.pop()
+                return ask(user, command, *given, **named)
+            with mock.patch.object(connected.ConnectedPass, "_ask", interrupted), self.assertRaises(KeyboardInterrupt):
+                self.store.pin()
+            with self.store.pin() as version:
+                self.assertRaises(bestore.Pinned, self.store.pin)
+                self.assertEqual(list(version), [])
+
 
 class Following(WithServer):
     """Live queries while a second client writes."""

@@ -112,8 +112,11 @@ class ConnectedVersion(QueriedVersion):
 
     def __init__(self, user: ConnectedPass) -> None:
         self._user = user
-        self._number, self._next, self._numbers, self._nexts = user._pin()
-        self._is_pinned = True
+        try:
+            self._number, self._next, self._numbers, self._nexts = user._pin(self)
+        except BaseException:
+            self.unpin()  # which does nothing unless the pin was interrupted
+            raise
 
     @property
     def number(self) -> int:
@@ -375,6 +378,7 @@ class ConnectedPass(LockOwner, ThreadPass):
         with self._lock:
             connection = self._begin()
             try:
+                self._is_asking = True
                 return connection.ask(command, parameters, read, is_write, query)
             finally:
                 self._is_asking = False  # cleared here, because an interrupt may keep the call from being made
@@ -386,7 +390,6 @@ class ConnectedPass(LockOwner, ThreadPass):
             raise Closed()
         if self._is_asking:
             raise RuntimeError("a call on this pass was made during another one, such as by a signal handler")
-        self._is_asking = True
         return self._connection
 
     @property
@@ -394,22 +397,25 @@ class ConnectedPass(LockOwner, ThreadPass):
         """Whether calls can be made."""
         return self._connection is not None and self._connection.is_open
 
-    def _pin(self) -> Tuple[int, int, Tuple[int, ...], Tuple[int, ...]]:
-        """Pins the pass. Returns the commit number, the next node, and both of these for each volume."""
+    def _pin(self, version: ConnectedVersion) -> Tuple[int, int, Tuple[int, ...], Tuple[int, ...]]:
+        """Pins the pass for a version. Returns the commit number, the next node, and both of these for each volume."""
         self._check_process()
         with self._lock:
             self._unpin_left()
             if self._has_pin and self._is_open:
                 raise Pinned()
-            pinned = self._ask("pin", {}, _read_pin)
-            self._has_pin = True
-            return pinned
+            self._has_pin = version._is_pinned = True  # set first, because an interrupt may come after the reply
+            try:
+                return self._ask("pin", {}, _read_pin)
+            except Error:
+                self._has_pin = version._is_pinned = False
+                raise
 
     def _unpin(self) -> None:
         """Unpins the pass. Ending the connection would have the same effect."""
         self._has_pin = False
         if self._is_open:
-            with suppress(BrokenConnection):
+            with suppress(BrokenConnection, NotPinned):  # an interrupted pin may not have been sent
                 self._ask("unpin", {}, lambda ok: None)
 
     def _leave(self) -> None:
@@ -605,6 +611,7 @@ class ConnectedPass(LockOwner, ThreadPass):
         """Waits for a push. Returns whether one arrived."""
         connection = self._begin()
         try:
+            self._is_asking = True
             return connection.receive_pushes(timeout)
         finally:
             self._is_asking = False
