@@ -147,7 +147,7 @@ class Broken(unittest.TestCase):
 
     def test_errors_of_the_server(self):
         for name, error, said in [
-            ("NotSaved", saved.NotSaved, "the write is not saved: why"), ("Stopped", saved.Stopped, "saving has failed: why"),
+            ("NotSaved", bestore.NotSaved, "the write is not saved: why"), ("Stopped", bestore.Stopped, "saving has failed: why"),
             ("NotKept", bestore.NotKept, "why"), ("Other", bestore.ServerRefusal, "why"),
         ]:
             answer = {"id": 2, "error": {"name": name, "message": "why"}}

@@ -104,7 +104,7 @@ class Clients(unittest.TestCase):
         self.assertEqual((said.stdout, said.stderr), ("done\n", ""))
 
     def test_nothing_of_the_extension_is_imported(self):
-        program = "import sys, bestore, bestore.connected; print(*(it for it in sys.argv[1:] if it in sys.modules))"
+        program = "import sys, bestore.connected; from bestore import NotSaved, Stopped; print(*(it for it in sys.argv[1:] if it in sys.modules))"
         said = subprocess.run([sys.executable, "-c", program, *ENGINE], capture_output=True, text=True, timeout=120)
         self.assertEqual((said.stdout, said.stderr), ("\n", ""))
 

@@ -35,6 +35,7 @@ from ._connected_errors import (
     BrokenConnection, Disconnected, LineTooLong, NoServer, OtherUser, ProtocolError, ServerError,
     ServerRefusal, TimedOut, Unavailable,
 )
+from ._saved_errors import NotSaved, Stopped
 from ._surface import ErrorClass, ErrorNumber
 from .change import Change, ChangedAttributes
 from .connected import connect
@@ -94,10 +95,10 @@ __all__ = [
     "Comparison", "Cursor", "Disconnected", "Entry", "Error", "ErrorClass", "ErrorNumber", "Forked", "Held",
     "Hint", "Integer", "Item", "Kind", "LineTooLong",
     "MOST_OPERATIONS", "MakeIndex", "Name", "Nested", "NewNode", "NoServer", "NoVolume",
-    "NotReached", "Operation", "Operator", "Order", "OtherStore", "OtherUser", "OtherVolume", "PartialIndex",
+    "NotReached", "NotSaved", "Operation", "Operator", "Order", "OtherStore", "OtherUser", "OtherVolume", "PartialIndex",
     "Page", "Pass", "Prepared", "ProtocolError", "QueryError", "QueryNotUTF8", "Refusal",
     "RemoveIndex", "RemoveNode", "ServerError", "ServerRefusal", "SetAttribute", "Shelf",
-    "ShelfVersion", "Status", "TimedOut", "TooManyAttempts", "Typed", "Unavailable", "UnsetAttribute",
+    "ShelfVersion", "Status", "Stopped", "TimedOut", "TooManyAttempts", "Typed", "Unavailable", "UnsetAttribute",
     "Value", "Version", "Watch", "Witness",
     "any_case", "connect", "escape", "node_in", "number_of", "open", "open_shelf", "prepare",
     "prepare_items", "volume_of",

@@ -576,7 +576,7 @@ class ConnectedPass(LockOwner, ThreadPass):
 
     def flush(self) -> None:
         """Returns once everything written before the call is in the server's file. Raises `NotKept` if the server has no file,
-        `saved.Stopped` or `saved.NotSaved`."""
+        `Stopped` or `NotSaved`."""
         self._ask("flush", {}, lambda ok: None)
 
     def compact(self) -> None:
