@@ -255,7 +255,7 @@ impl<'a> Desk<'a> {
                 // Earlier replies must not wait for the entry.
                 self.send(view.since())?;
                 let status = view.check_waits(&wanted);
-                let status = status.and_then(|()| self.shared.kept.log_status(&wanted));
+                let status = status.and_then(|()| self.shared.kept.log_status(&wanted, self.client));
                 status.map(|status| self.reply(id, &status))
             }
             Command::Compact(_) => self.shared.kept.compact().map(|()| self.reply(id, &wire::Nothing {})),

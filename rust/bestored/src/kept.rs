@@ -1,5 +1,6 @@
 //! The server's volumes: in memory only, kept in files, or a single one in a log that several machines share.
 
+use crate::clients::Client;
 use crate::disk::Disk;
 use crate::failure::Failure;
 #[cfg(feature = "log")]
@@ -324,12 +325,12 @@ impl Kept {
     }
 
     /// Returns the server's status in the log once the server has the requested entry.
-    pub fn log_status(&self, wanted: &wire::OfLog) -> Result<wire::LogStatus, Failure> {
+    pub fn log_status(&self, wanted: &wire::OfLog, client: &Client) -> Result<wire::LogStatus, Failure> {
         match self {
             #[cfg(feature = "log")]
-            Kept::Log(log) => log.status(wanted),
+            Kept::Log(log) => log.status(wanted, client),
             _ => {
-                let _ = wanted;
+                let _ = (wanted, client);
                 Err(Failure::named(ErrorName::NoLog))
             }
         }

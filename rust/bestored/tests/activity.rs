@@ -1,12 +1,11 @@
 //! Tests `info`, `clients` and `kick`, and what a server reports on standard error.
 
-use crate::common::{command, wait_until, wait_within, Folder, Server};
+use crate::common::{check_gone, command, wait_until, Folder, Server};
 use bestore::Batch;
 use bestore_client::{Client, Error, ErrorName};
 use std::fs::{self, File};
 use std::path::PathBuf;
 use std::process;
-use std::time::Duration;
 
 /// A server whose output is written to a file.
 struct Saying {
@@ -112,24 +111,11 @@ fn who_keeps_a_snapshot_is_named_and_can_be_ended() {
 fn a_client_that_waits_is_shown_and_ended_too() {
     let folder = Folder::new();
     let server = Server::start(&folder, &[]);
-    let (mut waiting, mut client) = (server.talk(), server.client());
-    waiting.send(b"{\"id\":1,\"reach\":{\"commit\":5,\"within\":60000}}\n");
-    let mut found = None;
-    wait_until("it waits", || {
-        let mut clients = client.clients().unwrap().into_iter();
-        found = clients.find(|client| client.command.as_deref() == Some("reach"));
-        found.is_some()
-    });
-    client.kick(found.unwrap().client).unwrap();
-    assert_eq!(waiting.line(), "");
-    // It doesn't wait any longer, and neither does a client that has left by itself.
-    let is_alone = |client: &mut Client| client.clients().unwrap().len() == 1;
-    wait_within(Duration::from_secs(30), "it is gone", || is_alone(&mut client));
-    let mut waiting = server.talk();
-    waiting.send(b"{\"id\":1,\"reach\":{\"commit\":5,\"within\":60000}}\n");
-    wait_until("it waits", || !is_alone(&mut client));
-    drop(waiting);
-    wait_within(Duration::from_secs(30), "it is gone", || is_alone(&mut client));
+    check_gone(
+        &server,
+        "reach",
+        b"{\"id\":1,\"reach\":{\"commit\":5,\"within\":60000}}\n",
+    );
 }
 
 #[test]

@@ -3,7 +3,7 @@
 use crate::common::postgres::{Database, Postgres};
 use crate::common::proxy::{Lost, Proxy};
 use crate::common::writers::{check_history, state_of, Writers};
-use crate::common::{command, wait_until, wait_within, Folder, Random, Server};
+use crate::common::{check_gone, command, wait_until, wait_within, Folder, Random, Server};
 use crate::slow;
 use bestore::Batch;
 use bestore_client::wire::{Command, LogStatus, Nothing, Write, Written};
@@ -196,6 +196,18 @@ fn leaders_are_killed_and_no_answered_write_is_lost() {
     let (seconds, answered) = (begin.elapsed().as_secs(), writers.answered());
     println!("killed {killed} of {kills} leaders in {seconds} s, {writing} times while clients were writing; {answered} writes");
     assert!(writing * 2 >= killed && answered > killed);
+}
+
+#[test]
+fn a_client_that_is_gone_waits_for_no_entry() {
+    let database = present!(database());
+    let member = Member::start(&database, "--log");
+    assert!(member.server.answers(), "{}", member.said());
+    check_gone(
+        &member.server,
+        "log",
+        b"{\"id\":1,\"log\":{\"entry\":9,\"within\":60000}}\n",
+    );
 }
 
 #[test]

@@ -14,6 +14,9 @@ const WAITING: usize = 16 << 20;
 /// How long writes wait while the log can't be written to.
 const PATIENCE: Duration = Duration::from_secs(10);
 
+/// How often to check whether a wait for an entry is over.
+const LOOK: Duration = Duration::from_millis(100);
+
 /// A server's role.
 #[derive(Clone, Copy, Debug, PartialEq, Eq)]
 pub enum Role {
@@ -250,17 +253,17 @@ impl Line {
         Ok(state)
     }
 
-    /// Waits, but no longer than `within`, until this server has the entry with this number. Returns the number of the last entry
-    /// that it has.
-    pub fn wait_for(&self, number: u64, within: Duration) -> u64 {
+    /// Waits, but no longer than `within` and only until `is_over`, until this server has the entry with this number. Returns the
+    /// number of the last entry that it has.
+    pub fn wait_for(&self, number: u64, within: Duration, is_over: impl Fn() -> bool) -> u64 {
         let until = Instant::now() + within;
         let mut state = self.lock();
         while state.saved < number && state.failed.is_none() && !state.is_closing {
             let left = until.saturating_duration_since(Instant::now());
-            if left.is_zero() {
+            if left.is_zero() || is_over() {
                 break;
             }
-            state = self.wait(state, left);
+            state = self.wait(state, left.min(LOOK));
         }
         state.saved
     }

@@ -13,6 +13,7 @@ mod state;
 
 pub use error::{Error, Refused};
 
+use crate::clients::Client;
 use crate::failure::Failure;
 use crate::kept::{Kept, Opening};
 use crate::options::Options;
@@ -154,10 +155,12 @@ impl Log {
         self.line.flush()
     }
 
-    /// Waits for a limited time until this server has the requested entry, and returns the server's status.
-    pub fn status(&self, wanted: &wire::OfLog) -> std::result::Result<wire::LogStatus, Failure> {
+    /// Waits for a limited time until this server has the requested entry, and returns the server's status. The wait ends when the
+    /// client's connection is closed.
+    pub fn status(&self, wanted: &wire::OfLog, client: &Client) -> std::result::Result<wire::LogStatus, Failure> {
         if let Some(entry) = wanted.entry {
-            let found = self.line.wait_for(entry, within(wanted.within)?);
+            let is_gone = || client.is_gone_within(Duration::ZERO);
+            let found = self.line.wait_for(entry, within(wanted.within)?, is_gone);
             if found < entry {
                 return Err(Failure::not_reached(entry, found));
             }
@@ -220,7 +223,7 @@ impl Log {
         let batches = batches.collect::<bestore::Result<Vec<_>>>()?;
         let number = self.line.entry(state.number);
         // The snapshot may contain writes that aren't in the log yet.
-        self.line.wait_for(number, FOR_LOCK);
+        self.line.wait_for(number, FOR_LOCK, || false);
         runtime()?.block_on(async {
             let database = self.access.connect().await?;
             match database.write_state(term, number, state.next, &batches).await? {

@@ -110,6 +110,28 @@ pub fn wait_within(time: Duration, what: &str, mut is_so: impl FnMut() -> bool) 
     }
 }
 
+/// Checks that a client gives up its place once it has been disconnected or has left, even if its request is still waiting.
+pub fn check_gone(server: &Server, command: &str, request: &[u8]) {
+    let mut client = server.client();
+    for is_kicked in [true, false] {
+        let mut waiting = server.talk();
+        waiting.send(request);
+        let mut found = None;
+        wait_until("it waits", || {
+            let mut clients = client.clients().unwrap().into_iter();
+            found = clients.find(|client| client.command.as_deref() == Some(command));
+            found.is_some()
+        });
+        if is_kicked {
+            client.kick(found.unwrap().client).unwrap();
+            assert_eq!(waiting.line(), "");
+        }
+        drop(waiting);
+        let is_alone = || client.clients().unwrap().len() == 1;
+        wait_within(Duration::from_secs(30), "it is gone", is_alone);
+    }
+}
+
 /// A server, which is killed when the test ends.
 #[derive(Debug)]
 pub struct Server {
