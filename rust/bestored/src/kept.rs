@@ -71,11 +71,12 @@ impl InFiles {
         })
     }
 
-    /// Returns the total lengths of the volumes' files.
+    /// Returns the total lengths of the volumes' files. If a file's path is a link, the WAL is beside the file that it names.
     fn sizes(&self) -> wire::Files {
         let mut files = wire::Files::default();
         let length = |path: PathBuf| path.metadata().map_or(0, |found| found.len());
         for path in saved::files_of(&self.path, self.saved.volumes().len() as u32) {
+            let path = path.canonicalize().unwrap_or(path);
             let mut wal = path.clone().into_os_string();
             wal.push("-wal");
             files.wal_bytes += length(wal.into());

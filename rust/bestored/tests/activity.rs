@@ -4,6 +4,7 @@ use crate::common::{check_gone, command, wait_until, Folder, Server};
 use bestore::Batch;
 use bestore_client::{Client, Error, ErrorName};
 use std::fs::{self, File};
+use std::os::unix::fs::symlink;
 use std::path::PathBuf;
 use std::process;
 
@@ -63,6 +64,20 @@ fn what_is_written_is_counted() {
     assert_eq!(after.pages, before.pages);
     let files = after.files.unwrap();
     assert!(files.bytes > 0 && files.wal_bytes > 0 && after.log.is_none());
+}
+
+#[test]
+fn files_that_a_link_names_are_measured() {
+    let folder = Folder::new();
+    fs::create_dir(folder.join("elsewhere")).unwrap();
+    symlink("elsewhere/file", folder.join("kept")).unwrap();
+    let server = Server::start_kept(&folder, &[]);
+    let mut client = server.client();
+    make(&mut client, 20);
+    let files = client.info().unwrap().files.unwrap();
+    let length = |name: &str| folder.join("elsewhere").join(name).metadata().unwrap().len();
+    assert_eq!((files.bytes, files.wal_bytes), (length("file"), length("file-wal")));
+    assert!(files.wal_bytes > 0);
 }
 
 #[test]
