@@ -93,6 +93,14 @@ fn address(path: &Path) -> io::Result<libc::sockaddr_un> {
     Ok(address)
 }
 
+/// Returns an error if a socket can't have this path.
+///
+/// # Errors
+/// An error with kind `InvalidInput`, which says what paths a socket can have.
+pub fn check_path(path: &Path) -> io::Result<()> {
+    address(path).map(drop)
+}
+
 #[cfg(test)]
 mod tests {
     use super::*;

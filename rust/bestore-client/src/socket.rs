@@ -6,7 +6,7 @@ use std::ffi::OsString;
 use std::os::unix::net::UnixStream;
 use std::path::{Path, PathBuf};
 
-pub use crate::os::{peer_process, peer_user, user};
+pub use crate::os::{check_path, peer_process, peer_user, user};
 
 /// The path of a server's socket, and whether that path was chosen explicitly.
 #[derive(Clone, Debug, PartialEq, Eq)]

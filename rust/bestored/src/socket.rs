@@ -1,7 +1,7 @@
 //! The socket that the server listens on.
 
 use crate::os;
-use bestore_client::socket::user;
+use bestore_client::socket::{check_path, user};
 use bestore_client::SocketPath;
 use std::fs::{self, DirBuilder, File, Metadata, OpenOptions};
 use std::io::{self, ErrorKind};
@@ -42,6 +42,7 @@ impl Place {
     /// Checks whether a server can listen at this path. Creates the folder, but not yet the socket.
     pub fn find(socket: &SocketPath) -> io::Result<Self> {
         let path = socket.path();
+        check_path(path).map_err(|error| wrong(path, error))?;
         let folder = folder_of(path);
         let opened = match socket {
             SocketPath::Named(_) => open_folder(folder)?,
