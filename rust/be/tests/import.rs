@@ -460,9 +460,10 @@ fn extended_attributes_are_read_and_written() {
     server.done(&["mkindex", "-t", "int32", "rating"]);
     let said = server.be(&["import", &folder.all()]);
     assert_eq!((said.status, said.error.lines().count()), (0, 1), "{said:?}");
-    assert!(
-        said.error.starts_with("be: 2 extended attributes were left out"),
-        "{said:?}"
+    assert_eq!(
+        said.error,
+        "be: 2 extended attributes were left out: an import sets an attribute with that name itself, the name isn't text of up to 63 bytes, \
+         the value has more than 255 bytes or can't be read, or the node has too many attributes\n"
     );
     assert_eq!(server.paths("rating==5"), [file.clone()].into());
     assert_eq!(server.value("name", &file), "x.txt");

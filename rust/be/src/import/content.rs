@@ -65,8 +65,8 @@ pub const INDICES: [(&str, Kind); 9] = [
 const MOST: usize = 64;
 
 /// The maximum number of bytes in a value, and in a name.
-const VALUE: usize = 255;
-const NAME_LENGTH: usize = 63;
+pub const VALUE: usize = 255;
+pub const NAME_LENGTH: usize = 63;
 
 /// The byte before the sum of a file's extended attributes in `FILE:xattrs`; it is in no name. The sum follows the names, which have up to
 /// this many bytes. As long as it stays the same, what a user has set on the node since the file was last read is newer than the file.

@@ -1,5 +1,6 @@
 //! What an import has done, and what it couldn't do.
 
+use super::content::{NAME_LENGTH, VALUE};
 use super::walk::Unread;
 use crate::command_line::Import as Line;
 use crate::failure::{complain, message, Failure};
@@ -164,7 +165,8 @@ impl Summary {
         complain_of(refused, "can't be written");
         if self.xattrs_left > 0 {
             complain(&format!(
-                "{} extended attributes were left out, because their names or values are too long",
+                "{} extended attributes were left out: an import sets an attribute with that name itself, the name isn't text of up to \
+                 {NAME_LENGTH} bytes, the value has more than {VALUE} bytes or can't be read, or the node has too many attributes",
                 self.xattrs_left
             ));
         }
