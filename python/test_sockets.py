@@ -82,6 +82,12 @@ class Users(unittest.TestCase):
         self.assertEqual(str(fault.exception), "p: no server can be reached: Permission denied; only the server's own user and root "
                          "may connect")
 
+    def test_long_path(self):
+        for path, advice in ("p" * 107, "start it with `bestored --background`"), ("p" * 108, "a socket's path can have up to 107 bytes"):
+            with self.assertRaises(bestore.NoServer) as fault:
+                bestore.connect(path)
+            self.assertTrue(str(fault.exception).endswith(f"; {advice}"), fault.exception)
+
     def test_own_user_and_root(self):
         for user in os.geteuid(), 0:
             with Fake([line(2, HELLO)]) as fake, self.default(fake, user), bestore.connect() as store:

@@ -2,12 +2,16 @@
 
 from __future__ import annotations
 
+import os
 from dataclasses import dataclass
 from typing import Callable, Dict, List, Optional, Tuple
 
 from . import _saved_errors
 from ._surface import SERVER_MEANINGS, ErrorClass, ErrorNumber
 from .errors import BadCursor, Error, NotCovered, NotReached, NoVolume, OtherVolume, PartialIndex, Refusal, _OfPath, refusal
+
+_LONGEST_PATH = 107
+"""The maximum number of bytes in a socket's path."""
 
 
 class ServerError(_OfPath):
@@ -23,9 +27,15 @@ class NoServer(ServerError, ConnectionError):
 
     @property
     def summary(self) -> str:
-        is_refused = isinstance(self.__cause__, PermissionError)
-        advice = "only the server's own user and root may connect" if is_refused else "start it with `bestored --background`"
-        return f"no server can be reached: {self.reason}; {advice}"
+        return f"no server can be reached: {self.reason}; {self._advice}"
+
+    @property
+    def _advice(self) -> str:
+        if isinstance(self.__cause__, PermissionError):
+            return "only the server's own user and root may connect"
+        if len(os.fsencode(self.path)) > _LONGEST_PATH:
+            return f"a socket's path can have up to {_LONGEST_PATH} bytes"
+        return "start it with `bestored --background`"
 
 
 @dataclass(eq=False, repr=False)

@@ -143,14 +143,14 @@ impl fmt::Display for QueryRefused {
     }
 }
 
-/// Says which command starts a server at this socket, unless the system doesn't let this user connect to it.
+/// Says which command starts a server at this socket, unless the system doesn't let this user connect to it, or a socket can't have
+/// this path.
 fn advice(socket: &SocketPath, error: &io::Error) -> String {
-    if error.kind() == io::ErrorKind::PermissionDenied {
-        return "only the server's own user and root may connect".into();
-    }
-    match socket {
-        SocketPath::Named(path) => format!("bestored --background --socket {} starts one", shown(path)),
-        SocketPath::Default(_) => "bestored --background starts one".into(),
+    match (error.kind(), socket) {
+        (io::ErrorKind::PermissionDenied, _) => "only the server's own user and root may connect".into(),
+        (io::ErrorKind::InvalidInput, _) => "--socket or BESTORE_SOCKET can name another path".into(),
+        (_, SocketPath::Named(path)) => format!("bestored --background --socket {} starts one", shown(path)),
+        (_, SocketPath::Default(_)) => "bestored --background starts one".into(),
     }
 }
 

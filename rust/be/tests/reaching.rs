@@ -88,6 +88,17 @@ fn a_socket_of_another_user_is_reported_as_such() {
 }
 
 #[test]
+fn a_path_that_no_socket_can_have_is_reported_as_such() {
+    let socket = format!("/tmp/{}", "a".repeat(103));
+    let said = said(&mut be(&["--socket", &socket, "status"]));
+    let why = format!(
+        "be: no server answers at {socket}: the path of a socket has 1 to 107 bytes and no zero byte\n  --socket or BESTORE_SOCKET can \
+         name another path\n"
+    );
+    assert_eq!((said.status, said.error), (1, why));
+}
+
+#[test]
 fn a_server_that_does_not_reply_is_given_up() {
     let folder = Folder::new();
     let socket = folder.word("socket");
