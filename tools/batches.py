@@ -204,7 +204,7 @@ def try_together(clone: Path, crate: str, mutants: list[Path], left: Callable[[]
     """Calls `note` with each mutant that a check refuses. `rt must-fail` has to judge the others."""
     folder, rattle = clone / "crates" / crate, find_rt().with_name("rattle")
     edits = [edit for mutant in mutants for edit in [read_edit(mutant, folder)] if edit]
-    if len(edits) < 2 or not rattle.is_file() or not (folder / "src/lib.rt").is_file():
+    if not edits or not rattle.is_file() or not (folder / "src/lib.rt").is_file():
         return
     proved = run_for(["rt", "check"], folder, left())
     if not proved or proved.returncode:
