@@ -552,7 +552,8 @@ class OverServer(OnDisplay):
         self.shows(window, "a", "z")
         self.assertNotRegex(str(window.state["text"]), "score|version")
 
-    def test_edits(self) -> None:
+    def show_edit(self) -> Window:
+        """Shows the files, and types in the first one's cell for its type."""
         self.make_files()
         window = self.show(ServerSource(self.server.path), saved=self.saved)
         self.shows(window, "a", "b", "home")
@@ -561,6 +562,10 @@ class OverServer(OnDisplay):
         entry = window.list.editor.entry
         assert entry is not None
         entry.insert(0, "text/x")
+        return window
+
+    def test_edits(self) -> None:
+        window = self.show_edit()
         window.list.editor._finish(True)
         self.becomes(window, lambda: window.list.shown()[0][3] == "text/x")
 
@@ -581,14 +586,7 @@ class OverServer(OnDisplay):
 
     def test_edit_as_the_server_goes(self) -> None:
         """What was typed is shown, even once the server is back."""
-        self.make_files()
-        window = self.show(ServerSource(self.server.path), saved=self.saved)
-        self.shows(window, "a", "b", "home")
-        press(window, 0, 3)
-        window.list.edit()
-        entry = window.list.editor.entry
-        assert entry is not None
-        entry.insert(0, "text/x")
+        window = self.show_edit()
         self.server.kill()
         self.becomes(window, lambda: "The store can't be reached" in str(window.notice["text"]))
         self.assertRegex(str(window.notice["text"]), "\nThe list was emptied during an edit. You had typed: text/x$")
