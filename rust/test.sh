@@ -2,8 +2,9 @@
 # Runs all tests of the crates with the library in the folder that BESTORE_LIB_DIR names, or ../c: the plain tests, the
 # documentation's, clippy, rustfmt, and the tools that find memory errors. Whatever is missing is skipped, and a line says so.
 #
-# test.sh --build only builds the crates with their programs, and runs nothing. test.sh --dependencies only compiles the
-# third-party crates that they need, and prints nothing. The library needn't exist yet for that.
+# test.sh --build only builds the crates with their programs, and runs nothing. test.sh --compile compiles what the tests run, and
+# runs nothing. test.sh --dependencies only compiles the third-party crates that they need, and prints nothing. The library
+# needn't exist yet for that.
 #
 # The third-party crates come from Debian's packages librust-*-dev if these are installed, and otherwise from what cargo has already
 # fetched. The script fetches nothing.
@@ -18,9 +19,9 @@ skip() {
 
 only=${1:-}
 case $only in
-    "" | --build) ;;
+    "" | --build | --compile) ;;
     --dependencies) exec >/dev/null 2>&1 ;;
-    *) echo "rust/test.sh: $only is no option; it takes --build, --dependencies or nothing" >&2; exit 2 ;;
+    *) echo "rust/test.sh: $only is no option; it takes --build, --compile, --dependencies or nothing" >&2; exit 2 ;;
 esac
 
 command -v cargo >/dev/null || skip "there is no cargo"
@@ -83,6 +84,11 @@ case $only in
         ;;
     --build)
         run "Rust, built" build --workspace --features $features
+        exit
+        ;;
+    --compile)
+        run "Rust, compiled" test --workspace --features $features --no-run
+        run "Rust, compiled without features" test -p bestore-sys -p bestore-types -p bestore --lib --tests --no-run
         exit
         ;;
 esac
