@@ -269,6 +269,23 @@ class Writes(Indexed):
         with store.pin() as version:
             self.assertEqual((version.column([first, second], "size"), version.numbers), ([1, 4], (2, 3)))
 
+    def test_pages_in_a_change(self):
+        """A page in a change has the snapshot's order, whatever the change has collected."""
+        store = self.indexed(2)
+        nodes = [self.sized(store, number % 2, number) for number in range(6)]
+
+        def change(change):
+            change.set(nodes[0], "size", 9)
+            change.unset(nodes[2], "size")
+            change.set(nodes[4], "size", "text")
+            for is_descending in False, True:
+                first = change.query("size>=0", by="size", descending=is_descending, limit=3)
+                last = change.query("size>=0", by="size", descending=is_descending, limit=4, after=first.cursor)
+                self.assertEqual([*first, *last], nodes[::-1] if is_descending else nodes)
+                self.assertEqual((first.more, last.more), (True, False))
+            return change.rows("size>=0", ["size"], most=2, by="size")
+        self.assertEqual(store.change(change, check_kinds=False), [(nodes[0], [9]), (nodes[1], [1])])
+
     def test_status_and_reach(self):
         store = self.indexed(3)
         for _ in range(30):

@@ -332,6 +332,10 @@ class Version(Uncopied, ABC):
         read = list(nodes)
         return [self.column(read, name) for name in names]
 
+    def _indexed_column(self, nodes: Iterable[int], name: str) -> List[Optional[Value]]:
+        """Returns a column as queries and pages see it. In a change, these don't see the collected operations."""
+        return self.column(nodes, name)
+
     @overload
     def rows(self, query: Asked, names: Iterable[str], first: int = ..., most: int = ...) -> List[Row]: ...
 
