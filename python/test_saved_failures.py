@@ -1,6 +1,7 @@
 """Tests of saved stores whose files are refused, and of commits that fail or are interrupted."""
 
 import os
+import pickle
 import shutil
 import sqlite3
 import subprocess
@@ -155,6 +156,22 @@ class Failures(Files):
         self.assertEqual(str(stopped.exception), f"{self.path}: saving has failed: the disk is full")
         with saved.open(self.path, 64) as store, store.pin() as version:
             self.assertEqual(version.nodes(), [1])
+
+    def test_pickled(self):
+        """An error that comes from another process still says what went wrong, though pickling loses its `__cause__`."""
+        errors = []
+        with self.assertRaises(saved.NotSaved) as refused, saved.open(self.path, 64) as store:
+            other = store.another()
+            with self.broken(saved.DiskFull(self.path)):
+                store.new_node()
+        errors.append(refused.exception)
+        with self.assertRaises(saved.Stopped) as stopped:
+            other.new_node()
+        errors += [stopped.exception, saved.Stopped(self.path), self.refusal(self.folder)]
+        for error in errors:
+            again = pickle.loads(pickle.dumps(error))
+            again.__cause__ = RuntimeError("Traceback of the other process")  # as concurrent.futures sets it
+            self.assertEqual((type(again), str(again), again.args), (type(error), str(error), error.args))
 
     def test_each_that_waits(self):
         with self.assertRaises(saved.Stopped), saved.open(self.path, 64) as store:

@@ -34,7 +34,8 @@ from . import local as _local
 from . import shelf as _shelf
 from ._library import check
 from ._saved_errors import (
-    CutOff, Damaged, Differs, DiskFull, Fewer, Foreign, Held, Newer, NoFile, NotSaved, SavedError, SqliteError, Stopped, TooLarge, refused)
+    CutOff, Damaged, Differs, DiskFull, Fewer, Foreign, Held, Newer, NoFile, NotSaved, SavedError, SqliteError, Stopped, TooLarge, refused,
+    said)
 from ._saved_file import File, Row
 from ._saved_line import Line, Turn
 from ._saved_rows import Repeater
@@ -96,7 +97,7 @@ class _Saver:
     def check(self) -> None:
         """Raises `Stopped` if saving has stopped."""
         if self._failed is not None or self._file is None:
-            raise Stopped(self.path) from self._failed
+            raise Stopped(self.path, None if self._failed is None else said(self._failed)) from self._failed
 
     def keep(self, number: int, by: int, batch: Batch, made: Optional[List[int]] = None) -> None:
         """Saves the write with this commit number, or notifies the saving thread that there is a write to save. If `made` is
@@ -110,7 +111,7 @@ class _Saver:
             if line.take(turn):
                 self._save_up_to(number)
         except Stopped as error:
-            raise NotSaved(self.path, number) from error.__cause__ or error
+            raise NotSaved(self.path, number, error.reason or error.summary) from error.__cause__ or error
         finally:
             line.leave(turn)
             if number in self._handed_in and line.saved >= number:
