@@ -3,6 +3,7 @@
 import os
 import pickle
 import shutil
+import signal
 import sqlite3
 import subprocess
 import threading
@@ -173,6 +174,26 @@ class Failures(Files):
             again.__cause__ = RuntimeError("Traceback of the other process")  # as concurrent.futures sets it
             self.assertEqual((type(again), str(again), again.args), (type(error), str(error), error.args))
 
+    def test_wakes(self):
+        """A write that isn't saved wakes the threads that wait for writes, because snapshots show it."""
+        found, limit = [], 10
+        with self.assertRaises(saved.Stopped), saved.open(self.path, 64) as store:
+            other = store.another()
+            for write in store.new_node, lambda: store.change(lambda change: change.new()):
+                with store.another() as third, third.watch() as watch:
+                    waiting = threading.Thread(target=lambda: found.append(watch.wait(limit)))
+                    waiting.start()
+                    while not other._store._waiting:
+                        time.sleep(0.001)
+                    begun = time.monotonic()
+                    with mock.patch.object(store._saver, "keep", side_effect=saved.NotSaved(self.path, 1, "why")):
+                        self.assertRaises(saved.NotSaved, write)
+                    waiting.join()
+                    self.assertLess(time.monotonic() - begun, limit)
+            with self.broken(saved.DiskFull(self.path)):
+                store.flush()
+        self.assertEqual(found, [([], [])] * 2)
+
     def test_each_that_waits(self):
         with self.assertRaises(saved.Stopped), saved.open(self.path, 64) as store:
             with self.broken(saved.DiskFull(self.path), 10):
@@ -203,6 +224,51 @@ class Failures(Files):
                 store.new_node()
         with saved.open(self.path, 64) as store, store.pin() as version:
             self.assertEqual((version.nodes(), store.number_in_file(version.number)), ([1, 2, 3, 4], 4))
+
+    def test_signal(self):
+        """A signal handler can't use the file while the call that it interrupted has the file. Whatever the handler raises, that
+        write and the handler's are saved by the next commit."""
+        append, used = File.append, []
+        with saved.open(self.path, 64) as store, store.another() as other:
+            def use(*_):
+                for call in (other.new_node, store.flush, store.compact):
+                    with self.assertRaisesRegex(RuntimeError, "such as by a signal handler"):
+                        call()
+                    used.append(call)
+                raise TimeoutError
+
+            def interrupted(file, rows):
+                if not used:
+                    signal.raise_signal(signal.SIGUSR1)
+                append(file, rows)
+            self.addCleanup(signal.signal, signal.SIGUSR1, signal.signal(signal.SIGUSR1, use))
+            with mock.patch.object(File, "append", interrupted), self.assertRaises(TimeoutError):
+                store.new_node()
+            self.assertEqual((len(used), store.new_node()), (3, 3))
+        with saved.open(self.path, 64) as store, store.pin() as version:
+            self.assertEqual((version.nodes(), store.number_in_file(version.number)), ([1, 2, 3], 3))
+
+    def test_signal_in_the_queue(self):
+        """A thread that waits for its turn, or is in one of the queue's calls, can't wait for another turn."""
+        line, owner, queued = Line(0), Turn(1), Turn(2)
+        with line._mutex, line._changing:
+            self.refuse(line, Turn(3))
+        taking = threading.Thread(target=line.take, args=(owner,))
+        taking.start()
+        taking.join()
+        queued.prepare()
+        queued.thread = threading.get_ident()
+        line._writers.append(queued)
+        self.refuse(line, Turn(3))
+        line.leave(owner)
+        self.assertIs(line._owner, queued)
+        self.refuse(line, Turn(3))
+        line.leave(queued)
+        self.assertEqual((line._owner, line._writers), (None, []))
+
+    def refuse(self, line, turn):
+        self.assertRaises(RuntimeError, line.take, turn)
+        line.leave(turn)
 
     def test_interrupted_transaction(self):
         """If a transaction's rollback was interrupted, the next write rolls it back."""
