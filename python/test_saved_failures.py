@@ -178,12 +178,11 @@ class Failures(Files):
         """A write that isn't saved wakes the threads that wait for writes, because snapshots show it."""
         found, limit = [], 10
         with self.assertRaises(saved.Stopped), saved.open(self.path, 64) as store:
-            other = store.another()
             for write in store.new_node, lambda: store.change(lambda change: change.new()):
-                with store.another() as third, third.watch() as watch:
+                with store.another() as other, other.watch() as watch:
                     waiting = threading.Thread(target=lambda: found.append(watch.wait(limit)))
                     waiting.start()
-                    while not other._store._waiting:
+                    while not store._store._waiting:
                         time.sleep(0.001)
                     begun = time.monotonic()
                     with mock.patch.object(store._saver, "keep", side_effect=saved.NotSaved(self.path, 1, "why")):
