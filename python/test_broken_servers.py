@@ -5,6 +5,7 @@ import json
 import os
 import pickle
 import shutil
+import signal
 import socket
 import sys
 import tempfile
@@ -414,6 +415,18 @@ class Closing(unittest.TestCase):
                 self.assertTrue(_connection._can_receive(store._connection._socket, time.monotonic() + PATIENCE))
                 store._ring()
                 self.assertEqual(watch.wait(0), ([3], []))
+
+    def test_closed_by_a_signal(self):
+        """A signal handler can close a pass while a call on it waits."""
+        for call in (lambda store, watch: watch.wait(PATIENCE), lambda store, watch: store.status()):
+            with Fake(self.watched, []) as fake, fake.connect() as store:
+                self.addCleanup(signal.signal, signal.SIGALRM, signal.signal(signal.SIGALRM, lambda *_: store.close()))
+                watch = store.watch("k==1")
+                signal.setitimer(signal.ITIMER_REAL, 0.05)
+                with self.assertRaises(bestore.Disconnected) as fault:
+                    call(store, watch)
+                self.assertEqual(str(fault.exception), f"{fake.path}: the connection is closed")
+                self.assertRaises(bestore.Closed, watch.wait, 0)
 
     def test_closed_while_it_repeats(self):
         """A pass that is closed while another thread repeats a write on it stays closed."""

@@ -277,6 +277,7 @@ class Reading(WithServer):
         with self.store.pin() as version:
             for call, error in [
                 (lambda: version.query(f"size=={huge}"), bestore.TooLong), (lambda: version.get(1, huge), bestore.NameLength),
+                (lambda: version.rows("size>0", [huge]), bestore.NameLength), (lambda: version.query("size>0", by=huge), bestore.NameLength),
                 (lambda: self.store.set(1, huge, 1), bestore.NameLength),
                 (lambda: self.store.set(1, "size", huge), bestore.DataLength),
                 (lambda: self.store.apply(bestore.Batch([bestore.NewNode()] * 100_000)), bestore.BadCount),

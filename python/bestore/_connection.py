@@ -99,12 +99,12 @@ def _check_user(connected: socket.socket, path: str) -> None:
 def _can_receive(connected: socket.socket, until: Optional[float], bell: Optional[socket.socket] = None) -> bool:
     """Waits for data until the time `until`, or forever if `until` is None, or until `bell` has something to read. Returns whether
     data can be received."""
-    polled = select.poll()
-    polled.register(connected, select.POLLIN)
+    polled, own = select.poll(), connected.fileno()
+    polled.register(own, select.POLLIN)
     if bell is not None:
         polled.register(bell, select.POLLIN)
     found = polled.poll(None if until is None else max(until - time.monotonic(), 0) * 1000)
-    return any(descriptor == connected.fileno() for descriptor, _ in found)
+    return any(descriptor == own for descriptor, _ in found)
 
 
 class Connection:
@@ -162,6 +162,8 @@ class Connection:
             reason = str(error)
         elif isinstance(error, (BrokenPipeError, ConnectionResetError)):
             reason = _CLOSED
+        elif isinstance(error, OSError) and self._socket is None:
+            reason = self._reason  # a signal handler has closed the connection during the call
         elif isinstance(error, OSError):
             reason = f"the connection failed: {error}"
         else:

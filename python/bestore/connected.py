@@ -630,8 +630,10 @@ class ConnectedPass(LockOwner, ThreadPass):
     def _end_watches(self) -> None:
         """Ends the watches that are no longer referenced."""
         while self._ended:
+            number = self._ended[-1]
             with suppress(NoWatch):
-                self._ask("unwatch", {"watch": self._ended.pop()}, lambda ok: None)
+                self._ask("unwatch", {"watch": number}, lambda ok: None)
+            self._ended.remove(number)
 
 
 def connect(path: Union[str, bytes, "os.PathLike[Any]", None] = None, timeout: Optional[float] = TIMEOUT,
