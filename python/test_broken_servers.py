@@ -458,6 +458,35 @@ class Repeated(unittest.TestCase):
         self.assertEqual((len(runs), fault.exception.may_be_done), (1, True))
 
 
+    def test_attempt_that_may_be_made(self):
+        """If one attempt may have made a write, no later attempt's error says that nothing was written."""
+        ask = connected.ConnectedPass._ask
+        for later in bestore.Disconnected("p", "later"), bestore.Stopped("p", "later"), bestore.NoPass():
+            errors = [bestore.Disconnected("p", "first", True)]
+
+            def failing(user, command, *given, **named):
+                if command == "batch":
+                    raise errors.pop() if errors else later
+                return ask(user, command, *given, **named)
+            with Fake() as fake, bestore.connect(fake.path, repeat=0.2) as store:
+                with mock.patch.object(connected.ConnectedPass, "_ask", failing), self.assertRaises(bestore.Disconnected) as fault:
+                    store.new_node()
+            self.assertEqual((fault.exception.reason, fault.exception.may_be_done), ("first", True))
+            self.assertIs(fault.exception.__cause__, later)
+
+    def test_error_of_another_store(self):
+        """A change whose function fails because of another store doesn't connect again and again."""
+        with Fake(*([line(number, {"commit": 0, "next": 1})] for number in range(2, 30))) as fake:
+            with bestore.connect(fake.path, repeat=0.2) as store:
+                connection = store._connection
+                with self.assertRaises(bestore.Disconnected):
+                    store.change(lambda change: self.lose())
+                self.assertIs(store._connection, connection)
+
+    def lose(self):
+        raise bestore.Disconnected("another", "why")
+
+
 class Errors(unittest.TestCase):
     def test_pickled(self):
         for fault in (

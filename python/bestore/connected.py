@@ -347,20 +347,23 @@ class ConnectedPass(LockOwner, ThreadPass):
         have been written, unless the call has a token by which the server recognises its repeats."""
         repeats = self._repeat is not None and not self._has_pin and not self._watches
         until = time.monotonic() + (self._repeat or 0)
+        uncertain: Optional[Error] = None  # says that an attempt may have written something
         while True:
             try:
                 return call()
             except (BrokenConnection, NoPass, NotSaved, Stopped) as error:
-                is_refused = isinstance(error, (NotSaved, Stopped))
-                may_be_written = isinstance(error, NotSaved) or isinstance(error, BrokenConnection) and error.may_be_done
-                if not repeats or may_be_written and not has_token or not self._may_repeat(is_refused, until):
-                    raise
+                if isinstance(error, NotSaved) or isinstance(error, BrokenConnection) and error.may_be_done:
+                    uncertain = error
+                if not repeats or uncertain is not None and not has_token or not self._may_repeat(until):
+                    if uncertain is None or uncertain is error:
+                        raise
+                    raise uncertain from error
 
-    def _may_repeat(self, is_refused: bool, until: float) -> bool:
+    def _may_repeat(self, until: float) -> bool:
         """Waits a moment, and connects if necessary. Returns whether the pass is connected before time runs out."""
         while time.monotonic() < until:
             time.sleep(min(_AGAIN, max(until - time.monotonic(), 0)))
-            if is_refused and self._is_open:
+            if self._is_open:
                 return True
             with suppress(NoServer, BrokenConnection, NoPass):
                 self._connect()
