@@ -325,6 +325,17 @@ class Writing(WithServer):
             self.assertEqual(store.reach(2, float("inf")), (2,))
             timer.join()
 
+    def test_reach_of_impossible_numbers(self):
+        """These are treated as in a store in this process."""
+        with _open(64, 1, 100) as local:
+            local.new_node()
+            for store in (self.store, local):
+                self.assertEqual(store.reach(-1, 0), (1,))
+                for number in (2**64, 2**100):
+                    self.assertRaises(bestore.NotReached, store.reach, number, 0)
+                with self.assertRaisesRegex(ValueError, "2 commit numbers for 1 volumes"):
+                    store.reach([1, 1], 0)
+
     def test_another_run(self):
         self.server.kill()
         self.server.start()

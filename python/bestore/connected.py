@@ -51,7 +51,7 @@ from .handles import LockOwner
 from .nodes import node_number, within
 from .operations import MOST_OPERATIONS, NEW, Batch
 from .queries import Prepared
-from .store import ATTEMPTS, TRIES, Entry, Held, Status, ThreadPass, Witness
+from .store import ATTEMPTS, TRIES, Entry, Held, Status, ThreadPass, Witness, numbers_of_volumes
 from .values import RANGES, Kind, Typed, Value
 from .versions import Version
 from .watches import Changes, Watch
@@ -565,7 +565,7 @@ class ConnectedPass(LockOwner, ThreadPass):
 
     def reach(self, numbers: Union[int, Sequence[int]], within: float = 5) -> Tuple[int, ...]:
         """Works as for a store in this process. The server waits, and the request is repeated before its reply would time out."""
-        wanted: Union[int, List[int]] = numbers if isinstance(numbers, int) else list(numbers)
+        wanted = [min(max(number, 0), 2**64 - 1) for number in numbers_of_volumes(numbers, self.volumes)]
         most = _MOST_WAITED if self._timeout is None else min(self._timeout / 2, _MOST_WAITED)
         until = time.monotonic() + within
         while True:
@@ -576,9 +576,9 @@ class ConnectedPass(LockOwner, ThreadPass):
                 if left <= most:
                     raise
 
-    def _reach(self, wanted: Union[int, List[int]], within: float) -> Tuple[int, ...]:
+    def _reach(self, wanted: List[int], within: float) -> Tuple[int, ...]:
         """Makes the server wait once."""
-        parameters = {"commit": wanted, "within": math.ceil(within * 1000)}
+        parameters = {"commit": wanted[0] if len(wanted) == 1 else wanted, "within": math.ceil(within * 1000)}
         return self._ask("reach", parameters, lambda ok: tuple(ok.get("commits", (ok["commit"],))))
 
     def flush(self) -> None:
