@@ -323,6 +323,22 @@ class Editing(OverStore):
             self.assertEqual(version.kind(1, "rating"), bestore.INT32)
         self.assertEqual(str(window.notice["text"]), "")
 
+    def test_what_was_typed(self) -> None:
+        """If the editor can't be shown again after a write that failed, the window says what was typed."""
+        self.store.make_index("rating", bestore.INT32)
+        window = self.window("a", "b")
+        window.choose(["name", "rating"])
+        self.shows(window, "a", "b")
+        said = "rating isn't set: “many” isn't a whole number. You had typed: many"
+        self.begin(window, 0, "rating")
+        self.edited(window, "many")
+        self.begin(window, 1, "rating")
+        self.becomes(window, lambda: str(window.notice["text"]) == said)
+        self.assertEqual(window.list.editor.text, "")
+        self.edited(window, "many")
+        window.choose(["name"])
+        self.becomes(window, lambda: str(window.notice["text"]) == said)
+
     def test_beside_another_program(self) -> None:
         """A value that another program has set in the meantime isn't overwritten."""
         window = self.window("a")
