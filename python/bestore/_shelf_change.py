@@ -88,7 +88,8 @@ class ShelfChange(Change):
     def _leave_undecided(self) -> None:
         """Ends the change to the volume, which has collected nothing."""
         within, self._within, self.volume = self._within, None, None
-        self._snapshot.volumes = tuple(within._snapshot if it is within else it for it in self._snapshot.volumes)
+        if within is not None:
+            self._snapshot.volumes = tuple(within._snapshot if it is within else it for it in self._snapshot.volumes)
 
     def _split(self, node: int) -> Tuple[int, int]:
         """Returns a node's volume, and its number within that volume. Raises `NoNode` if there is no such volume."""
