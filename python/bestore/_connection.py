@@ -104,7 +104,7 @@ def _can_receive(connected: socket.socket, until: Optional[float], bell: Optiona
     if bell is not None:
         polled.register(bell, select.POLLIN)
     found = polled.poll(None if until is None else max(until - time.monotonic(), 0) * 1000)
-    return any(descriptor == own for descriptor, _ in found)
+    return own in dict(found)
 
 
 class Connection:

@@ -275,6 +275,9 @@ class Version(Uncopied, ABC):
     @overload
     def attributes(self, node: int, kinds: Literal[True]) -> Dict[str, Typed]: ...
 
+    @overload
+    def attributes(self, node: int, kinds: bool) -> Union[Dict[str, Value], Dict[str, Typed]]: ...
+
     def attributes(self, node: int, kinds: bool = False) -> Union[Dict[str, Value], Dict[str, Typed]]:
         """Returns a node's attributes in ascending order of names: a dict from names to values or, with `kinds`, to
         `Typed` values, which include their kinds. Raises `NoNode` if there is no such node."""
