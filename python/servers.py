@@ -67,3 +67,28 @@ class OverServer(unittest.TestCase):
         server = Server("--pages", pages, "--passes", passes, "--commits", commits)
         self.addCleanup(server.close)
         return server.connect()
+
+
+class WithServer(unittest.TestCase):
+    """Each test has a server with an index on `size`."""
+
+    options = ()
+
+    def setUp(self):
+        if not BESTORED:
+            self.skipTest("BESTORED names no bestored")
+        self.server = Server(*self.options)
+        self.addCleanup(self.server.close)
+        self.store = self.server.connect()
+        self.addCleanup(self.store.close)
+        self.store.make_index("size", bestore.INT64)
+
+    def sized(self, store, *sizes):
+        """Creates nodes with these sizes."""
+        def make(change):
+            nodes = []
+            for size in sizes:
+                nodes.append(change.new())
+                change.set(nodes[-1], "size", size)
+            return nodes
+        return store.change(make)

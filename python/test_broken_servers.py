@@ -5,6 +5,7 @@ import json
 import os
 import pickle
 import shutil
+import signal
 import socket
 import sys
 import tempfile
@@ -14,7 +15,7 @@ import unittest
 from unittest import mock
 
 import bestore
-from bestore import _connection, connected, saved
+from bestore import _connected_watch, _connection, connected, saved
 
 PATIENCE = 30  # seconds that anything may take on a busy machine
 
@@ -276,9 +277,10 @@ class Interrupt:
     """Raises KeyboardInterrupt once, as a signal might: at the start of one of the package's functions, or at a line of one
     that takes pushes."""
 
-    files = {_connection.__file__, connected.__file__}
+    files = {_connected_watch.__file__, _connection.__file__, connected.__file__}
     taking = {it.__code__ for it in (
-        _connection.Connection.receive_pushes, _connection._can_receive, _connection.Connection._take_line,
+        _connection.Connection.receive_pushes, _connection.Connection._can_be_pushed, _connection._can_receive,
+        _connection.Connection._take_line,
         _connection.Connection._receive, _connection.Connection._take_other, connected.ConnectedWatch._take)}
 
     def __init__(self, place):
@@ -363,6 +365,127 @@ class Interrupted(unittest.TestCase):
 
     def fail_by(self, error):
         raise error
+
+
+class Closing(unittest.TestCase):
+    """A pass or a watch that one thread closes while another one uses it."""
+
+    watched = [line(2, {"watch": 1, "commit": 1, "nodes": []})]
+
+    def closes(self, close):
+        """Closes something while another thread waits for a watch, whose wait has to end."""
+        with Fake(self.watched, [line(3, {})]) as fake, fake.connect() as store:
+            watch, errors = store.watch("k==1"), []
+
+            def wait():
+                try:
+                    watch.wait()
+                except bestore.Error as error:
+                    errors.append(type(error))
+            waiting, closing = threading.Thread(target=wait), threading.Thread(target=close, args=(store, watch))
+            waiting.start()
+            while not store._is_asking:
+                time.sleep(0.001)
+            closing.start()
+            closing.join(5)
+            was_closed = not closing.is_alive()
+            if not was_closed:
+                store._connection._socket.shutdown(socket.SHUT_RDWR)
+            for thread in (closing, waiting):
+                thread.join()
+            self.assertEqual((was_closed, errors), (True, [bestore.Closed]))
+            return store._is_open
+
+    def test_waits(self):
+        self.assertTrue(self.closes(lambda store, watch: watch.close()))
+        self.assertFalse(self.closes(lambda store, watch: store.close()))
+
+    def test_other_waits_go_on(self):
+        """If another thread ends a wait for a watch that is still open, it goes on, and nothing that was pushed is missed."""
+        with Fake([*self.watched, 0.4, push(2, [2], []), 0.05, push(3, [3], [])], [line(3, {})]) as fake, fake.connect() as store:
+            with store.watch("k==1") as watch:
+                begun = time.monotonic()
+                store._ring()
+                self.assertIsNone(watch.wait(0.05))
+                self.assertGreaterEqual(time.monotonic() - begun, 0.05)
+                ringing = threading.Timer(0.02, store._ring)
+                ringing.start()
+                self.assertEqual(watch.wait(PATIENCE), ([2], []))
+                ringing.join()
+                self.assertTrue(_connection._can_receive(store._connection._socket, time.monotonic() + PATIENCE))
+                store._ring()
+                self.assertEqual(watch.wait(0), ([3], []))
+
+    def test_closed_by_a_signal(self):
+        """A signal handler can close a pass while a call on it waits."""
+        for call in (lambda store, watch: watch.wait(PATIENCE), lambda store, watch: store.status()):
+            with Fake(self.watched, []) as fake, fake.connect() as store:
+                self.addCleanup(signal.signal, signal.SIGALRM, signal.signal(signal.SIGALRM, lambda *_: store.close()))
+                watch = store.watch("k==1")
+                signal.setitimer(signal.ITIMER_REAL, 0.05)
+                with self.assertRaises((bestore.Disconnected, bestore.Closed)) as fault:
+                    call(store, watch)
+                if isinstance(fault.exception, bestore.Disconnected):  # the call had begun before the signal came
+                    self.assertEqual(str(fault.exception), f"{fake.path}: the connection is closed")
+                self.assertRaises(bestore.Closed, watch.wait, 0)
+
+    def test_closed_while_it_repeats(self):
+        """A pass that is closed while another thread repeats a write on it stays closed."""
+        with Fake([None]) as fake, bestore.connect(fake.path, repeat=1) as store:
+            clock = mock.Mock(monotonic=time.monotonic, sleep=lambda seconds: store.close())
+            with mock.patch.object(connected, "time", clock), self.assertRaises(bestore.Closed):
+                store.new_node()
+            self.assertIsNone(store._connection)
+
+    def test_no_number_of_seconds(self):
+        with Fake(self.watched, [line(3, {})]) as fake, fake.connect() as store, store.watch("k==1") as watch:
+            with self.assertRaisesRegex(ValueError, "a timeout can't be nan seconds"):
+                watch.wait(float("nan"))
+            self.assertIsNone(watch.wait(0))
+
+
+class Repeated(unittest.TestCase):
+    def test_change_that_may_be_made(self):
+        """A change whose write may have been made doesn't run again, though its function began a watch, so that the write wasn't
+        repeated."""
+        runs = []
+
+        def watch(change):
+            runs.append(store.watch("k==1"))
+            change.new()
+        with Fake([line(2, {"commit": 0, "next": 1})], [line(3, {"watch": 1, "commit": 0, "nodes": []})], [line(4, {})], [None]) as fake:
+            with bestore.connect(fake.path, repeat=1) as store, self.assertRaises(bestore.Disconnected) as fault:
+                store.change(watch)
+        self.assertEqual((len(runs), fault.exception.may_be_done), (1, True))
+
+
+    def test_attempt_that_may_be_made(self):
+        """If one attempt may have made a write, no later attempt's error says that nothing was written."""
+        ask = connected.ConnectedPass._ask
+        for later in bestore.Disconnected("p", "later"), bestore.Stopped("p", "later"), bestore.NoPass():
+            errors = [bestore.Disconnected("p", "first", True)]
+
+            def failing(user, command, *given, **named):
+                if command == "batch":
+                    raise errors.pop() if errors else later
+                return ask(user, command, *given, **named)
+            with Fake() as fake, bestore.connect(fake.path, repeat=0.2) as store:
+                with mock.patch.object(connected.ConnectedPass, "_ask", failing), self.assertRaises(bestore.Disconnected) as fault:
+                    store.new_node()
+            self.assertEqual((fault.exception.reason, fault.exception.may_be_done), ("first", True))
+            self.assertIs(fault.exception.__cause__, later)
+
+    def test_error_of_another_store(self):
+        """A change whose function fails because of another store doesn't connect again and again."""
+        with Fake(*([line(number, {"commit": 0, "next": 1})] for number in range(2, 30))) as fake:
+            with bestore.connect(fake.path, repeat=0.2) as store:
+                connection = store._connection
+                with self.assertRaises(bestore.Disconnected):
+                    store.change(lambda change: self.lose())
+                self.assertIs(store._connection, connection)
+
+    def lose(self):
+        raise bestore.Disconnected("another", "why")
 
 
 class Errors(unittest.TestCase):

@@ -88,6 +88,21 @@ class Repeats(unittest.TestCase):
             self.assertEqual(other.new_node(), 1)
             del version, watch
 
+    def test_pin_that_is_lost(self):
+        """A version whose connection is gone doesn't read or end a later pin, and keeps writes from being repeated until it is
+        unpinned."""
+        with self.connect() as store:
+            lost = store.pin()
+            self.start_again()
+            for call in (lost.indices, store.pin, store.new_node, store.pin):
+                self.assertRaises(connected.Disconnected, call)
+            lost.unpin()
+            self.assertEqual(store.new_node(), 1)
+            with store.pin() as version:
+                self.assertRaises(bestore.NotPinned, lost.indices)
+                lost.unpin()
+                self.assertEqual(version.nodes(), [1])
+
     def test_ended_watch(self):
         """A watch that has ended can't be lost, even while the program still refers to it."""
         with self.connect() as closed, self.connect() as refused:

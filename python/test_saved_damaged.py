@@ -8,7 +8,7 @@ from unittest import mock
 
 from bestore import saved
 from bestore._saved_checks import of_entry, of_token
-from test_saved import Files, remove_checksums, sql, three
+from saved_files import Files, remove_checksums, sql, three
 
 CHANGES = 200  # bytes to change, each in its own copy of the file
 

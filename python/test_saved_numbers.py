@@ -2,7 +2,7 @@
 
 import bestore
 from bestore import saved
-from test_saved import Files, remove_checksums, sql, three
+from saved_files import Files, remove_checksums, sql, three
 
 LAST = 2**63 - 1
 

@@ -248,6 +248,44 @@ class Writes(Indexed):
         with store.pin() as version:
             self.assertEqual(version.query("size==5"), [node])
 
+    def test_volume_after_a_refused_operation(self):
+        """As long as nothing has been collected, an operation that is refused doesn't decide which volume is written."""
+        store = self.indexed(2)
+        first, second = self.sized(store, 0, 1), self.sized(store, 1, 2)
+
+        def change(change):
+            for refused, error in [
+                (lambda: change.set(first, "size", "text"), bestore.WrongKind), (lambda: change.set(first, "\ud800", 1), bestore.NotUTF8),
+                (lambda: change.set(first, "a", None), TypeError), (lambda: change.set("a", "a", 5), TypeError),
+            ]:
+                self.assertRaises(error, refused)
+                self.assertEqual((change.room, change.get(first, "size"), change.get(second, "size")), (64, 1, 2))
+            change[second]["size"] = 4
+            self.assertRaises(bestore.OtherVolume, change.set, first, "size", 5)
+            self.assertRaises(bestore.WrongKind, change.set, second, "size", "text")
+            self.assertEqual(bestore.volume_of(change.new()), 1)
+            return change.get(second, "size")
+        self.assertEqual(store.change(change), 4)
+        with store.pin() as version:
+            self.assertEqual((version.column([first, second], "size"), version.numbers), ([1, 4], (2, 3)))
+
+    def test_pages_in_a_change(self):
+        """A page in a change has the snapshot's order, whatever the change has collected."""
+        store = self.indexed(2)
+        nodes = [self.sized(store, number % 2, number) for number in range(6)]
+
+        def change(change):
+            change.set(nodes[0], "size", 9)
+            change.unset(nodes[2], "size")
+            change.set(nodes[4], "size", "text")
+            for is_descending in False, True:
+                first = change.query("size>=0", by="size", descending=is_descending, limit=3)
+                last = change.query("size>=0", by="size", descending=is_descending, limit=4, after=first.cursor)
+                self.assertEqual([*first, *last], nodes[::-1] if is_descending else nodes)
+                self.assertEqual((first.more, last.more), (True, False))
+            return change.rows("size>=0", ["size"], most=2, by="size")
+        self.assertEqual(store.change(change, check_kinds=False), [(nodes[0], [9]), (nodes[1], [1])])
+
     def test_status_and_reach(self):
         store = self.indexed(3)
         for _ in range(30):

@@ -82,6 +82,13 @@ class Users(unittest.TestCase):
         self.assertEqual(str(fault.exception), "p: no server can be reached: Permission denied; only the server's own user and root "
                          "may connect")
 
+    def test_no_descriptor(self):
+        spent = OSError(errno.EMFILE, os.strerror(errno.EMFILE))
+        with mock.patch.object(_connection.socket, "socket", side_effect=spent), self.assertRaises(bestore.NoServer) as fault:
+            bestore.connect("p")
+        self.assertEqual(str(fault.exception), "p: no server can be reached: Too many open files; close some files, or allow more with "
+                         "`ulimit -n`")
+
     def test_long_path(self):
         for path, advice in ("p" * 107, "start it with `bestored --background`"), ("p" * 108, "a socket's path can have up to 107 bytes"):
             with self.assertRaises(bestore.NoServer) as fault:

@@ -124,8 +124,8 @@ else
     BESTORED=$(realpath "$CARGO_TARGET_DIR/debug/bestored")
     export BESTORED
     if ! (cd ../python && timeout -k 10 600 env BESTORE_LIBRARY="$BESTORE_LIB_DIR/libbestore.so" PYTHONDONTWRITEBYTECODE=1 \
-        python3 -W error -m unittest test_connect test_connected_pages test_live test_repeats test_shelf test_watches \
-        test_without_library test_saved.Processes.test_rust) >"$work/said" 2>&1; then
+        python3 -W error -m unittest test_connect test_connected_ends test_connected_pages test_connected_programs test_connected_queries \
+        test_live test_repeats test_shelf test_watches test_without_library test_saved_processes.Processes.test_rust) >"$work/said" 2>&1; then
         cat "$work/said" >&2
         echo "Python, over the server: failed, or not at its end after 600 seconds" >&2
         exit 1

@@ -6,7 +6,7 @@ from typing import Dict, Iterable, List, Optional, Set
 
 from .change import Change
 from .errors import BadCount, NoAttribute, NoNode, NotPinned, OtherVolume, encoded
-from .nodes import volume_of
+from .nodes import node_number, volume_of
 from .operations import MOST_OPERATIONS, SET, Batch
 from .values import KIND_OF, Encoded, Kind, Typed, Value, encode_value, kind_mismatch, typed_value
 from .versions import Version
@@ -17,7 +17,7 @@ class ConnectedChange(Change):
 
     def __init__(self, snapshot: Version, check_kinds: bool, volume: Optional[int], has_volumes: bool) -> None:
         super().__init__(snapshot)
-        self._volume = volume  # the volume of all operations, once known
+        self._volume = volume  # the volume of all operations, once one that names a volume has been collected
         self._has_volumes = has_volumes
         self._batch, self._check_kinds = Batch(), check_kinds
         self._next: Optional[int] = None
@@ -41,11 +41,15 @@ class ConnectedChange(Change):
         if len(self._batch) >= MOST_OPERATIONS:
             raise BadCount()
         if self._has_volumes and node is not None:
-            if self._volume is None:
-                self._volume = volume_of(node)
-            if volume_of(node) != self._volume:
+            volume = volume_of(node_number(node))
+            if self._volume is not None and volume != self._volume:
                 raise OtherVolume(self._volume, len(self._batch))
         return self._batch
+
+    def _decide_volume(self, node: int) -> None:
+        """Records that an operation on this node has been collected, so later ones have to be in the same volume."""
+        if self._has_volumes and self._volume is None:
+            self._volume = volume_of(node)
 
     def _first_new(self) -> int:
         """Returns the number of the first node that the change creates."""
@@ -67,6 +71,7 @@ class ConnectedChange(Change):
 
     def remove(self, node: int) -> None:
         self._collecting(node).remove_node(node)
+        self._decide_volume(node)
         self._made.discard(node)
         self._set.pop(node, None)
         self._removed.add(node)
@@ -76,6 +81,7 @@ class ConnectedChange(Change):
         batch = self._collecting(node)
         self._check_kind(name, code)
         batch._add_encoded(SET, node, encoded(name), code, number, taken)
+        self._decide_volume(node)
         self._set.setdefault(node, {})[name] = code, number, taken
 
     def _check_kind(self, name: str, kind: Kind) -> None:
@@ -93,6 +99,7 @@ class ConnectedChange(Change):
 
     def unset(self, node: int, name: str) -> None:
         self._collecting(node).unset(node, name)
+        self._decide_volume(node)
         self._set.setdefault(node, {})[name] = None
 
     def make_index(self, name: str, kind: int) -> None:

@@ -2,16 +2,12 @@
 
 from __future__ import annotations
 
-import os
 from dataclasses import dataclass
 from typing import Callable, Dict, List, Optional, Tuple
 
 from . import _saved_errors
 from ._surface import SERVER_MEANINGS, ErrorClass, ErrorNumber
 from .errors import BadCursor, Error, NotCovered, NotReached, NoVolume, OtherVolume, PartialIndex, Refusal, _OfPath, refusal
-
-_LONGEST_PATH = 107
-"""The maximum number of bytes in a socket's path."""
 
 
 class ServerError(_OfPath):
@@ -23,19 +19,11 @@ class NoServer(ServerError, ConnectionError):
     """No server can be reached through the socket. The system's error is in `__cause__`."""
 
     error_class = ErrorClass.GONE
+    _summary = "no server can be reached: {reason}; {advice}"
+
     reason: str
-
-    @property
-    def summary(self) -> str:
-        return f"no server can be reached: {self.reason}; {self._advice}"
-
-    @property
-    def _advice(self) -> str:
-        if isinstance(self.__cause__, PermissionError):
-            return "only the server's own user and root may connect"
-        if len(os.fsencode(self.path)) > _LONGEST_PATH:
-            return f"a socket's path can have up to {_LONGEST_PATH} bytes"
-        return "start it with `bestored --background`"
+    advice: str = "start it with `bestored --background`"
+    """What would be right."""
 
 
 @dataclass(eq=False, repr=False)
@@ -237,6 +225,6 @@ def error_of(path: str, details: Dict[str, object], query: Optional[str] = None)
     refused = _REFUSALS.get(name, ServerRefusal)(path, name, message, _said_class(details))
     if name not in ("NotSaved", "Stopped"):
         return refused
-    error = _saved_errors.NotSaved(path, None) if name == "NotSaved" else _saved_errors.Stopped(path)
+    error = _saved_errors.NotSaved(path, None, message) if name == "NotSaved" else _saved_errors.Stopped(path, message)
     error.__cause__, error.error_class = refused, refused.error_class
     return error

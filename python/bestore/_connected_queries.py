@@ -8,7 +8,7 @@ from typing import Callable, List, Optional, Tuple, TypeVar
 
 from ._connected_errors import LineTooLong
 from ._wire import JSON, read_comparisons, read_nodes, read_row
-from .errors import NoIndex, NotCovered, TooLong, encoded, encoded_query, no_index
+from .errors import NameLength, NoIndex, NotCovered, TooLong, encoded, encoded_query, no_index
 from .language import Hint
 from .pages import Cursor, Order, Page
 from .queries import Prepared, prepare_items
@@ -19,6 +19,7 @@ _Result = TypeVar("_Result")
 
 MOST_NAMES = 64
 """The maximum number of names in a request for columns."""
+_LONGEST_QUERY = 4096  # bytes
 _ALL = 2**64 - 1  # more nodes than any store has
 _MOST_OF_A_PAGE = 50_000  # nodes per reply
 
@@ -46,7 +47,7 @@ class QueriedVersion(Version):
         except NotCovered as error:
             raise self._named(error, asked, text) from None
         except LineTooLong:
-            raise TooLong(query=text) from None
+            raise (TooLong(query=text) if len(encoded(text)) > _LONGEST_QUERY else NameLength()) from None
 
     def _named(self, error: NotCovered, asked: Query, text: str) -> NotCovered:
         """Returns the error for a query that needs another index, with the position that the server reported."""

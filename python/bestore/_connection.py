@@ -2,13 +2,14 @@
 
 from __future__ import annotations
 
+import errno
 import os
 import select
 import socket
 import struct
 import time
 from contextlib import suppress
-from typing import Callable, NoReturn, Optional, Type, TypeVar
+from typing import Callable, NoReturn, Optional, Tuple, Type, TypeVar
 from weakref import WeakSet
 
 from ._connected_errors import (
@@ -22,19 +23,25 @@ _Result = TypeVar("_Result")
 _ROOM = 1 << 16  # how many bytes are received at a time
 _AGAIN = 0.01  # seconds between attempts to connect
 _LONGEST = 2_000_000.0  # seconds; the system's clocks don't go much further, so a longer timeout means no limit
+_LONGEST_PATH = 107  # bytes in a socket's path
 _CLOSED = "the server closed the connection"
 _INTERRUPTED = "an earlier call was interrupted"
 _CLOSING = ("LineTooLong", "Timeout")  # errors after which the server closes the connection
 
 
 def _limited(timeout: Optional[float]) -> Optional[float]:
-    """Returns a timeout in the form that system calls accept."""
+    """Returns a timeout in the form that system calls accept. Raises a ValueError if it isn't a number."""
+    if timeout != timeout:
+        raise ValueError(f"a timeout can't be {timeout} seconds")
     return None if timeout is None or timeout > _LONGEST else timeout
 
 
 def _socket_to(path: str, timeout: Optional[float]) -> socket.socket:
     """Returns a connected socket. The timeout for connecting, and for each later call on the socket, is `timeout` seconds."""
-    connected = socket.socket(socket.AF_UNIX, socket.SOCK_STREAM)
+    try:
+        connected = socket.socket(socket.AF_UNIX, socket.SOCK_STREAM)
+    except OSError as error:
+        raise _no_server(path, error) from error
     try:
         connected.settimeout(timeout)
         until = None if timeout is None else time.monotonic() + timeout
@@ -46,11 +53,23 @@ def _socket_to(path: str, timeout: Optional[float]) -> socket.socket:
         connected.close()
         if isinstance(error, TimedOut):
             raise
-        raise NoServer(path, error.strerror or str(error)) from error
+        raise _no_server(path, error) from error
     except BaseException:
         connected.close()
         raise
     return connected
+
+
+def _no_server(path: str, error: OSError) -> NoServer:
+    """Returns the error for a server that can't be reached, for a reason that the system gave."""
+    reason = error.strerror or str(error)
+    if isinstance(error, PermissionError):
+        return NoServer(path, reason, "only the server's own user and root may connect")
+    if error.errno in (errno.EMFILE, errno.ENFILE):
+        return NoServer(path, reason, "close some files, or allow more with `ulimit -n`")
+    if len(os.fsencode(path)) > _LONGEST_PATH:
+        return NoServer(path, reason, f"a socket's path can have up to {_LONGEST_PATH} bytes")
+    return NoServer(path, reason)
 
 
 def _connects(connected: socket.socket, path: str) -> bool:
@@ -77,11 +96,15 @@ def _check_user(connected: socket.socket, path: str) -> None:
         raise OtherUser(path, server, user)
 
 
-def _can_receive(connected: socket.socket, until: Optional[float]) -> bool:
-    """Waits for data until the time `until`, or forever if `until` is None. Returns whether data can be received."""
-    polled = select.poll()
-    polled.register(connected, select.POLLIN)
-    return bool(polled.poll(None if until is None else max(until - time.monotonic(), 0) * 1000))
+def _can_receive(connected: socket.socket, until: Optional[float], bell: Optional[socket.socket] = None) -> bool:
+    """Waits for data until the time `until`, or forever if `until` is None, or until `bell` has something to read. Returns whether
+    data can be received."""
+    polled, own = select.poll(), connected.fileno()
+    polled.register(own, select.POLLIN)
+    if bell is not None:
+        polled.register(bell, select.POLLIN)
+    found = polled.poll(None if until is None else max(until - time.monotonic(), 0) * 1000)
+    return own in dict(found)
 
 
 class Connection:
@@ -97,6 +120,8 @@ class Connection:
         self._reason = "the connection is closed"  # why there is no socket
         self._last = 0  # the number of the last request
         self._received, self._searched = bytearray(), 0  # the received bytes, and how many of them contain no line end
+        self._bell: Optional[Tuple[socket.socket, socket.socket]] = None  # connected sockets, by which other threads end a wait
+        self._is_rung = False
         _open.add(self)
 
     @property
@@ -123,8 +148,10 @@ class Connection:
     def drop(self, reason: str) -> None:
         """Closes only this process's socket."""
         dropped, self._socket, self._reason = self._socket, None, reason
-        if dropped is not None:
-            dropped.close()
+        bell, self._bell = self._bell, None
+        for used in (dropped, *(bell or ())):
+            if used is not None:
+                used.close()
 
     def _fail(self, error: Exception, may_be_done: bool = False) -> NoReturn:
         """Closes the connection, and raises an error that states the reason."""
@@ -135,6 +162,8 @@ class Connection:
             reason = str(error)
         elif isinstance(error, (BrokenPipeError, ConnectionResetError)):
             reason = _CLOSED
+        elif isinstance(error, OSError) and self._socket is None:
+            reason = self._reason  # a signal handler has closed the connection during the call
         elif isinstance(error, OSError):
             reason = f"the connection failed: {error}"
         else:
@@ -219,9 +248,30 @@ class Connection:
             raise EOFError(f"{_CLOSED}: {error.get('message')}")
         raise error_of(self.path, error, query)
 
+    def ring(self) -> None:
+        """Ends another thread's wait for pushes, or its next one, so that the thread looks at what has changed here."""
+        self._is_rung = True  # set first, because that thread makes the bell first
+        bell = self._bell
+        if bell is not None:
+            with suppress(OSError):  # it has been rung often enough, or is closed
+                bell[1].send(b"\0", socket.MSG_DONTWAIT)
+
+    def _can_be_pushed(self, connected: socket.socket, until: Optional[float]) -> bool:
+        """Waits for data, like `_can_receive`, or until another thread rings."""
+        if self._bell is None and (until is None or until > time.monotonic()):
+            with suppress(OSError):  # without it, no other thread can end the wait
+                self._bell = socket.socketpair()
+        bell = None if self._bell is None else self._bell[0]
+        can = _can_receive(connected, 0 if self._is_rung else until, bell)
+        self._is_rung = False
+        if bell is not None and not can:
+            with suppress(OSError):  # it wasn't rung
+                bell.recv(_ROOM, socket.MSG_DONTWAIT)
+        return can
+
     def receive_pushes(self, timeout: Optional[float]) -> bool:
         """Handles the lines that were pushed. If there are none, waits up to `timeout` seconds, or forever if `timeout` is
-        None. Returns whether a line arrived."""
+        None, or until another thread rings. Returns whether a line arrived."""
         connected = self._live_socket()
         timeout = _limited(timeout)
         until = None if timeout is None else time.monotonic() + timeout
@@ -230,7 +280,7 @@ class Connection:
             line = self._take_line()
             while line is None:
                 is_idle = True
-                if not _can_receive(connected, until):
+                if not self._can_be_pushed(connected, until):
                     return False
                 is_idle = False
                 line = self._receive(connected.recv(_ROOM))

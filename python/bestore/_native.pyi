@@ -1,6 +1,6 @@
 """Types for the extension, whose C sources are in python/native/."""
 
-from typing import Any, Callable, Dict, Iterable, List, Literal, Optional, Sequence, Tuple, Type, overload
+from typing import Any, Callable, Dict, Iterable, List, Literal, Optional, Sequence, Tuple, Type, Union, overload
 
 from .errors import Forked, Refusal, WrongKind
 from .operations import Batch as _Batch, Operation
@@ -62,6 +62,8 @@ class Reader:
     def attributes(self, node: int, kinds: Literal[False]) -> Dict[str, Value]: ...
     @overload
     def attributes(self, node: int, kinds: Literal[True]) -> Dict[str, Typed]: ...
+    @overload
+    def attributes(self, node: int, kinds: bool) -> Union[Dict[str, Value], Dict[str, Typed]]: ...
     def indices(self) -> Dict[str, Kind]: ...
     @overload
     def query(self, text: str) -> List[int]: ...

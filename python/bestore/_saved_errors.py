@@ -79,14 +79,15 @@ class Fewer(SavedError):
         return f"the folder has {self.found} volumes, and can't be opened with {self.wanted}"
 
 
+@dataclass(eq=False, repr=False)
 class SqliteError(SavedError):
     """SQLite reported some other error, which is in `__cause__`."""
 
     error_class = ErrorClass.GONE
+    _summary = "{reason}"
 
-    @property
-    def summary(self) -> str:
-        return str(self.__cause__)
+    reason: str
+    """What SQLite said."""
 
 
 @dataclass(eq=False, repr=False)
@@ -167,25 +168,31 @@ class NotSaved(SavedError):
 
     number: Optional[int]
     """The commit number of the write, or None if a server didn't give it."""
+    reason: str
+    """What went wrong."""
 
     @property
     def summary(self) -> str:
         what = "the write" if self.number is None else f"write {self.number}"
-        return f"{what} is not saved: {_said(self.__cause__)}"
+        return f"{what} is not saved: {self.reason}"
 
 
+@dataclass(eq=False, repr=False)
 class Stopped(SavedError):
     """Saving has stopped, and nothing was written. `__cause__` is the error from the commit that failed, or None if the file
     was closed."""
 
     error_class = ErrorClass.GONE
 
+    reason: Optional[str] = None
+    """What went wrong with that commit, or None if the file was closed."""
+
     @property
     def summary(self) -> str:
-        return "the file is closed" if self.__cause__ is None else f"saving has failed: {_said(self.__cause__)}"
+        return "the file is closed" if self.reason is None else f"saving has failed: {self.reason}"
 
 
-def _said(error: Optional[BaseException]) -> str:
+def said(error: BaseException) -> str:
     """Returns what went wrong, without naming the file."""
     summary = getattr(error, "summary", None)
     return str(error) if summary is None else str(summary)
@@ -205,7 +212,7 @@ def of_sqlite(path: str, error: sqlite3.Error) -> SavedError:
         return DiskFull(path)
     if code == _CORRUPT:
         return Damaged(path, str(error))
-    return Foreign(path) if code == _NO_DATABASE else SqliteError(path)
+    return Foreign(path) if code == _NO_DATABASE else SqliteError(path, str(error))
 
 
 def of_reading(path: str, error: sqlite3.Error, entry: Optional[int] = None, batch: Optional[int] = None,

@@ -2,7 +2,7 @@
 
 from __future__ import annotations
 
-from typing import TYPE_CHECKING, Callable, Dict, Iterable, List, Optional, Tuple, Union
+from typing import TYPE_CHECKING, Callable, Dict, Iterable, List, Optional, Tuple, TypeVar, Union
 
 from .change import Change
 from .errors import HasNul, NameLength, NoNode, NotPinned, OtherVolume, PartialIndex
@@ -14,14 +14,15 @@ if TYPE_CHECKING:
     from .shelf import ShelfVersion
     from .store import Pass
 
+_Result = TypeVar("_Result")
 _OfIndex = Callable[[Union[Change, Batch]], object]
 """Adds an operation on an index to a change, or to a batch."""
 
 
 class ShelfChange(Change):
-    """A change that reads a version of all volumes. The first operation decides which volume is written, unless the caller
-    named a volume. From then on, a change to that volume collects the operations. This change replaces the volume's version, so
-    reads see these operations too."""
+    """A change that reads a version of all volumes. The first operation that is collected decides which volume is written,
+    unless the caller named a volume. From then on, a change to that volume collects the operations. This change replaces the
+    volume's version, so reads see these operations too."""
 
     _snapshot: ShelfVersion
 
@@ -73,29 +74,45 @@ class ShelfChange(Change):
                 version.unpin()
         return self.volume, self._within
 
-    def _of(self, node: int) -> Tuple[Change, int]:
-        """Returns the change to a node's volume, and the node's number within that volume. Raises `NoNode` if there is no such volume."""
+    def _collect(self, volume: int, add: Callable[[Change], _Result]) -> _Result:
+        """Adds an operation to the change to this volume. If the operation is refused, and no other has been collected, a later
+        one may be on another volume."""
+        is_undecided = self.volume is None
+        try:
+            return add(self._in(volume))
+        except BaseException:
+            if is_undecided and self._count == 0:
+                self._leave_undecided()
+            raise
+
+    def _leave_undecided(self) -> None:
+        """Ends the change to the volume, which has collected nothing."""
+        within, self._within, self.volume = self._within, None, None
+        if within is not None:
+            self._snapshot.volumes = tuple(within._snapshot if it is within else it for it in self._snapshot.volumes)
+
+    def _split(self, node: int) -> Tuple[int, int]:
+        """Returns a node's volume, and its number within that volume. Raises `NoNode` if there is no such volume."""
         volume, number = divmod(node_number(node), NUMBERS)
         if not 0 <= volume < len(self._users):
             raise NoNode(node)
-        return self._in(volume), number
+        return volume, number
 
     def new(self) -> int:
-        if self.volume is None:
-            self.volume = volume_of(self._snapshot.next_node)
-        return node_in(self.volume, self._in(self.volume).new())
+        volume = volume_of(self._snapshot.next_node) if self.volume is None else self.volume
+        return node_in(volume, self._collect(volume, lambda within: within.new()))
 
     def remove(self, node: int) -> None:
-        within, number = self._of(node)
-        within.remove(number)
+        volume, number = self._split(node)
+        self._collect(volume, lambda within: within.remove(number))
 
     def set(self, node: int, name: str, value: Value, kind: Optional[int] = None) -> None:
-        within, number = self._of(node)
-        within.set(number, name, value, kind)
+        volume, number = self._split(node)
+        self._collect(volume, lambda within: within.set(number, name, value, kind))
 
     def unset(self, node: int, name: str) -> None:
-        within, number = self._of(node)
-        within.unset(number, name)
+        volume, number = self._split(node)
+        self._collect(volume, lambda within: within.unset(number, name))
 
     def make_index(self, name: str, kind: int) -> None:
         self._about_index(lambda to: to.make_index(name, kind))

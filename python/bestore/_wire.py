@@ -136,6 +136,11 @@ def read_kind(name: str) -> Kind:
     return _KINDS[name]
 
 
+def read_indices(ok: JSON) -> Dict[str, Kind]:
+    """Reads the indices of a store, as a dict from names to kinds."""
+    return {name: read_kind(kind) for name, kind in ok["indices"].items()}
+
+
 def read_operation(parts: List[Any]) -> Operation:
     """Reads an operation."""
     what = parts[0]

@@ -109,6 +109,9 @@ class Change(Version):
     def _page_of(self, asked: Asked, order: Order, after: Optional[Cursor], limit: Optional[int]) -> Page[int]:
         return self._snapshot._page_of(asked, order, after, limit)
 
+    def _indexed_column(self, nodes: Iterable[int], name: str) -> List[Optional[Value]]:
+        return self._snapshot._indexed_column(nodes, name)
+
     def _count_of(self, asked: Query) -> int:
         return self._snapshot._count_of(asked)
 

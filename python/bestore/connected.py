@@ -25,7 +25,7 @@ import os
 import time
 from contextlib import suppress
 from functools import partial
-from typing import Any, Callable, Dict, Iterable, Iterator, List, NamedTuple, Optional, Sequence, Set, Tuple, TypeVar, Union
+from typing import Any, Callable, Dict, Iterable, Iterator, List, NamedTuple, Optional, Sequence, Tuple, TypeVar, Union
 from uuid import uuid4
 from weakref import WeakValueDictionary
 
@@ -33,24 +33,25 @@ from ._asked_query import AskedQuery
 from ._connected_change import ConnectedChange
 from ._connected_errors import (
     BrokenConnection, Disconnected, Expired, LineTooLong, NoServer, NotAllowed, NotKept, NoWatch, OtherUser, ProtocolError,
-    ServerError, ServerRefusal, TimedOut, TooManyWatches, Unavailable, error_of)
+    ServerError, ServerRefusal, TimedOut, TooManyWatches, Unavailable)
 from ._connected_queries import MOST_NAMES, QueriedVersion
+from ._connected_watch import ConnectedWatch
 from ._connection import Connection
 from ._journal import line_of
 from ._refreshes import refreshed_by_all
 from ._saved_errors import NotSaved, Stopped
 from ._socket_path import SocketPath
 from ._wire import (
-    JSON, PROTOCOL, operations_of, read_comparisons, read_entry, read_kind, read_nodes, read_operation, read_row, read_value)
+    JSON, PROTOCOL, operations_of, read_comparisons, read_entry, read_indices, read_nodes, read_operation, read_row, read_value)
 from .errors import (
-    BadCount, Closed, Error, Forked, NameLength, NoAttribute, NoNode, NoPass, NotCovered, NotPinned, NotReached, NoVolume,
-    PartialIndex, Pinned, TooLong, encoded, encoded_query)
+    BadCount, Closed, Error, Forked, NameLength, NoAttribute, NoNode, NoPass, NotPinned, NotReached, NoVolume, PartialIndex,
+    Pinned, TooLong, encoded, encoded_query)
 from .change import Change
 from .handles import LockOwner
 from .nodes import node_number, within
 from .operations import MOST_OPERATIONS, NEW, Batch
 from .queries import Prepared
-from .store import ATTEMPTS, TRIES, Entry, Held, Status, ThreadPass, Witness
+from .store import ATTEMPTS, TRIES, Entry, Held, Status, ThreadPass, Witness, numbers_of_volumes
 from .values import RANGES, Kind, Typed, Value
 from .versions import Version
 from .watches import Changes, Watch
@@ -66,7 +67,6 @@ _Result = TypeVar("_Result")
 TIMEOUT = 60.0
 """The default timeout for connecting, and for each reply, in seconds."""
 _AGAIN = 0.05  # seconds after which a write is repeated
-_WORDS = 512  # per page
 _MOST_WAITED = 30.0  # seconds that the server waits per request
 _MOST_NODES = 1 << 14  # nodes in a request for columns, so that its line isn't too long
 
@@ -170,7 +170,7 @@ class ConnectedVersion(QueriedVersion):
         return refreshed_by_all(prepared, self)
 
     def indices(self) -> Dict[str, Kind]:
-        return self._ask("indices", {}, _read_indices)
+        return self._ask("indices", {}, read_indices)
 
     def partial_indices(self) -> Dict[str, List[int]]:
         return self._ask("indices", {}, lambda ok: dict(ok.get("partial", {})))
@@ -264,10 +264,6 @@ def _read_state(ok: JSON) -> Tuple[List[Batch], Optional[int]]:
     return [Batch(map(read_operation, batch)) for batch in ok["batches"]], ok.get("more")
 
 
-def _read_indices(ok: JSON) -> Dict[str, Kind]:
-    return {name: read_kind(kind) for name, kind in ok["indices"].items()}
-
-
 def _read_attribute(ok: JSON) -> Optional[Typed]:
     value = ok["value"]
     return None if value is None else read_value(value)
@@ -319,7 +315,7 @@ class ConnectedPass(LockOwner, ThreadPass):
         self._connection: Optional[Connection] = None
         super().__init__()
         self._committed = 0
-        self._is_asking = self._has_pin = self._is_left = False
+        self._is_asking = self._has_pin = self._is_left = self._is_closed = False
         self._watches: "WeakValueDictionary[int, ConnectedWatch]" = WeakValueDictionary()
         self._ended: List[int] = []  # watches that are gone here and that the server still has
         self.path = path.path
@@ -335,6 +331,9 @@ class ConnectedPass(LockOwner, ThreadPass):
         """Connects, and asks the server to describe itself."""
         connection = Connection(self._socket_path, self._timeout, partial(_take_push, self._watches))
         with self._lock:
+            if self._is_closed:  # by another thread, while this one repeats a write
+                connection.close()
+                raise Closed()
             self._connection, self._has_pin = connection, False
             try:
                 self.server, self._number = self._ask("hello", {"protocol": PROTOCOL}, _read_server)
@@ -342,25 +341,29 @@ class ConnectedPass(LockOwner, ThreadPass):
                 connection.close()
                 raise
 
-    def _until_answered(self, call: Callable[[], _Result]) -> _Result:
-        """Makes a call that can safely be repeated. If the program asked for repeats, retries the call when the connection
-        fails or the server temporarily can't save writes. Doesn't retry if the pass would lose a pin or a watch with the old
-        connection."""
+    def _until_answered(self, call: Callable[[], _Result], has_token: bool) -> _Result:
+        """Makes a call. If the program asked for repeats, retries the call when the connection fails or the server temporarily
+        can't save writes. Doesn't retry if the pass would lose a pin or a watch with the old connection, or if something may
+        have been written, unless the call has a token by which the server recognises its repeats."""
         repeats = self._repeat is not None and not self._has_pin and not self._watches
         until = time.monotonic() + (self._repeat or 0)
+        uncertain: Optional[Error] = None  # says that an attempt may have written something
         while True:
             try:
                 return call()
             except (BrokenConnection, NoPass, NotSaved, Stopped) as error:
-                is_refused = isinstance(error, (NotSaved, Stopped))
-                if not repeats or not self._may_repeat(is_refused, until):
-                    raise
+                if isinstance(error, NotSaved) or isinstance(error, BrokenConnection) and error.may_be_done:
+                    uncertain = error
+                if not repeats or uncertain is not None and not has_token or not self._may_repeat(until):
+                    if uncertain is None or uncertain is error:
+                        raise
+                    raise uncertain from error
 
-    def _may_repeat(self, is_refused: bool, until: float) -> bool:
+    def _may_repeat(self, until: float) -> bool:
         """Waits a moment, and connects if necessary. Returns whether the pass is connected before time runs out."""
         while time.monotonic() < until:
             time.sleep(min(_AGAIN, max(until - time.monotonic(), 0)))
-            if is_refused and self._is_open:
+            if self._is_open:
                 return True
             with suppress(NoServer, BrokenConnection, NoPass):
                 self._connect()
@@ -386,7 +389,7 @@ class ConnectedPass(LockOwner, ThreadPass):
 
     def _begin(self) -> Connection:
         """Returns the connection for one call."""
-        if self._connection is None:
+        if self._connection is None or self._is_closed:
             raise Closed()
         if self._is_asking:
             raise RuntimeError("a call on this pass was made during another one, such as by a signal handler")
@@ -395,14 +398,16 @@ class ConnectedPass(LockOwner, ThreadPass):
     @property
     def _is_open(self) -> bool:
         """Whether calls can be made."""
-        return self._connection is not None and self._connection.is_open
+        connection = self._connection
+        return not self._is_closed and connection is not None and connection.is_open
 
     def _pin(self, version: ConnectedVersion) -> Tuple[int, int, Tuple[int, ...], Tuple[int, ...]]:
         """Pins the pass for a version. Returns the commit number, the next node, and both of these for each volume."""
         self._check_process()
         with self._lock:
             self._unpin_left()
-            if self._has_pin and self._is_open:
+            if self._has_pin:
+                self._begin().fileno()  # raises the connection's error if that pin was lost with it
                 raise Pinned()
             self._has_pin = version._is_pinned = True  # set first, because an interrupt may come after the reply
             try:
@@ -415,7 +420,7 @@ class ConnectedPass(LockOwner, ThreadPass):
         """Unpins the pass. Ending the connection would have the same effect."""
         self._has_pin = False
         if self._is_open:
-            with suppress(BrokenConnection, NotPinned):  # an interrupted pin may not have been sent
+            with suppress(BrokenConnection, Closed, NotPinned):  # an interrupted pin may not have been sent
                 self._ask("unpin", {}, lambda ok: None)
 
     def _leave(self) -> None:
@@ -453,8 +458,11 @@ class ConnectedPass(LockOwner, ThreadPass):
         return ConnectedPass(self._socket_path, self._timeout, self.server.run, self._repeat)
 
     def close(self) -> None:
-        """Closes the connection if it is open, which returns the pass. The store remains on the server."""
+        """Closes the connection if it is open, which returns the pass. The store remains on the server. If another thread is
+        waiting for a watch of this pass, its wait ends with `Closed`."""
         if self._connection is not None and not self._is_dead:
+            self._is_closed = True
+            self._ring()
             with self._lock:
                 connection, self._connection = self._connection, None
                 if connection is not None:  # unless another thread has closed it meanwhile
@@ -488,8 +496,7 @@ class ConnectedPass(LockOwner, ThreadPass):
         def run() -> _Result:
             # The server itself retries on Busy and Full.
             return super(ConnectedPass, self).change(function, attempts, check_kinds=check_kinds, tries=1, volume=volume)
-        # A write is repeated until its time runs out, so a call that fails earlier has written nothing.
-        return self._until_answered(run)
+        return self._until_answered(run, has_token=False)
 
     def _begin_change(self, check_kinds: bool, volume: Optional[int]) -> Change:
         return ConnectedChange(self.pin(), check_kinds, volume, self.volumes > 1)
@@ -533,7 +540,7 @@ class ConnectedPass(LockOwner, ThreadPass):
             nodes = read_nodes(ok["nodes"])[::-1]
             return int(ok["commit"]), [nodes.pop() if kind == NEW else 0 for kind, *_ in batch._parts()]
         try:
-            return self._until_answered(lambda: self._ask("batch", parameters, read, is_write=True))
+            return self._until_answered(lambda: self._ask("batch", parameters, read, is_write=True), has_token=True)
         except LineTooLong:
             batch.to_bytes()  # raises an error if the batch isn't valid
             raise
@@ -558,7 +565,7 @@ class ConnectedPass(LockOwner, ThreadPass):
 
     def reach(self, numbers: Union[int, Sequence[int]], within: float = 5) -> Tuple[int, ...]:
         """Works as for a store in this process. The server waits, and the request is repeated before its reply would time out."""
-        wanted: Union[int, List[int]] = numbers if isinstance(numbers, int) else list(numbers)
+        wanted = [min(max(number, 0), 2**64 - 1) for number in numbers_of_volumes(numbers, self.volumes)]
         most = _MOST_WAITED if self._timeout is None else min(self._timeout / 2, _MOST_WAITED)
         until = time.monotonic() + within
         while True:
@@ -569,9 +576,9 @@ class ConnectedPass(LockOwner, ThreadPass):
                 if left <= most:
                     raise
 
-    def _reach(self, wanted: Union[int, List[int]], within: float) -> Tuple[int, ...]:
+    def _reach(self, wanted: List[int], within: float) -> Tuple[int, ...]:
         """Makes the server wait once."""
-        parameters = {"commit": wanted, "within": math.ceil(within * 1000)}
+        parameters = {"commit": wanted[0] if len(wanted) == 1 else wanted, "within": math.ceil(within * 1000)}
         return self._ask("reach", parameters, lambda ok: tuple(ok.get("commits", (ok["commit"],))))
 
     def flush(self) -> None:
@@ -603,12 +610,18 @@ class ConnectedPass(LockOwner, ThreadPass):
         received don't make the descriptor readable."""
         self._check_process()
         with self._lock:
-            if self._connection is None:
+            if self._connection is None or self._is_closed:
                 raise Closed()
             return self._connection.fileno()
 
+    def _ring(self) -> None:
+        """Ends another thread's wait for a push."""
+        connection = self._connection
+        if connection is not None:
+            connection.ring()
+
     def _receive(self, timeout: Optional[float]) -> bool:
-        """Waits for a push. Returns whether one arrived."""
+        """Waits for a push, or until another thread rings. Returns whether one arrived."""
         connection = self._begin()
         try:
             self._is_asking = True
@@ -620,144 +633,10 @@ class ConnectedPass(LockOwner, ThreadPass):
     def _end_watches(self) -> None:
         """Ends the watches that are no longer referenced."""
         while self._ended:
+            number = self._ended[-1]
             with suppress(NoWatch):
-                self._ask("unwatch", {"watch": self._ended.pop()}, lambda ok: None)
-
-
-class ConnectedWatch(Watch):
-    """A watch whose changes the server pushes. Any call on the pass receives pushed changes, which the watch keeps until it
-    returns them. The server disconnects a program that makes no call for half a minute while more is pushed than the socket can
-    hold.
-
-    `Prepared` and `Version.refresh` work without pushes."""
-
-    def __init__(self, user: ConnectedPass, query: Optional[str]) -> None:
-        super().__init__(query)
-        self._user = user
-        self._created: Set[int] = set()
-        self._removed: Set[int] = set()
-        self._is_partial = self._is_new = False  # whether the commit has another push to come; whether there is anything to return
-        self._last = 0  # the commit that the changes received so far lead to
-        self._error: Optional[Error] = None  # the error that ended the watch
-        self._number: Optional[int] = None
-        parameters = {} if query is None else {"query": query}
-        if query is not None:
-            encoded_query(query)
-        user._check_process()
-        with user._lock:
-            user._end_watches()
-            try:
-                user._ask("watch", parameters, self._read_first, query=query)
-            except NotCovered as error:
-                raise self._named(error) from None
-            except LineTooLong:
-                raise TooLong(query=query) from None
-
-    def __del__(self) -> None:
-        if self._number is not None:
-            self._user._ended.append(self._number)
-
-    def _read_first(self, ok: JSON) -> None:
-        """Receives the first answer. From then on, pushes arrive, even before the call ends."""
-        nodes = ok.get("nodes")
-        if nodes is not None:
-            self._created.update(read_nodes(nodes))
-        self.commit = self._last = int(ok["commit"])
-        self._is_new, self._is_partial = bool(nodes), bool(ok.get("more"))
-        self._number = int(ok["watch"])
-        self._user._watches[self._number] = self
-
-    def _take(self, push: JSON) -> bool:
-        """Takes changes. Returns whether the same commit has more changes."""
-        error = push.get("error")
-        if error is not None:
-            self._error = error_of(self._user.path, error, self.query)
-            self._forget()
-        came, went = set(read_nodes(push["created"])), set(read_nodes(push["removed"]))
-        created, removed = self._created - went | came - self._removed, self._removed - came | went - self._created
-        self._check_room(max(len(created), len(removed)))
-        # This is a single statement, because an interrupt may come between two statements.
-        self._created, self._removed, self._last, self._is_new, self._is_partial = (
-            created, removed, int(push["commit"]), True, bool(push.get("more")))
-        return self._is_partial
-
-    def _check_room(self, nodes: int) -> None:
-        """Raises a ValueError if the server's store doesn't have room for this number of nodes. Each node takes at least one word of a
-        page."""
-        pages = self._user.server.pages * self._user.server.volumes
-        if nodes > pages * _WORDS:
-            raise ValueError(f"the server pushed more nodes than its {pages:,} pages have room for")
-
-    def _forget(self) -> Optional[int]:
-        """Ends the watch here. Returns its number, unless it had already ended."""
-        number, self._number = self._number, None
-        if number is not None:
-            self._user._watches.pop(number, None)
-        return number
-
-    def _returned(self) -> Changes:
-        changes = Changes(sorted(self._created), sorted(self._removed))
-        self._created, self._removed, self._is_new, self.commit = set(), set(), False, self._last
-        return changes
-
-    def _named(self, error: NotCovered) -> NotCovered:
-        """Returns the error for a query that needs another index, with the names of the existing indices."""
-        error.indices = tuple(self._user._ask("indices", {}, _read_indices))
-        return error
-
-    def _check(self) -> int:
-        """Returns the number of the watch. Raises the error that ended the watch, or `Closed`."""
-        if isinstance(self._error, NotCovered):
-            raise self._named(self._error)
-        if self._error is not None:
-            raise self._error
-        if self._number is None:
-            raise Closed()
-        return self._number
-
-    def refresh(self) -> Changes:
-        """Returns what changed since a call on this watch last returned something, up to the snapshot that the pass would read
-        now. If the pass is pinned, that is the pinned snapshot. Otherwise, it is the current snapshot, which includes
-        everything that this pass has written or seen. Takes a round trip."""
-        user = self._user
-        user._check_process()
-        with user._lock:
-            number = self._check()
-            try:
-                while user._ask("refresh", {"watch": number}, self._take, query=self.query):
-                    pass
-            except NotCovered as error:
-                raise self._named(error) from None
-            except NoWatch:
-                self._check()
-                raise
-            return self._returned()
-
-    def wait(self, timeout: Optional[float] = None) -> Optional[Changes]:
-        """Returns the changes that were pushed and haven't been returned yet. If there are none, waits up to `timeout` seconds,
-        or forever if `timeout` is None, and returns None if no change arrives. If `timeout` is 0, takes only what has already
-        arrived. If an error has ended the watch, raises that error next, such as `NotCovered` after the query's index was
-        removed. In the meantime, other threads' calls on the pass wait."""
-        user = self._user
-        user._check_process()
-        until = None if timeout is None else time.monotonic() + timeout
-        with user._lock:
-            while not self._is_new or self._is_partial:
-                self._check()
-                if not user._receive(None if until is None else max(until - time.monotonic(), 0)):
-                    return None
-            if self._error is not None and not self._created and not self._removed:
-                self._check()
-            return self._returned()
-
-    def close(self) -> None:
-        """Ends the watch, unless it has already ended."""
-        user, number = self._user, self._forget()
-        if number is not None and not user._is_dead:
-            with suppress(BrokenConnection), user._lock:
-                user._ended.append(number)
-                if user._is_open:
-                    user._end_watches()
+                self._ask("unwatch", {"watch": number}, lambda ok: None)
+            self._ended.remove(number)
 
 
 def connect(path: Union[str, bytes, "os.PathLike[Any]", None] = None, timeout: Optional[float] = TIMEOUT,

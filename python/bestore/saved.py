@@ -13,7 +13,9 @@ describes the promises and the format, which is the same as the Rust crate's.
 
 Concurrent writers share a commit: one writer saves what all of them have written, in the journal's order. While a write's call
 waits, a snapshot may already show the write, although the write isn't in the file yet. Call `flush` before you pass a
-snapshot's data to anyone else. If a `KeyboardInterrupt` ends the wait, the write is in memory, and the next commit saves it.
+snapshot's data to anyone else. If a `KeyboardInterrupt` ends the wait, or anything else that a signal handler raises, the write
+is in memory, and the next commit saves it. The handler itself can't write, flush, compact or close while the call that it
+interrupted uses the file: its calls raise a RuntimeError, and a write is then only in memory too.
 
 In a forked child, all handles are dead, as everywhere in the package. The child can't open the file itself, because SQLite
 would mistake the parent's handle for the child's own.
@@ -34,7 +36,8 @@ from . import local as _local
 from . import shelf as _shelf
 from ._library import check
 from ._saved_errors import (
-    CutOff, Damaged, Differs, DiskFull, Fewer, Foreign, Held, Newer, NoFile, NotSaved, SavedError, SqliteError, Stopped, TooLarge, refused)
+    CutOff, Damaged, Differs, DiskFull, Fewer, Foreign, Held, Newer, NoFile, NotSaved, SavedError, SqliteError, Stopped, TooLarge, refused,
+    said)
 from ._saved_file import File, Row
 from ._saved_line import Line, Turn
 from ._saved_rows import Repeater
@@ -96,7 +99,7 @@ class _Saver:
     def check(self) -> None:
         """Raises `Stopped` if saving has stopped."""
         if self._failed is not None or self._file is None:
-            raise Stopped(self.path) from self._failed
+            raise Stopped(self.path, None if self._failed is None else said(self._failed)) from self._failed
 
     def keep(self, number: int, by: int, batch: Batch, made: Optional[List[int]] = None) -> None:
         """Saves the write with this commit number, or notifies the saving thread that there is a write to save. If `made` is
@@ -110,7 +113,7 @@ class _Saver:
             if line.take(turn):
                 self._save_up_to(number)
         except Stopped as error:
-            raise NotSaved(self.path, number) from error.__cause__ or error
+            raise NotSaved(self.path, number, error.reason or error.summary) from error.__cause__ or error
         finally:
             line.leave(turn)
             if number in self._handed_in and line.saved >= number:
@@ -135,7 +138,7 @@ class _Saver:
             try:
                 rows = self._next_rows(first, number)
                 self._file.append(rows)
-            except Exception as error:
+            except (Error, MemoryError) as error:  # and not what a signal handler raises
                 self._failed = error
                 self.check()
             line.saved += len(rows)
@@ -244,8 +247,7 @@ class SavedPass(_local.LocalPass):
         if self._own_number is None:
             self._own_number = self.number
         written = super()._write(batch, tries, expected)
-        self._committed = written[0]
-        saver.keep(written[0], self._own_number, batch, written[1])
+        self._keep(written[0], self._own_number, batch, written[1])
         return written
 
     def _commit(self, change: Change) -> int:
@@ -255,9 +257,19 @@ class SavedPass(_local.LocalPass):
         if self._own_number is None:
             self._own_number = self.number
         batch = change._collected()
-        self._committed = super()._commit(change)
-        saver.keep(self._committed, self._own_number, batch)
-        return self._committed
+        number = super()._commit(change)
+        self._keep(number, self._own_number, batch)
+        return number
+
+    def _keep(self, number: int, by: int, batch: Batch, made: Optional[List[int]] = None) -> None:
+        """Saves a write that has been made. If that fails, snapshots still show the write, so the threads that wait for writes
+        are woken all the same."""
+        self._committed = number
+        try:
+            self._saver.keep(number, by, batch, made)
+        except BaseException:
+            self._wake()
+            raise
 
     def another(self) -> SavedPass:
         """Returns a pass of the same store for another thread. Any pass can do this, in any thread. Raises `NoPass` if no pass is left."""

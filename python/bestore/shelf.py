@@ -146,7 +146,7 @@ class ShelfVersion(Version):
         while more:
             with _of_volume(volume):
                 page = version._page_of(asked, order, after, room)
-                values = version.column(page, order.by)
+                values = version._indexed_column(page, order.by)
             for node, value in zip(page, values):
                 if value is not None:
                     yield encode_key(kind, value, node_in(volume, node))

@@ -236,7 +236,7 @@ class Pass(Owner, ABC):
         """Waits up to `within` seconds until the journal, or each volume's journal, has at least the given number of entries.
         Returns how many entries each journal has. Versions that the pass pins from then on include these entries. Raises
         `NotReached` if the timeout expires first."""
-        wanted = _numbers(numbers, self.volumes)
+        wanted = numbers_of_volumes(numbers, self.volumes)
         until = time.monotonic() + within
         with waiting(self._commits, self.volumes) as waiter:
             while True:
@@ -458,7 +458,7 @@ class ThreadPass(Pass):
         self._changing = threading.get_ident() if is_changing else None
 
 
-def _numbers(numbers: Union[int, Sequence[int]], volumes: int) -> Tuple[int, ...]:
+def numbers_of_volumes(numbers: Union[int, Sequence[int]], volumes: int) -> Tuple[int, ...]:
     """Returns each volume's commit number. Raises a ValueError unless there is one number per volume."""
     found = (numbers,) if isinstance(numbers, int) else tuple(numbers)
     if len(found) != volumes:

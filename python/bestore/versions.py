@@ -275,6 +275,9 @@ class Version(Uncopied, ABC):
     @overload
     def attributes(self, node: int, kinds: Literal[True]) -> Dict[str, Typed]: ...
 
+    @overload
+    def attributes(self, node: int, kinds: bool) -> Union[Dict[str, Value], Dict[str, Typed]]: ...
+
     def attributes(self, node: int, kinds: bool = False) -> Union[Dict[str, Value], Dict[str, Typed]]:
         """Returns a node's attributes in ascending order of names: a dict from names to values or, with `kinds`, to
         `Typed` values, which include their kinds. Raises `NoNode` if there is no such node."""
@@ -331,6 +334,10 @@ class Version(Uncopied, ABC):
         five attributes each."""
         read = list(nodes)
         return [self.column(read, name) for name in names]
+
+    def _indexed_column(self, nodes: Iterable[int], name: str) -> List[Optional[Value]]:
+        """Returns a column as queries and pages see it. In a change, these don't see the collected operations."""
+        return self.column(nodes, name)
 
     @overload
     def rows(self, query: Asked, names: Iterable[str], first: int = ..., most: int = ...) -> List[Row]: ...

@@ -6,6 +6,7 @@ from __future__ import annotations
 import queue
 import threading
 import time
+import traceback
 from collections import deque
 from typing import Deque, Dict, Iterable, List, Mapping, NamedTuple, Optional, Sequence, Set, Union
 
@@ -15,7 +16,7 @@ from bestore.pages import Order
 from . import columns, find
 from .places import PLACE_NAMES, Places
 from .sorted_hits import Hit, Node
-from .sources import LiveAnswer, Numbers, Session, Source
+from .sources import LiveAnswer, Numbers, Session, Source, reason_of
 
 SLICE = 1_000   # hits to read from one snapshot
 REPORTED = 100  # hits in one report, so that the window spends little time on it
@@ -284,19 +285,20 @@ class Asker(threading.Thread):
     def run(self) -> None:
         while not self._ended.is_set():
             try:
-                session = self._source.open()
-            except bestore.Error as error:
-                self._report(Lost(str(error)))
+                self._open_and_serve()
+            except Exception as error:  # if the thread ended, the window would stay as it is
+                if not isinstance(error, bestore.Error):
+                    traceback.print_exc()
+                self._report(Lost(reason_of(error)))
                 self._ended.wait(RETRY)
-                continue
-            try:
-                self._serve(session)
-            except bestore.Error as error:
-                self._report(Lost(str(error)))
-                self._ended.wait(RETRY)
-            finally:
-                self._following = None
-                session.close()
+
+    def _open_and_serve(self) -> None:
+        session = self._source.open()
+        try:
+            self._serve(session)
+        finally:
+            self._following = None
+            session.close()
 
     def _report(self, *reports: Report) -> None:
         """Reports to the window once it has taken the earlier reports."""
@@ -462,6 +464,9 @@ class Asker(threading.Thread):
             raise
         except (NotWritten, columns.NotAValue, bestore.Error) as error:
             fault = str(error)
+        except Exception as error:
+            self._report(Written(write, reason_of(error)))
+            raise
         self._report(Written(write, fault))
 
     def _set(self, change: bestore.Change, write: Write) -> None:

@@ -3,7 +3,7 @@
 from __future__ import annotations
 
 import enum
-from typing import List, Mapping, Optional
+from typing import Callable, List, Mapping, Optional
 
 import bestore
 from bestore.language import quoted
@@ -62,16 +62,25 @@ def _quoted(attribute: str) -> str:
     return attribute if is_word else quoted(attribute)
 
 
+def _made(make: Callable[[str], str], text: str) -> str:
+    """Returns what `make` returns for a text. A text with half of a character is left as it is, because the window shows what is
+    wrong with such a query."""
+    try:
+        return make(text)
+    except bestore.NotUTF8:
+        return text
+
+
 def query_of(attribute: str, relation: Relation, typed: str) -> str:
     """Returns a row's query. Strings match regardless of case. An empty row finds all nodes that have the attribute."""
     name, text = _quoted(attribute), typed.strip()
     if relation in _TIME:
         return f"{name}{_SIGNS[relation]}%{text}%" if text else f"{name}>=0"
     if relation in (Relation.LESS, Relation.GREATER):
-        return f'{name}{_SIGNS[relation]}"{bestore.escape(text)}"' if not text.isdigit() else f"{name}{_SIGNS[relation]}{text}"
+        return f'{name}{_SIGNS[relation]}"{_made(bestore.escape, text)}"' if not text.isdigit() else f"{name}{_SIGNS[relation]}{text}"
     if not text:
         return f'{name}=="*"'
-    pattern = bestore.any_case(text)
+    pattern = _made(bestore.any_case, text)
     begin = "*" if relation in (Relation.CONTAINS, Relation.ENDS) else ""
     end = "*" if relation in (Relation.CONTAINS, Relation.BEGINS) else ""
     return f'{name}{_SIGNS.get(relation, "==")}"{begin}{pattern}{end}"'

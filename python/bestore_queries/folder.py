@@ -94,7 +94,7 @@ class FolderReader(threading.Thread):
             while not self._ended.is_set():
                 self._read_folder()
                 self._ended.wait(self._pause)
-        except (bestore.Error, OSError) as fault:
+        except Exception as fault:  # which the window shows
             self.fault = fault
 
     def end(self) -> None:

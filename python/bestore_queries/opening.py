@@ -26,8 +26,9 @@ class Opening:
         program = shutil.which("xdg-open")
         if program is None:
             raise CannotOpen(f"{shown(path)} can't be opened: xdg-open isn't installed (Debian has it in xdg-utils)")
-        self._path, self._said = path, tempfile.TemporaryFile()
+        self._path = path
         try:
+            self._said = tempfile.TemporaryFile()
             self._process = subprocess.Popen(
                 [program, path], stdin=subprocess.DEVNULL, stdout=subprocess.DEVNULL, stderr=self._said, start_new_session=True)
         except OSError as error:

@@ -6,8 +6,11 @@ import contextlib
 import fcntl
 import json
 import os
+import re
 import tempfile
 from typing import Any, Iterator, List, NamedTuple, Optional, Tuple
+
+_HALF = re.compile("[\ud800-\udfff]")  # half of a character, which isn't UTF-8, but JSON has an escape for it
 
 
 class Saved(NamedTuple):
@@ -82,16 +85,17 @@ class SavedQueries:
             raise BadFile(self.path, f"it has no list of queries: {error}") from error
 
     def _write(self, queries: List[Saved]) -> None:
-        """Replaces the file, so that a reader sees either the old file or the new one."""
+        """Replaces the file, or the one that a link names, so that a reader sees either the old file or the new one."""
         text = json.dumps({"queries": [it._asdict() for it in queries]}, ensure_ascii=False, indent=1)
-        folder = os.path.dirname(self.path)
-        descriptor, path = tempfile.mkstemp(dir=folder, prefix=".queries-")
+        text = _HALF.sub(lambda half: f"\\u{ord(half[0]):04x}", text)
+        replaced = os.path.realpath(self.path)
+        descriptor, path = tempfile.mkstemp(dir=os.path.dirname(replaced), prefix=".queries-")
         try:
             with open(descriptor, "w", encoding="utf-8") as file:
                 file.write(text + "\n")
                 file.flush()
                 os.fsync(file.fileno())
-            os.replace(path, self.path)
+            os.replace(path, replaced)
         except BaseException:
             with contextlib.suppress(OSError):
                 os.unlink(path)

@@ -4,6 +4,7 @@ from __future__ import annotations
 
 import math
 from abc import ABC, abstractmethod
+from contextlib import ExitStack
 from typing import Iterator, List, NamedTuple, Optional, Set, Tuple
 
 import bestore
@@ -18,6 +19,11 @@ MANY = 5_000           # the maximum number of journal entries to read in order 
 MOST_PAGES = 16_384    # per volume
 PAGES_OF_A_FILE = 1.1  # for a file with five attributes, all indexed
 GROWTH = 1.3           # how much growth to allow for, as a multiple of the files at the start
+
+
+def reason_of(error: BaseException) -> str:
+    """Returns what an error says, or its class if it says nothing."""
+    return str(error) or type(error).__name__
 
 
 class Condition(NamedTuple):
@@ -178,13 +184,21 @@ class FolderSource(Source):
 
     def open(self) -> Session:
         if self._store is None:
-            volumes, pages = size_for(sum(1 for _ in files_below(self._folder))) if self._pages is None else (1, self._pages)
-            self._store = bestore.open_shelf(volumes, pages, 3)
-            for name, kind in INDICES.items():
-                self._store.make_index(name, kind)
-            self.reader = FolderReader(self._store.another(), self._folder, self._pause)
-            self.reader.start()
+            self._begin()
+        assert self._store is not None
         return _FolderSession(self._store.another())
+
+    def _begin(self) -> None:
+        """Creates the store and starts its reader. If that fails, nothing is left of them, so the next call begins again."""
+        volumes, pages = size_for(sum(1 for _ in files_below(self._folder))) if self._pages is None else (1, self._pages)
+        with ExitStack() as opened:
+            store = opened.enter_context(bestore.open_shelf(volumes, pages, 3))
+            for name, kind in INDICES.items():
+                store.make_index(name, kind)
+            reader = FolderReader(opened.enter_context(store.another()), self._folder, self._pause)
+            reader.start()
+            opened.pop_all()
+        self._store, self.reader = store, reader
 
     @property
     def condition(self) -> Condition:
@@ -192,7 +206,7 @@ class FolderSource(Source):
         if reader is None:
             return Condition("reading the folder")
         if reader.fault is not None:
-            return Condition(f"The folder is no longer followed: {reader.fault}", True)
+            return Condition(f"The folder is no longer followed: {reason_of(reader.fault)}", True)
         if reader.is_gone:
             return Condition(f"The folder {self._folder} can't be read; the list shows what was in it", True)
         if reader.left_out:

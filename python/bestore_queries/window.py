@@ -348,11 +348,18 @@ class Window:
         if report.fault is None:
             return
         write = report.write
-        hit = self.hits.get(write.node)
         self.warn(f"{write.name} isn't set: {report.fault}")
-        if hit is not None and self.list.editor.cell is None:
-            now = hit.attributes.get(write.name)
-            self.list.edit_cell(Cell(write.node, columns.column_of(write.name, self._indices.get(write.name)), now), write.text)
+        if not self._edit_again(write) and write.text:
+            self.warn(f"{self._warning}. You had typed: {write.text}")
+
+    def _edit_again(self, write: Write) -> bool:
+        """Shows the editor again with what was typed, if that is possible."""
+        hit = self.hits.get(write.node)
+        if hit is None or self.list.editor.cell is not None:
+            return False
+        now = hit.attributes.get(write.name)
+        self.list.edit_cell(Cell(write.node, columns.column_of(write.name, self._indices.get(write.name)), now), write.text)
+        return self.list.editor.cell is not None
 
     # What the window shows.
 

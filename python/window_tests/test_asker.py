@@ -199,6 +199,23 @@ class Asking(unittest.TestCase):
             self.becomes("a")
         self.assertEqual([it for it in self.others if isinstance(it, Lost)], [Lost(str(bestore.NoMemory()))])
 
+    def test_error_of_another_program(self) -> None:
+        """An error that isn't the package's doesn't end the thread either."""
+        node = self.file("a")
+        with mock.patch.object(asker, "RETRY", 0.01), mock.patch.object(asker.traceback, "print_exc") as printed:
+            with mock.patch.object(MadeSource, "open", side_effect=RuntimeError("can't start new thread")):
+                self.asker.start()
+                self.assertTrue(wait_for(lambda: self.has(Lost)))
+            self.assertTrue(wait_for(lambda: self.has(Opened)))
+            with mock.patch.object(Asker, "_set", side_effect=MemoryError):
+                self.asker.send(Write(node, "BEOS:TYPE", "x", None))
+                self.assertTrue(wait_for(lambda: self.has(Written)))
+            self.asker.send(Ask(1, "size==1", ("name",)))
+            self.becomes("a")
+        self.assertEqual(self.reported(), [Written(Write(node, "BEOS:TYPE", "x", None), "MemoryError")])
+        self.assertIn(Lost("can't start new thread"), self.others)
+        self.assertTrue(printed.called)
+
     def breaks(self, *errors: Optional[bestore.Error]) -> "mock._patch[object]":
         """Makes the next writes end with these errors instead of being made. For None, the write is made."""
         change, left = bestore.Pass.change, list(errors)

@@ -14,6 +14,7 @@ from bestore_queries.folder import INDICES, FolderReader, type_of
 from bestore_queries.mail import cut, mail_attributes
 from bestore_queries.opening import CannotOpen, Opening
 from bestore_queries.places import Places, path_of
+from bestore_queries.sources import FolderSource
 
 from common import file_of, wait_for, write
 
@@ -117,6 +118,35 @@ class Files(InFolder):
         write(self.path("a"), "")
         self.reader.start()
         self.becomes("a")
+
+
+class Sources(unittest.TestCase):
+    def setUp(self) -> None:
+        place = tempfile.TemporaryDirectory()
+        self.addCleanup(place.cleanup)
+        write(os.path.join(place.name, "a"), "")
+        self.source = FolderSource(place.name, 256, 0.02)
+        self.addCleanup(self.source.close)
+
+    def test_attempt_that_fails(self) -> None:
+        """If the store or its reader can't be created completely, the next attempt begins again."""
+        for name, error in ("make_index", bestore.NoMemory()), ("another", bestore.NoPass()):
+            with mock.patch.object(bestore.Shelf, name, side_effect=error), self.assertRaises(type(error)):
+                self.source.open()
+        with mock.patch.object(FolderReader, "start", side_effect=RuntimeError("can't start new thread")):
+            self.assertRaises(RuntimeError, self.source.open)
+        self.assertIsNone(self.source.reader)
+        with self.source.open().user as user:
+            self.assertTrue(wait_for(lambda: self.source.condition.text == "following the folder"), self.source.condition)
+            with user.pin() as version:
+                self.assertEqual(version.column(version, "name"), ["a"])
+
+    def test_reader_that_ends(self) -> None:
+        """The window shows why a folder is no longer followed, whatever the error was."""
+        with mock.patch.object(FolderReader, "_read_folder", side_effect=MemoryError):
+            self.source.open().close()
+            self.assertTrue(wait_for(lambda: self.source.condition.is_fault))
+        self.assertEqual(self.source.condition.text, "The folder is no longer followed: MemoryError")
 
 
 class Full(InFolder):

@@ -221,6 +221,25 @@ class SavedFile(unittest.TestCase):
                 SavedQueries("/dev/full/x").save(Saved("a", "b"))
         self.assertEqual(self.saved.all(), [Saved("a", "b")])
 
+    def test_half_of_a_character(self) -> None:
+        """A query that was typed with half of a character is saved as it is."""
+        saved = [Saved("\udcff", "name==\ud800", ("\udfff",)), Saved("\U0001f600", "name==é")]
+        for it in saved:
+            self.saved.save(it)
+        self.assertEqual(sorted(self.saved.all()), sorted(saved))
+        with open(self.path, encoding="utf-8") as file:
+            self.assertIn("name==é", file.read())
+
+    def test_link(self) -> None:
+        """If the file is a link, the file that it names is replaced, and not the link."""
+        os.makedirs(os.path.dirname(self.path))
+        elsewhere = os.path.join(os.path.dirname(os.path.dirname(self.path)), "elsewhere.json")
+        os.symlink(elsewhere, self.path)
+        for it in (Saved("a", "b"), Saved("a", "c")):
+            self.saved.save(it)
+            self.assertEqual(SavedQueries(elsewhere).all(), [it])
+        self.assertTrue(os.path.islink(self.path))
+
     def test_two_windows(self) -> None:
         """Windows that save at the same time lose nothing."""
         def save(first: int) -> None:

@@ -155,6 +155,8 @@ class Find(unittest.TestCase):
 
     def test_names(self) -> None:
         self.assertEqual(find.query_of("my name", Relation.IS, "x"), '"my name"=="[xX]"')
+        for relation in (Relation.CONTAINS, Relation.LESS):  # the store refuses these queries, and the window shows why
+            self.assertIn("a\udcff", find.query_of("name", relation, "a\udcff"))
         self.assertEqual(find.query_of("MAIL:from", Relation.CONTAINS, ""), 'MAIL:from=="*"')
 
     def test_everything(self) -> None:

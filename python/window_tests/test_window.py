@@ -23,7 +23,7 @@ if HAS_TK:
     import tkinter
     from tkinter import ttk
     from bestore_queries import theme
-    from bestore_queries.asker import First
+    from bestore_queries.asker import First, Written
     from bestore_queries.window import Window
 
 
@@ -322,6 +322,23 @@ class Editing(OverStore):
         with self.store.pin() as version:
             self.assertEqual(version.kind(1, "rating"), bestore.INT32)
         self.assertEqual(str(window.notice["text"]), "")
+
+    def test_what_was_typed(self) -> None:
+        """If the editor can't be shown again after a write that failed, the window says what was typed."""
+        self.store.make_index("rating", bestore.INT32)
+        window = self.window("a", "b")
+        window.choose(["name", "rating"])
+        self.shows(window, "a", "b")
+        with mock.patch.object(window._asker, "send") as send:
+            self.begin(window, 0, "rating")
+            self.edited(window, "many")
+            self.begin(window, 1, "rating")
+        write, = send.call_args[0]
+        for change in (lambda: None, lambda: window.choose(["name"])):  # another cell is being edited; the column isn't shown
+            change()
+            self.shows(window, "a", "b")
+            window._asker.reports.put(Written(write, "why"))
+            self.becomes(window, lambda: str(window.notice["text"]) == "rating isn't set: why. You had typed: many")
 
     def test_beside_another_program(self) -> None:
         """A value that another program has set in the meantime isn't overwritten."""
