@@ -147,6 +147,23 @@ pub fn counts(json: &str) -> [u64; 4] {
     ["new", "changed", "renamed", "removed"].map(|name| read[name].as_u64().unwrap())
 }
 
+/// Creates a folder with a few files.
+pub fn small() -> Folder {
+    let folder = Folder::new();
+    folder.folder("a/b");
+    folder.file("a/x.txt", "hello");
+    folder.file("a/b/y.h", "int y;");
+    folder.file("z", "no extension\n");
+    folder
+}
+
+/// Returns the number of a file's node.
+pub fn node_of(server: &Server, folder: &Folder, name: &str) -> u64 {
+    let printed = server.done(&["listattr", "--json", &folder.word(name)]);
+    let read: serde_json::Value = serde_json::from_str(&printed).unwrap();
+    read["node"].as_u64().unwrap()
+}
+
 /// Returns a name that isn't UTF-8.
 pub fn name_of_bytes(bytes: &[u8]) -> &OsStr {
     OsStr::from_bytes(bytes)
