@@ -14,6 +14,7 @@ mod import_contents;
 mod import_extended;
 mod import_room;
 mod page;
+mod paths;
 mod queries;
 mod reaching;
 mod tools;

@@ -105,6 +105,21 @@ fn any_nodes_are_found() {
 }
 
 #[test]
+fn any_nodes_are_as_many_as_asked_for_with_all_their_columns() {
+    let server = server!(Server::with_index("n"));
+    server.make(300, "n", &"x".repeat(255));
+    // The rows don't fit on one line of the protocol.
+    let columns = vec!["n"; 64].join(",");
+    let printed = server.done(&["query", "--any", "290", "-c", &columns, "n==*"]);
+    assert_eq!(printed.lines().count(), 290);
+    assert!(printed.lines().all(|line| line.len() > 64 * 256), "a row lacks values");
+    let json = server.done(&["query", "--any", "290", "--json", "-c", &columns, "n==*"]);
+    let json: serde_json::Value = serde_json::from_str(&json).unwrap();
+    let count = |name: &str| json[name].as_array().unwrap().len();
+    assert_eq!((count("nodes"), count("rows"), json.get("more")), (290, 290, None));
+}
+
+#[test]
 fn what_can_not_be_sorted_is_said() {
     let server = server!(Server::with_three());
     let error = |words: &[&str]| {
@@ -350,6 +365,28 @@ fn a_watch_prints_what_comes_and_goes() {
     server.end();
     let said: Said = child.wait_with_output().unwrap().into();
     assert_eq!((said.status, said.error.lines().count()), (1, 1), "{said:?}");
+}
+
+#[test]
+fn a_watch_ends_its_lines_with_zero_bytes_if_asked_to() {
+    let server = server!(Server::with_three());
+    assert_eq!(server.done(&["query", "-0", "--count", "size>=15"]), "1\0");
+    let mut command = server.command(&["query", "--watch", "-0", "-c", "name", "size>=15"]);
+    let mut child = command.stdout(Stdio::piped()).spawn().unwrap();
+    let mut out = BufReader::new(child.stdout.take().unwrap());
+    let mut next = || {
+        let mut line = Vec::new();
+        out.read_until(0, &mut line).unwrap();
+        String::from_utf8(line).unwrap()
+    };
+    assert_eq!(next(), "+2\tb\0");
+    server.done(&["addattr", "name", "a\nb", "1"]);
+    server.done(&["addattr", "-t", "int64", "size", "30", "1"]);
+    assert_eq!(next(), "+1\ta\nb\0");
+    server.done(&["rmnode", "2"]);
+    assert_eq!(next(), "-2\0");
+    child.kill().unwrap();
+    child.wait().unwrap();
 }
 
 #[test]

@@ -3,9 +3,8 @@
 use super::content::STAT;
 use super::stat::Identity;
 use crate::failure::Failure;
-use crate::paths::{each_named, Paths, Step, COLUMNS};
+use crate::paths::{each_named, value_of, Paths, Step, COLUMNS};
 use crate::server::pinned;
-use bestore_client::wire::Json;
 use bestore_client::Client;
 use bestore_types::Value;
 use std::collections::{BTreeMap, HashMap, HashSet};
@@ -95,11 +94,6 @@ impl Tree {
             .filter_map(|path| self.files.remove_entry(&path))
             .collect()
     }
-}
-
-fn value_of<'a>(columns: &[&str], row: &'a [Option<Json>], name: &str) -> Option<&'a Value> {
-    let at = columns.iter().position(|column| *column == name)?;
-    row.get(at)?.as_ref().map(|Json(value)| value)
 }
 
 #[cfg(test)]

@@ -1,4 +1,4 @@
-//! A proxy between clients and their server, which refuses writes when a test asks for it.
+//! A proxy between clients and their server, which refuses writes, or does something before a request, when a test asks for it.
 
 use super::files::Folder;
 use super::Server;
@@ -9,15 +9,18 @@ use std::path::{Path, PathBuf};
 use std::sync::{Arc, Mutex, MutexGuard};
 use std::thread;
 
-/// The operation for which writes are refused, and the writes refused so far.
-#[derive(Debug, Default)]
+/// What a test does once before a request with these words is forwarded.
+type Before = (&'static str, Box<dyn FnOnce() + Send>);
+
+/// The operation for which writes are refused, the writes refused so far, and what to do before a request.
+#[derive(Default)]
 struct State {
     refuses: Option<&'static str>,
     refused: Vec<String>,
+    before: Option<Before>,
 }
 
 /// A socket whose requests are forwarded to a server until the program exits.
-#[derive(Debug)]
 pub struct Refuser {
     socket: PathBuf,
     state: Arc<Mutex<State>>,
@@ -41,7 +44,12 @@ impl Refuser {
 
     /// Starts a server with a refuser between it and its clients, and creates a folder. Returns `None` if the server isn't built.
     pub fn with_server() -> Option<(Server, Self, Folder)> {
-        let (server, folder) = Folder::with_server()?;
+        Self::with_server_and(Folder::new())
+    }
+
+    /// Like [`with_server`](Self::with_server), with a folder that was created before.
+    pub fn with_server_and(folder: Folder) -> Option<(Server, Self, Folder)> {
+        let server = Server::start()?;
         let refuser = Self::start(&server);
         Some((server, refuser, folder))
     }
@@ -64,6 +72,16 @@ impl Refuser {
         self.state().refuses = None;
     }
 
+    /// Calls the closure once, before the next request that contains these words is forwarded.
+    pub fn before(&self, words: &'static str, act: impl FnOnce() + Send + 'static) {
+        self.state().before = Some((words, Box::new(act)));
+    }
+
+    /// Returns whether the closure has been called.
+    pub fn has_acted(&self) -> bool {
+        self.state().before.is_none()
+    }
+
     /// Returns whether a write with this operation has been refused.
     pub fn has_refused(&self, operation: &str) -> bool {
         self.state().refused.iter().any(|line| line.contains(operation))
@@ -82,6 +100,7 @@ fn forward(client: UnixStream, server: UnixStream, state: Arc<Mutex<State>>) {
     thread::spawn(move || io::copy(&mut replies, &mut to));
     thread::spawn(move || {
         for line in BufReader::new(&client).lines().map_while(Result::ok) {
+            act_before(&line, &state);
             // The client may have disconnected.
             let _ = match refusal(&line, &state) {
                 Some(refusal) => writeln!(&client, "{refusal}"),
@@ -89,6 +108,17 @@ fn forward(client: UnixStream, server: UnixStream, state: Arc<Mutex<State>>) {
             };
         }
     });
+}
+
+/// Does what a test wants done before this request.
+fn act_before(line: &str, state: &Mutex<State>) {
+    let mut state = state.lock().unwrap();
+    let is_awaited = state.before.as_ref().map_or(false, |(words, _)| line.contains(words));
+    let before = if is_awaited { state.before.take() } else { None };
+    drop(state);
+    if let Some((_, act)) = before {
+        act();
+    }
 }
 
 /// Returns the reply to a write if the write is to be refused.
