@@ -1,10 +1,21 @@
 //! Tests of how `import` reads and writes extended attributes.
 
-use crate::common::files::{counts, small};
+use crate::common::files::{counts, node_of, small, Folder};
 use crate::common::refuser::Refuser;
 use crate::common::{Said, Server};
 use std::collections::BTreeSet;
-use std::fs;
+use std::fs::{self, OpenOptions};
+use std::io::Write;
+use std::path::Path;
+
+/// Sets an extended attribute. If the file system has none, prints that the test is skipped, and returns `false`.
+fn can_set(test: &str, file: &Path, name: &str, value: &str) -> bool {
+    let set = xattr::set(file, name, value.as_bytes());
+    if let Err(error) = &set {
+        println!("be, {test}: skipped, {error}");
+    }
+    set.is_ok()
+}
 
 #[test]
 fn extended_attributes_are_read_and_written() {
@@ -131,4 +142,119 @@ fn a_file_of_which_a_part_was_refused_is_written_by_the_next_import() {
         (0, 35),
         "{listed}"
     );
+}
+
+/// Replaces a file as editors do that don't copy extended attributes.
+fn replace(folder: &Folder, name: &str, content: &str) {
+    folder.file("saved", content);
+    folder.rename("saved", name);
+}
+
+#[test]
+fn attributes_stay_on_the_node_if_an_editor_drops_the_files_extended_attributes() {
+    let server = server!(Server::start());
+    let folder = small();
+    let (file, word) = (folder.path("a/x.txt"), folder.word("a/x.txt"));
+    if !can_set("extended attributes that an editor drops", &file, "user.tag", "t") {
+        return;
+    }
+    server.import(&folder);
+    server.done(&["addattr", "mark", "x", &word]);
+    server.done(&["import", "--xattr", &folder.all()]);
+    let node = node_of(&server, &folder, "a/x.txt");
+    let are_in_file = || ["user.mark", "user.tag"].map(|name| xattr::get(&file, name).unwrap().is_some());
+    assert_eq!(are_in_file(), [true; 2]);
+
+    replace(&folder, "a/x.txt", "saved by an editor");
+    assert_eq!(are_in_file(), [false; 2]);
+    server.import(&folder);
+    assert_eq!((node_of(&server, &folder, "a/x.txt"), &*server.value("size", &file)), (node, "18"));
+    for _ in 0..2 {
+        assert_eq!((&*server.value("mark", &file), &*server.value("tag", &file)), ("x", "t"));
+        fs::write(&file, "changed in place").unwrap();
+        server.import(&folder);
+    }
+    // They are now attributes that a user has set, so --xattr writes them to the new file.
+    server.done(&["import", "--xattr", &folder.all()]);
+    assert_eq!(are_in_file(), [true; 2]);
+    xattr::remove(&file, "user.mark").unwrap();
+    server.import(&folder);
+    let listed = server.done(&["listattr", &word]);
+    assert!(!listed.contains("mark") && listed.contains("tag"), "{listed}");
+}
+
+#[test]
+fn what_a_user_has_set_counts_for_more_than_copied_extended_attributes() {
+    let server = server!(Server::start());
+    let folder = small();
+    let copy = folder.file("a/.x.tmp", "saved");
+    let test = "copied extended attributes";
+    if !can_set(test, &folder.path("a/x.txt"), "user.tag", "t") || !can_set(test, &copy, "user.tag", "t") {
+        return;
+    }
+    // Both files have nodes when one is moved over the other.
+    server.import(&folder);
+    let node = node_of(&server, &folder, "a/x.txt");
+    server.done(&["addattr", "mark", "x", &folder.word("a/x.txt")]);
+    folder.rename("a/.x.tmp", "a/x.txt");
+    server.import(&folder);
+    assert_eq!(node_of(&server, &folder, "a/x.txt"), node);
+    let file = folder.path("a/x.txt");
+    assert_eq!((&*server.value("mark", &file), &*server.value("tag", &file)), ("x", "t"));
+    assert_eq!(server.paths("name==\"*\""), folder.paths());
+}
+
+/// Imports a folder with `--xattr` after a user has set an attribute on a file, and does something just before the file gets it.
+fn import_meddled(test: &str, meddle: impl FnOnce(&Path) + Send + 'static) -> Option<(Server, Folder, Said)> {
+    let (server, refuser, folder) = Refuser::with_server_and(small())?;
+    let file = folder.path("z");
+    if !can_set(test, &file, "user.tag", "t") {
+        return None;
+    }
+    server.import(&folder);
+    server.done(&["addattr", "mark", "x", &folder.word("z")]);
+    // Nothing has changed, so the import requests attributes only in order to write them.
+    refuser.before(r#""attributes":"#, move || meddle(&file));
+    let mut command = server.command(&["import", "--xattr", "--json", &folder.all()]);
+    let said = command.env("BESTORE_SOCKET", refuser.socket()).output().unwrap().into();
+    assert!(refuser.has_acted());
+    Some((server, folder, said))
+}
+
+#[test]
+fn a_file_that_changes_while_it_gets_extended_attributes_is_read_by_the_next_import() {
+    let meddled = import_meddled("a file that changes meanwhile", |file| {
+        let file = OpenOptions::new().append(true).open(file);
+        file.unwrap().write_all(b"and more").unwrap();
+    });
+    let (server, folder, said) = server!(meddled);
+    assert_eq!((said.status, said.error.as_str()), (0, ""));
+    let file = folder.path("z");
+    assert_eq!(xattr::get(&file, "user.mark").unwrap(), Some(b"x".to_vec()));
+    server.import(&folder);
+    assert_eq!(server.value("size", &file), fs::metadata(&file).unwrap().len().to_string());
+    assert_eq!(server.import(&folder), [0; 4]);
+}
+
+#[test]
+fn a_file_that_goes_before_it_gets_extended_attributes_is_no_error() {
+    let meddled = import_meddled("a file that goes meanwhile", |file| fs::remove_file(file).unwrap());
+    let (server, folder, said) = server!(meddled);
+    assert_eq!((said.status, said.error.as_str()), (0, ""));
+    server.import(&folder);
+    assert_eq!(server.paths("name==\"*\""), folder.paths());
+}
+
+#[test]
+fn another_file_does_not_get_the_extended_attributes_of_one_that_was_moved() {
+    let meddled = import_meddled("a file that was moved meanwhile", |file| {
+        fs::rename(file, file.with_file_name("moved")).unwrap();
+        fs::write(file, "another").unwrap();
+    });
+    let (server, folder, said) = server!(meddled);
+    assert_eq!((said.status, said.error.as_str()), (0, ""));
+    assert_eq!(xattr::get(folder.path("z"), "user.mark").unwrap(), None);
+    server.import(&folder);
+    assert_eq!(server.value("mark", &folder.path("moved")), "x");
+    assert_eq!(server.be(&["catattr", "mark", &folder.word("z")]).status, 1);
 }

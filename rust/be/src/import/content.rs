@@ -62,7 +62,7 @@ pub const INDICES: [(&str, Kind); 9] = [
 ];
 
 /// The maximum number of attributes per node.
-const MOST: usize = 64;
+pub const MOST: usize = 64;
 
 /// The maximum number of bytes in a value, and in a name.
 pub const VALUE: usize = 255;

@@ -1,7 +1,7 @@
 //! Updates the store to match the files that were found.
 
 use super::content::{Content, Reader};
-use super::edit::{between, has_more, place, Edits};
+use super::edit::{between, place, Edits, More};
 use super::known::Known;
 use super::matching::{matched, Matched, Matching};
 use super::stat::Form;
@@ -41,8 +41,8 @@ impl Import<'_> {
         let known = lost.chain(missing).chain(doubles).chain(known).collect();
         let client = &mut self.client;
         let Matching { files, mut gone } = matched(found, known, |node| match client.attributes(node) {
-            Err(error) if error.is(ErrorName::NoNode) => Ok(false),
-            answer => answer.map(|attributes| has_more(&attributes)),
+            Err(error) if error.is(ErrorName::NoNode) => Ok(More::None),
+            answer => answer.map(|attributes| More::of(&attributes)),
         })?;
         gone.retain(|(_, known)| !lost_nodes.contains(&known.node));
         let mut summary = Summary::default();
@@ -182,7 +182,8 @@ impl Import<'_> {
                     Err(error) if error.is(ErrorName::NoNode) => continue,
                     answer => answer?,
                 };
-                let edits = between(&had, &content.values);
+                let is_replaced = known.identity() != Some(file.found.stat.identity);
+                let edits = between(&had, &content.values, is_replaced);
                 let path = file.found.path.clone();
                 if !edits.is_empty() {
                     let fate = if *was == path { Fate::Changed } else { Fate::Renamed };
