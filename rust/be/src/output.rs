@@ -7,6 +7,7 @@ use serde::Serialize;
 use std::borrow::Cow;
 use std::io::{self, BufWriter, StdoutLock, Write};
 use std::os::unix::ffi::OsStrExt;
+use std::os::unix::io::{AsRawFd, RawFd};
 use std::path::Path;
 
 /// Standard output.
@@ -18,6 +19,12 @@ pub struct Output {
     escapes: bool,
     /// The byte that ends a line.
     end: u8,
+}
+
+impl AsRawFd for Output {
+    fn as_raw_fd(&self) -> RawFd {
+        self.out.get_ref().as_raw_fd()
+    }
 }
 
 impl Output {

@@ -7,17 +7,20 @@ use crate::found::{Found, Row};
 use crate::hints;
 use crate::output::Output;
 use crate::paths::paths_of;
+use crate::polling::poll;
 use crate::server::{self, pinned};
 use crate::text::{escaped, pointed};
 use crate::typed_query::TypedQuery;
 use bestore_client::wire::{self, kind_named, Command, Hits, Json, Push};
 use bestore_client::{Client, Error, ErrorName};
 use serde::Serialize;
+use std::io::ErrorKind;
+use std::os::unix::io::AsRawFd;
 use std::path::PathBuf;
 use std::time::Duration;
 
-/// How long to wait for a push before waiting again.
-const WAIT: Duration = Duration::from_secs(3_600);
+/// How long to wait for the rest of a push that has begun to arrive, before waiting again.
+const WAIT: Duration = Duration::from_secs(1);
 
 pub fn run(client: &mut Client, line: &Line, output: &mut Output) -> Result<(), Failure> {
     if line.escape {
@@ -170,18 +173,27 @@ fn watch(client: &mut Client, query: &TypedQuery, line: &Line, output: &mut Outp
             false => show_change(client, &push, line, output)?,
         }
         output.flush()?;
-        push = next_push(client)?;
+        push = next_push(client, output)?;
         if let Some(refusal) = push.error.take() {
             return Err(Error::Refused(refusal).into());
         }
     }
 }
 
-fn next_push(client: &mut Client) -> Result<Push, Failure> {
+/// Waits for the next push. Fails if the program that reads the output has exited, because otherwise a watch would keep its place on the
+/// server until it has something to print.
+fn next_push(client: &mut Client, output: &Output) -> Result<Push, Failure> {
+    // What has already been received doesn't make the socket readable.
+    let mut within = Duration::ZERO;
     loop {
-        if let Some(push) = client.next_push(WAIT)? {
+        if let Some(push) = client.next_push(within)? {
             return Ok(push);
         }
+        let [server, reader] = poll([(client.as_raw_fd(), libc::POLLIN), (output.as_raw_fd(), 0)], None);
+        if reader != 0 {
+            return Err(Failure::Output(ErrorKind::BrokenPipe.into()));
+        }
+        within = if server != 0 { WAIT } else { Duration::ZERO };
     }
 }
 

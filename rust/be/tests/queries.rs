@@ -6,7 +6,7 @@ use std::path::Path;
 use std::process::{Command, Stdio};
 use std::sync::mpsc::{channel, Receiver};
 use std::thread;
-use std::time::Duration;
+use std::time::{Duration, Instant};
 
 #[test]
 fn nodes_are_found_with_columns_up_to_a_limit_and_counted() {
@@ -433,6 +433,27 @@ fn a_reader_that_has_gone_is_no_error() {
         thread::sleep(Duration::from_millis(100));
     }
     assert!(child.wait().unwrap().success());
+}
+
+#[test]
+fn a_watch_ends_when_its_reader_has_gone_even_if_nothing_changes() {
+    let server = server!(Server::with_three());
+    let clients = || server.done(&["clients"]).lines().count();
+    let before = clients();
+    for words in [&["size>=15"][..], &["--json", "size>=15"], &["size>=99"]] {
+        let mut command = server.command(&[&["query", "--watch"], words].concat());
+        let mut child = command.stdout(Stdio::piped()).spawn().unwrap();
+        let until = Instant::now() + Duration::from_secs(20);
+        while clients() == before && Instant::now() < until {
+            thread::sleep(Duration::from_millis(10));
+        }
+        drop(child.stdout.take());
+        while child.try_wait().unwrap().is_none() {
+            assert!(Instant::now() < until, "{words:?}: the watch doesn't end");
+            thread::sleep(Duration::from_millis(10));
+        }
+        assert!(child.wait().unwrap().success(), "{words:?}");
+    }
 }
 
 /// Returns what the tool prints on a terminal.
