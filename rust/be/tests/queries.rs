@@ -517,13 +517,16 @@ fn words_are_completed() {
     server.done(&["mkindex", "MAIL:from"]);
     let script = format!(
         ". {functions}; . {}/completion/be.bash; complete_line() {{ \
-         COMP_LINE=$1; COMP_POINT=${{#1}}; read -ra COMP_WORDS <<<\"${{1//:/ : }}\"; \
+         COMP_LINE=$1; COMP_POINT=${{#1}}; local line=${{1//:/ : }}; read -ra COMP_WORDS <<<\"${{line//=/ = }}\"; \
          [[ $1 != *' ' ]] || COMP_WORDS+=(''); COMP_CWORD=$((${{#COMP_WORDS[@]}} - 1)); \
          _be; echo \"${{COMPREPLY[*]}}\"; }}; compopt() {{ echo \"$*\"; }}; \
          complete_line 'be lsi'; complete_line 'be query --co'; complete_line 'be addattr -t uint'; \
          complete_line 'be rmindex s'; complete_line 'be rmindex MAIL:f'; complete_line 'be query --sort si'; \
-         complete_line 'be catattr size so'; complete_line 'be rmnode s'",
-        env!("CARGO_MANIFEST_DIR")
+         complete_line 'be catattr size so'; complete_line 'be rmnode s'; \
+         complete_line 'be --socket={socket} lsi'; complete_line 'be --socket={socket} rmindex s'; \
+         complete_line 'be --wait 5 --timeout=9 query --co'",
+        env!("CARGO_MANIFEST_DIR"),
+        socket = server.socket().display()
     );
     let mut command = Command::new("bash");
     let folder = Path::new(crate::common::BE).parent().unwrap();
@@ -534,7 +537,8 @@ fn words_are_completed() {
         .env("PATH", path);
     let said: Said = command.output().unwrap().into();
     assert_eq!(
-        said.out, "lsindex\n--columns --count\nuint32 uint64\nsize\nfrom\nsize\n-o default\n\n-o default\n\n",
+        said.out,
+        "lsindex\n--columns --count\nuint32 uint64\nsize\nfrom\nsize\n-o default\n\n-o default\n\nlsindex\nsize\n--columns --count\n",
         "{}",
         said.error
     );
