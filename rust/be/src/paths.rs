@@ -5,8 +5,8 @@ use crate::found::Row;
 use crate::import::content::{name_in, NAME, PARENT, ROOT, STAT};
 use crate::import::stat::Stat;
 use crate::server::{pinned, rows_of};
-use bestore_client::wire::Json;
-use bestore_client::{Client, ErrorName, Query};
+use bestore_client::wire::{Command, Json, Nodes, NodesFrom};
+use bestore_client::{Client, ErrorName};
 use bestore_types::Value;
 use std::collections::HashMap;
 use std::ffi::OsString;
@@ -189,26 +189,21 @@ pub fn value_of<'a>(columns: &[&str], row: &'a [Option<Json>], name: &str) -> Op
     row.get(at)?.as_ref().map(|Json(value)| value)
 }
 
-/// Calls the closure for each node that has a name, passing the node and its values in the columns, all from one snapshot.
-pub fn each_named(
+/// Calls the closure for each node, passing the node and its values in the columns. If the client has a snapshot pinned, all come from it.
+/// This doesn't use the index of names, which may lack nodes if it was removed and created again.
+pub fn each_node(
     client: &mut Client,
     columns: &[&str],
     mut each: impl FnMut(u64, &[Option<Json>]),
 ) -> Result<(), Failure> {
-    let mut query = Query {
-        text: "name==*",
-        columns,
-        ..Query::default()
-    };
-    loop {
-        let page = client.hits(query)?;
-        let (nodes, rows) = (page.nodes.unwrap_or_default(), page.rows.unwrap_or_default());
-        nodes.iter().zip(&rows).for_each(|(node, row)| each(*node, row));
-        match page.more {
-            Some(from) => query.from = from,
-            None => return Ok(()),
-        }
+    let mut next = Some(0);
+    while let Some(from) = next {
+        let page: Nodes = client.call(Command::Nodes(NodesFrom { from, limit: None }))?;
+        let rows = rows_of(client, &page.nodes, columns)?;
+        page.nodes.iter().zip(&rows).for_each(|(node, row)| each(*node, row));
+        next = page.more;
     }
+    Ok(())
 }
 
 #[cfg(test)]

@@ -210,6 +210,41 @@ fn files_that_come_and_go_meanwhile_do_no_harm() {
 }
 
 #[test]
+fn files_that_become_folders_and_links_meanwhile_do_no_harm() {
+    let server = server!(Server::start());
+    let folder = small();
+    let ended = AtomicBool::new(false);
+    thread::scope(|scope| {
+        scope.spawn(|| {
+            let clear = |name: &str| {
+                let path = folder.path(name);
+                let _ = fs::remove_dir_all(&path).or_else(|_| fs::remove_file(&path));
+            };
+            for number in (0..).take_while(|_| !ended.load(Ordering::Relaxed)) {
+                let name = format!("d{}", number % 5);
+                clear(&name);
+                match number % 3 {
+                    0 => drop(folder.file(&name, "file")),
+                    1 => symlink("a", folder.path(&name)).unwrap(),
+                    _ => {
+                        folder.folder(&format!("{name}/b/c"));
+                        (0..20).for_each(|file| drop(folder.file(&format!("{name}/b/f{file}"), "")));
+                    }
+                }
+            }
+        });
+        for _ in 0..15 {
+            let said = server.be(&["import", "--json", &folder.all()]);
+            assert_eq!((said.status, said.error.as_str()), (0, ""));
+        }
+        ended.store(true, Ordering::Relaxed);
+    });
+    server.import(&folder);
+    assert_eq!(server.paths("name==\"*\""), folder.paths());
+    assert_eq!(server.import(&folder), [0; 4]);
+}
+
+#[test]
 fn the_tools_take_paths() {
     let server = server!(Server::start());
     let folder = small();

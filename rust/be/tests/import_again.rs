@@ -1,8 +1,10 @@
 //! Tests of what a later `import` preserves, and of how it completes an earlier one.
 
-use crate::common::files::{counts, node_of, small, Folder};
-use crate::common::Server;
+use crate::common::files::{counts, node_of, small, Folder, Mount};
+use crate::common::refuser::Refuser;
+use crate::common::{Said, Server};
 use bestore_client::Client;
+use std::collections::BTreeSet;
 use std::fs;
 use std::process::Stdio;
 use std::thread;
@@ -167,6 +169,33 @@ fn a_folder_may_be_imported_inside_another() {
 }
 
 #[test]
+fn a_folder_that_was_moved_keeps_its_nodes_when_it_is_imported_from_there() {
+    let server = server!(Server::start());
+    let outer = Folder::new();
+    let import = |name: &str| counts(&server.done(&["import", "--json", &outer.word(name)]));
+    outer.folder("photos/a/b");
+    outer.file("photos/x", "");
+    outer.file("photos/a/b/y", "");
+    assert_eq!(import("photos"), [5, 0, 0, 0]);
+    server.done(&["addattr", "mark", "x", &outer.word("photos/a/b/y")]);
+    outer.folder("pictures");
+    for (from, to) in [("photos", "pictures/photos"), ("pictures/photos", "images")] {
+        outer.rename(from, to);
+        assert_eq!(import(to), [0, 0, 1, 0]);
+        let mut paths = outer.paths();
+        paths.retain(|path| path.starts_with(outer.path(to)));
+        assert_eq!(server.paths("name==\"*\""), paths);
+        assert_eq!(server.value("mark", &outer.path(to).join("a/b/y")), "x");
+        assert_eq!(import(to), [0; 4]);
+    }
+    // This is another folder.
+    outer.folder("photos");
+    outer.file("photos/x", "");
+    assert_eq!(import("photos"), [2, 0, 0, 0]);
+    assert_eq!(server.paths("name==x").len(), 2);
+}
+
+#[test]
 fn files_whose_folder_was_removed_from_the_store_are_known_again() {
     let server = server!(Server::start());
     let folder = small();
@@ -175,6 +204,94 @@ fn files_whose_folder_was_removed_from_the_store_are_known_again() {
     server.done(&["rmnode", &folder.word("a"), &folder.word("z")]);
     assert_eq!(server.import(&folder)[0], 2);
     assert_eq!(server.value("mark", &folder.path("a/b/y.h")), "x");
+    assert_eq!(server.paths("name==\"*\""), folder.paths());
+}
+
+#[test]
+fn indices_that_were_removed_are_created_again_with_all_files() {
+    let server = server!(Server::start());
+    let folder = small();
+    server.import(&folder);
+    server.done(&["addattr", "mark", "x", &folder.word("z")]);
+    for name in ["name", "size"] {
+        server.done(&["rmindex", name]);
+    }
+    assert_eq!(server.import(&folder), [0; 4]);
+    for query in ["name==\"*\"", "size>=0", "last_modified>0"] {
+        assert_eq!(server.paths(query), folder.paths(), "{query}");
+    }
+    assert_eq!(server.value("mark", &folder.path("z")), "x");
+    // An index of names that takes no strings doesn't double the files either.
+    server.done(&["rmindex", "name"]);
+    server.done(&["mkindex", "-t", "int32", "name"]);
+    let said = server.be(&["import", "--json", &folder.all()]);
+    assert_eq!((said.status, counts(&said.out)), (0, [0; 4]));
+    assert!(said.error.contains("warning: the index name holds int32"), "{said:?}");
+    assert_eq!(server.paths("size>=0"), folder.paths());
+}
+
+#[test]
+fn a_node_that_was_being_created_when_an_import_was_cut_off_is_not_doubled() {
+    let server = server!(Server::start());
+    let folder = small();
+    server.import(&folder);
+    let node = node_of(&server, &folder, "a/x.txt");
+    // This attribute is written last.
+    server.done(&["rmattr", "FILE:stat", &node.to_string()]);
+    assert_eq!(server.import(&folder), [0, 1, 0, 0]);
+    assert_eq!(node_of(&server, &folder, "a/x.txt"), node);
+    assert_eq!(server.paths("name==\"*\""), folder.paths());
+}
+
+#[test]
+fn files_in_a_folder_that_was_refused_are_not_said_to_have_no_room() {
+    let (server, refuser, folder) = server!(Refuser::with_server_and(small()));
+    refuser.refuse_with(r#""name","a"]"#, r#""name":"NotSaved","message":"it can't be saved""#);
+    let mut command = server.command(&["import", &folder.all()]);
+    let said: Said = command.env("BESTORE_SOCKET", refuser.socket()).output().unwrap().into();
+    let (all, none) = (folder.all(), "the folder that contains it has no node");
+    let error = format!(
+        "be: {all}/a: it can't be saved\nbe: {all}/a/b: {none}\nbe: {all}/a/b/y.h: {none}\nbe: {all}/a/x.txt: {none}\n"
+    );
+    let lines = |text: &str| text.lines().map(String::from).collect::<BTreeSet<_>>();
+    assert_eq!((said.status, lines(&said.error)), (1, lines(&error)));
+    refuser.accept();
+    assert_eq!(server.import(&folder), [4, 0, 0, 0]);
+    assert_eq!(server.paths("name==\"*\""), folder.paths());
+}
+
+#[test]
+fn files_on_a_disk_that_is_not_mounted_keep_their_nodes() {
+    let server = server!(Server::start());
+    let folder = small();
+    let disk = folder.folder("disk");
+    let mount = match Mount::over(&disk) {
+        Some(mount) => mount,
+        None => return println!("be, a disk that isn't mounted: skipped, this user can mount nothing"),
+    };
+    folder.folder("disk/inner");
+    folder.file("disk/inner/x", "");
+    server.import(&folder);
+    let node = node_of(&server, &folder, "disk/inner/x").to_string();
+    server.done(&["addattr", "mark", "x", &node]);
+    drop(mount);
+    for _ in 0..2 {
+        let said = server.be(&["import", "--json", &folder.all()]);
+        assert_eq!((said.status, counts(&said.out)), (1, [0; 4]), "{said:?}");
+        assert!(
+            said.error
+                .starts_with(&format!("be: {}: the file system that was", disk.display())),
+            "{said:?}"
+        );
+        assert_eq!(server.done(&["catattr", "-r", "mark", &node]), "x");
+    }
+    // A folder that was emptied isn't one.
+    fs::remove_dir_all(folder.path("a")).unwrap();
+    folder.folder("a");
+    let said = server.be(&["import", "--json", &folder.all()]);
+    assert_eq!(counts(&said.out)[3], 3, "{said:?}");
+    let said = server.done(&["import", "--json", "--reread", &folder.all()]);
+    assert_eq!(counts(&said), [0, 1, 0, 2]);
     assert_eq!(server.paths("name==\"*\""), folder.paths());
 }
 

@@ -144,6 +144,33 @@ fn a_file_of_which_a_part_was_refused_is_written_by_the_next_import() {
     );
 }
 
+#[test]
+fn an_index_that_is_created_later_gets_numbers_once_files_are_read_again() {
+    let server = server!(Server::start());
+    let folder = small();
+    let (file, word) = (folder.path("z"), folder.word("z"));
+    if !can_set("an index that is created later", &file, "user.rating", "5") {
+        return;
+    }
+    xattr::set(&file, "user.count", b"7").unwrap();
+    server.import(&folder);
+    assert_eq!(
+        server.done(&["catattr", "rating", &word]).split(" : ").nth(1),
+        Some("string")
+    );
+    // This user sets a number that has no index yet.
+    server.done(&["addattr", "-t", "int64", "count", "7", &word]);
+    server.done(&["mkindex", "-t", "int32", "rating"]);
+    server.done(&["import", "--reread", &folder.all()]);
+    assert_eq!(server.paths("rating>=4"), [file].into());
+    assert_eq!(
+        server.done(&["catattr", "count", &word]).split(" : ").nth(1),
+        Some("int64")
+    );
+    let said = server.done(&["import", "--reread", "--json", &folder.all()]);
+    assert_eq!(counts(&said), [0; 4]);
+}
+
 /// Replaces a file as editors do that don't copy extended attributes.
 fn replace(folder: &Folder, name: &str, content: &str) {
     folder.file("saved", content);
@@ -168,9 +195,15 @@ fn attributes_stay_on_the_node_if_an_editor_drops_the_files_extended_attributes(
     replace(&folder, "a/x.txt", "saved by an editor");
     assert_eq!(are_in_file(), [false; 2]);
     server.import(&folder);
-    assert_eq!((node_of(&server, &folder, "a/x.txt"), &*server.value("size", &file)), (node, "18"));
+    assert_eq!(
+        (node_of(&server, &folder, "a/x.txt"), &*server.value("size", &file)),
+        (node, "18")
+    );
     for _ in 0..2 {
-        assert_eq!((&*server.value("mark", &file), &*server.value("tag", &file)), ("x", "t"));
+        assert_eq!(
+            (&*server.value("mark", &file), &*server.value("tag", &file)),
+            ("x", "t")
+        );
         fs::write(&file, "changed in place").unwrap();
         server.import(&folder);
     }
@@ -200,7 +233,36 @@ fn what_a_user_has_set_counts_for_more_than_copied_extended_attributes() {
     server.import(&folder);
     assert_eq!(node_of(&server, &folder, "a/x.txt"), node);
     let file = folder.path("a/x.txt");
-    assert_eq!((&*server.value("mark", &file), &*server.value("tag", &file)), ("x", "t"));
+    assert_eq!(
+        (&*server.value("mark", &file), &*server.value("tag", &file)),
+        ("x", "t")
+    );
+    assert_eq!(server.paths("name==\"*\""), folder.paths());
+}
+
+#[test]
+fn what_a_user_has_set_stays_if_a_file_is_renamed_while_it_is_read() {
+    let (server, refuser, folder) = server!(Refuser::with_server_and(small()));
+    let (file, moved) = (folder.path("a/x.txt"), folder.path("a/moved.txt"));
+    if !can_set("a file that is renamed while it is read", &file, "user.rating", "5") {
+        return;
+    }
+    server.import(&folder);
+    server.done(&["addattr", "rating", "3", &folder.word("a/x.txt")]);
+    fs::write(&file, "changed").unwrap();
+    // New folders get their nodes before changed files are read.
+    folder.folder("new");
+    let to = moved.clone();
+    refuser.before(r#"["new"]"#, move || fs::rename(&file, to).unwrap());
+    let mut command = server.command(&["import", "--json", &folder.all()]);
+    let said: Said = command.env("BESTORE_SOCKET", refuser.socket()).output().unwrap().into();
+    assert!(refuser.has_acted());
+    assert_eq!((said.status, said.error.as_str()), (0, ""));
+    server.import(&folder);
+    assert_eq!(
+        (&*server.value("rating", &moved), &*server.value("size", &moved)),
+        ("3", "7")
+    );
     assert_eq!(server.paths("name==\"*\""), folder.paths());
 }
 
@@ -232,7 +294,10 @@ fn a_file_that_changes_while_it_gets_extended_attributes_is_read_by_the_next_imp
     let file = folder.path("z");
     assert_eq!(xattr::get(&file, "user.mark").unwrap(), Some(b"x".to_vec()));
     server.import(&folder);
-    assert_eq!(server.value("size", &file), fs::metadata(&file).unwrap().len().to_string());
+    assert_eq!(
+        server.value("size", &file),
+        fs::metadata(&file).unwrap().len().to_string()
+    );
     assert_eq!(server.import(&folder), [0; 4]);
 }
 

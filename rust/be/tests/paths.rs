@@ -1,6 +1,6 @@
 //! Tests of the paths that queries print.
 
-use crate::common::files::{node_of, small};
+use crate::common::files::{node_of, small, Folder};
 use crate::common::refuser::Refuser;
 use crate::common::Said;
 use bestore_client::{Batch, Client};
@@ -30,7 +30,7 @@ fn paths_come_from_the_snapshot_in_which_the_query_was_run() {
 
 #[test]
 fn a_query_with_paths_takes_few_requests() {
-    let (server, folder) = server!(crate::common::files::Folder::with_server());
+    let (server, folder) = server!(Folder::with_server());
     (0..300).for_each(|number| drop(folder.file(&format!("f{number}"), "")));
     server.import(&folder);
     let requests = || {

@@ -3,7 +3,10 @@
 use super::content::{is_same, MOST, OWN, PARENT, ROOT, STAT, SUM, XATTRS};
 use bestore_types::{Batch, Value};
 use std::collections::{BTreeMap, BTreeSet};
-use std::path::PathBuf;
+use std::path::{Path, PathBuf};
+
+/// The maximum number of operations in a batch.
+pub const OPERATIONS: usize = 64;
 
 /// One change to a node.
 #[derive(Clone, Debug, PartialEq)]
@@ -26,6 +29,15 @@ impl Edits {
     pub fn remove(path: PathBuf, node: u64) -> Self {
         let edits = vec![Edit::Remove];
         Self { path, node, edits }
+    }
+
+    /// Returns these changes to a node, in parts that each fit into a batch.
+    pub fn parts<'e>(path: &'e Path, node: u64, edits: &'e [Edit]) -> impl Iterator<Item = Self> + 'e {
+        edits.chunks(OPERATIONS).map(move |edits| Self {
+            path: path.into(),
+            node,
+            edits: edits.to_vec(),
+        })
     }
 
     /// Adds the changes to a batch.
@@ -57,13 +69,30 @@ pub fn between(had: &BTreeMap<String, Value>, wanted: &BTreeMap<String, Value>, 
         .filter(is_from_file)
         .filter(|name| !wanted.contains_key(*name))
         .map(|name| Edit::Unset(name.clone()));
-    let differs = |(name, value): &(&String, &Value)| had.get(*name).map_or(true, |had| !is_same(had, value));
     let is_newer = sum_listed(had).is_some() && sum_listed(had) == sum_listed(wanted);
+    let is_needed = |(name, value): &(&String, &Value)| match had.get(*name) {
+        Some(had) if is_same(had, value) => is_text_of(had, value),
+        _ => !is_newer || OWN.contains(&name.as_str()),
+    };
     let set = stat_last(wanted)
-        .filter(differs)
-        .filter(|(name, _)| !is_newer || OWN.contains(&name.as_str()))
+        .filter(is_needed)
         .map(|(name, value)| Edit::Set(name.clone(), value.clone()));
     unset.chain(set).collect()
+}
+
+/// Replaces what was read of a file's extended attributes with what its node has of them, because not all of them could be read.
+pub fn keep_extended(had: &BTreeMap<String, Value>, wanted: &mut BTreeMap<String, Value>) {
+    let is_extended = |name: &String| name == XATTRS || !OWN.contains(&name.as_str());
+    let listed = names_listed(had);
+    let kept = had.iter().filter(|(name, _)| *name == XATTRS || listed.contains(*name));
+    wanted.retain(|name, _| !is_extended(name));
+    wanted.extend(kept.map(|(name, value)| (name.clone(), value.clone())));
+}
+
+/// Returns whether the first value is a string with the digits of the second. An attribute is such a string if the file was read before the
+/// index with its name was created.
+fn is_text_of(one: &Value, other: &Value) -> bool {
+    one.as_str().is_some() && other.as_bytes().is_none()
 }
 
 /// Returns the attributes with `FILE:stat` last, so that if they take more than one batch, it is written only after all the others.
@@ -164,6 +193,17 @@ mod tests {
         assert_eq!((More::of(&had), More::of(&wanted)), (More::OfUser, More::None));
         had.remove("rating");
         assert_eq!(More::of(&had), More::Extended);
+    }
+
+    #[test]
+    fn what_cannot_be_read_stays() {
+        let mut had = attributes(&[("name", "a"), ("mark", "x"), ("rating", "5")]);
+        had.insert(XATTRS.into(), b"mark\0\xff01234567".to_vec().into());
+        for read in [&[("name", "b")][..], &[("name", "b"), ("mark", "y"), ("other", "z")]] {
+            let mut wanted = attributes(read);
+            keep_extended(&had, &mut wanted);
+            assert_eq!(between(&had, &wanted, false), [Edit::Set("name".into(), "b".into())]);
+        }
     }
 
     #[test]

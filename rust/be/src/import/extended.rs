@@ -61,11 +61,7 @@ fn users(attributes: &BTreeMap<String, Value>) -> impl Iterator<Item = (&String,
 
 /// Writes the attributes that the file doesn't have yet. Returns how many it wrote and, if this is all that has changed since the file was
 /// read, what the file system then reports about the file. If another file is at this path by now, writes nothing.
-fn write_all(
-    path: &Path,
-    known: &Known,
-    attributes: &BTreeMap<String, Value>,
-) -> io::Result<(usize, Option<Stat>)> {
+fn write_all(path: &Path, known: &Known, attributes: &BTreeMap<String, Value>) -> io::Result<(usize, Option<Stat>)> {
     let before = fs::symlink_metadata(path)?;
     let stat = Stat::from(&before);
     if !matches!(stat.form, Form::File | Form::Folder) || known.identity() != Some(stat.identity) {

@@ -6,6 +6,7 @@ use std::ffi::OsStr;
 use std::fs;
 use std::os::unix::ffi::{OsStrExt, OsStringExt};
 use std::path::{Path, PathBuf};
+use std::process::{Command, Stdio};
 use std::sync::atomic::{AtomicU32, Ordering};
 
 /// A folder that is removed at the end of the test.
@@ -75,6 +76,25 @@ impl Folder {
 impl Drop for Folder {
     fn drop(&mut self) {
         let _ = fs::remove_dir_all(&self.0);
+    }
+}
+
+/// An in-memory file system mounted over a folder.
+pub struct Mount(PathBuf);
+
+impl Mount {
+    /// Mounts the file system, if this user is allowed to.
+    pub fn over(folder: &Path) -> Option<Self> {
+        let mut command = Command::new("mount");
+        command.args(["-t", "tmpfs", "tmpfs"]).arg(folder).stderr(Stdio::null());
+        let is_mounted = command.status().map_or(false, |status| status.success());
+        is_mounted.then(|| Self(folder.into()))
+    }
+}
+
+impl Drop for Mount {
+    fn drop(&mut self) {
+        let _ = Command::new("umount").arg("-l").arg(&self.0).status();
     }
 }
 

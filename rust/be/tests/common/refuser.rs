@@ -4,6 +4,7 @@ use super::files::Folder;
 use super::Server;
 use std::fs;
 use std::io::{self, BufRead, BufReader, Write};
+use std::net::Shutdown;
 use std::os::unix::net::{UnixListener, UnixStream};
 use std::path::{Path, PathBuf};
 use std::sync::{Arc, Mutex, MutexGuard};
@@ -12,10 +13,13 @@ use std::thread;
 /// What a test does once before a request with these words is forwarded.
 type Before = (&'static str, Box<dyn FnOnce() + Send>);
 
-/// The operation for which writes are refused, the writes refused so far, and what to do before a request.
+/// The error of a write that is refused, unless the test gives another.
+const FULL: &str = r#""name":"Full","number":11,"message":"no page is free""#;
+
+/// The operation for which writes are refused, with the error; the writes refused so far; and what to do before a request.
 #[derive(Default)]
 struct State {
-    refuses: Option<&'static str>,
+    refuses: Option<(&'static str, &'static str)>,
     refused: Vec<String>,
     before: Option<Before>,
 }
@@ -64,7 +68,12 @@ impl Refuser {
 
     /// Starts refusing writes that contain this operation.
     pub fn refuse(&self, operation: &'static str) {
-        self.state().refuses = Some(operation);
+        self.refuse_with(operation, FULL);
+    }
+
+    /// Starts refusing writes that contain this operation, with an error that has these members.
+    pub fn refuse_with(&self, operation: &'static str, error: &'static str) {
+        self.state().refuses = Some((operation, error));
     }
 
     /// Stops refusing writes.
@@ -97,7 +106,11 @@ impl Drop for Refuser {
 /// Starts threads that forward everything that each side sends to the other.
 fn forward(client: UnixStream, server: UnixStream, state: Arc<Mutex<State>>) {
     let (mut replies, mut to) = (server.try_clone().unwrap(), client.try_clone().unwrap());
-    thread::spawn(move || io::copy(&mut replies, &mut to));
+    thread::spawn(move || {
+        // Either side may have disconnected. The client must notice if the server has.
+        let _ = io::copy(&mut replies, &mut to);
+        let _ = to.shutdown(Shutdown::Both);
+    });
     thread::spawn(move || {
         for line in BufReader::new(&client).lines().map_while(Result::ok) {
             act_before(&line, &state);
@@ -125,12 +138,11 @@ fn act_before(line: &str, state: &Mutex<State>) {
 fn refusal(line: &str, state: &Mutex<State>) -> Option<String> {
     let request: serde_json::Value = serde_json::from_str(line).unwrap();
     let mut state = state.lock().unwrap();
-    if request.get("batch").is_none() || !line.contains(state.refuses?) {
+    let (operation, error) = state.refuses?;
+    if request.get("batch").is_none() || !line.contains(operation) {
         return None;
     }
     state.refused.push(line.into());
     let id = &request["id"];
-    Some(format!(
-        r#"{{"id":{id},"error":{{"name":"Full","number":11,"message":"no page is free"}}}}"#
-    ))
+    Some(format!(r#"{{"id":{id},"error":{{{error}}}}}"#))
 }
