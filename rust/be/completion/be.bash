@@ -1,11 +1,19 @@
 # Bash completion for be, using the functions of the package bash-completion. Source this file, or install it as be in
 # /usr/share/bash-completion/completions.
 
+# Prints where the value of the option at this place is. Bash splits --socket=PATH into three words.
+_be_value_at() {
+    local next=$(($1 + 1))
+    [ "${words[next]-}" != = ] || ((next++))
+    echo "$next"
+}
+
 # Prints the names of the indices on the server that the command line specifies, if that server replies.
 _be_indices() {
-    local at socket=()
+    local at value socket=()
     for ((at = 1; at < cword - 1; at++)); do
-        [ "${words[at]}" != --socket ] || socket=(--socket "${words[at + 1]}")
+        value=$(_be_value_at "$at")
+        [ "${words[at]}" != --socket ] || socket=(--socket "${words[value]}")
     done
     be lsindex "${socket[@]}" 2>/dev/null
 }
@@ -15,7 +23,7 @@ _be_command() {
     local at
     for ((at = 1; at < cword; at++)); do
         case ${words[at]} in
-        --socket | --wait | --timeout) ((at++)) ;;
+        --socket | --wait | --timeout) at=$(_be_value_at "$at") ;;
         -*) ;;
         *)
             echo "${words[at]}"

@@ -84,7 +84,6 @@ fn lines(info: &Info) -> Vec<(&'static str, String)> {
             format!("{}{term}, entry {}, {} late", log.role, log.entry, log.lag),
         ));
     }
-    lines.extend(info.trouble.iter().map(|trouble| ("trouble", trouble.clone())));
     lines
 }
 
@@ -93,7 +92,11 @@ pub fn info(client: &mut Client, line: &Activity, output: &mut Output) -> Result
     if line.json {
         return output.json(&info);
     }
-    let lines = lines(&info).into_iter().map(|(name, value)| vec![name.into(), value]);
+    let mut lines = lines(&info);
+    // It may contain the path of a folder.
+    let trouble = info.trouble.iter();
+    lines.extend(trouble.map(|trouble| ("trouble", output.name(trouble).into_owned())));
+    let lines = lines.into_iter().map(|(name, value)| vec![name.into(), value]);
     output.aligned(&lines.collect::<Vec<_>>())
 }
 

@@ -143,21 +143,36 @@ struct Attribute<'a> {
 pub fn show(client: &mut Client, line: &ShowAttribute, output: &mut Output) -> Result<(), Failure> {
     let nodes = nodes_of(client, &line.nodes)?;
     let values = pinned(client, |client| {
-        let values = nodes.iter().map(|node| Ok((*node, client.get(*node, &line.name)?)));
+        let values = nodes
+            .iter()
+            .map(|node| Ok((*node, value_of(client, *node, &line.name)?)));
         values.collect::<Result<Vec<_>, Failure>>()
     })?;
     let mut all = true;
     for (node, value) in values {
         match value {
-            Some(value) => show_value(line, node, value, output)?,
-            None => {
-                report(node, &format!("no attribute {}", escaped(&line.name)));
+            Ok(value) => show_value(line, node, value, output)?,
+            Err(why) => {
+                report(node, &why);
                 all = false;
             }
         }
     }
     output.flush()?;
     all_done(all)
+}
+
+/// Returns the value of an attribute, or why there is none.
+fn value_of(client: &mut Client, node: u64, name: &str) -> Result<Result<Value, String>, Failure> {
+    if let Some(value) = client.get(node, name)? {
+        return Ok(Ok(value));
+    }
+    match client.attributes(node) {
+        Err(error) if error.is(ErrorName::NoNode) => Ok(Err(ErrorName::NoNode.text().into())),
+        answer => answer
+            .map(|_| Err(format!("no attribute {}", escaped(name))))
+            .map_err(Failure::from),
+    }
 }
 
 fn show_value(line: &ShowAttribute, node: u64, value: Value, output: &mut Output) -> Result<(), Failure> {

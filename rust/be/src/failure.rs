@@ -91,11 +91,11 @@ pub struct QueryRefused {
 }
 
 impl Failure {
-    /// Returns whether the server is gone or full. If so, connecting later may succeed.
-    pub fn is_of_connection(&self) -> bool {
+    /// Returns whether the server is gone or full, or refuses only for now. If so, the same may succeed later, on a new connection.
+    pub fn is_passing(&self) -> bool {
         match self {
             Failure::NoServer(..) | Failure::Server(Error::Io(_) | Error::Closed | Error::TimedOut(_)) => true,
-            Failure::Server(error) => error.is(ErrorName::NoPass),
+            Failure::Server(error) => is_passing(error) || error.is(ErrorName::NoPass) || error.is(ErrorName::Expired),
             _ => false,
         }
     }
@@ -112,6 +112,22 @@ impl Failure {
             _ => ExitCode::FAILURE,
         }
     }
+}
+
+/// Server errors after which the same write may succeed if retried later.
+const PASSING: [ErrorName; 7] = [
+    ErrorName::Full,
+    ErrorName::Busy,
+    ErrorName::Conflict,
+    ErrorName::OutOfMemory,
+    ErrorName::NotSaved,
+    ErrorName::Stopped,
+    ErrorName::NotLeader,
+];
+
+/// Returns whether the server may later accept what it has refused with this error.
+pub fn is_passing(error: &Error) -> bool {
+    error.refusal().map_or(false, |refusal| PASSING.contains(&refusal.name))
 }
 
 impl From<BadDate> for Failure {

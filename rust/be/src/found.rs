@@ -2,6 +2,7 @@
 
 use crate::command_line::Query as Line;
 use crate::failure::Failure;
+use crate::server::rows_of;
 use bestore_client::wire::{self, Columns, Command, Hits, Json, Page, NODES};
 use bestore_client::{Client, Query};
 use serde::Serialize;
@@ -27,6 +28,14 @@ impl Found {
             (Some(by), _) => in_order(client, text, by, line).map(Found::Page),
             (None, Some(most)) => any(client, text, most, line).map(Found::Page),
             (None, None) => by_number(client, text, line).map(Found::Hits),
+        }
+    }
+
+    /// Returns the nodes.
+    pub fn nodes(&self) -> &[u64] {
+        match self {
+            Found::Hits(hits) => hits.nodes.as_deref().unwrap_or_default(),
+            Found::Page(page) => &page.nodes,
         }
     }
 
@@ -118,10 +127,18 @@ fn of_a_page(limit: u64) -> u64 {
 }
 
 fn any(client: &mut Client, text: &str, most: u64, line: &Line) -> Result<Page, Failure> {
-    Ok(client.call(Command::Query(wire::Query {
+    let mut query = wire::Query {
         query: text.into(),
         columns: columns_of(line),
         any: Some(most),
         ..wire::Query::default()
-    }))?)
+    };
+    let mut page: Page = client.call(Command::Query(query.clone()))?;
+    if page.more {
+        // The rows of all these nodes don't fit on one line.
+        query.columns = None;
+        page = client.call(Command::Query(query))?;
+        page.rows = Some(rows_of(client, &page.nodes, &line.columns)?);
+    }
+    Ok(page)
 }

@@ -14,6 +14,7 @@ mod indices;
 mod kind;
 mod output;
 mod paths;
+mod polling;
 mod query;
 mod query_text;
 mod restore;

@@ -7,6 +7,7 @@ use serde::Serialize;
 use std::borrow::Cow;
 use std::io::{self, BufWriter, StdoutLock, Write};
 use std::os::unix::ffi::OsStrExt;
+use std::os::unix::io::{AsRawFd, RawFd};
 use std::path::Path;
 
 /// Standard output.
@@ -16,6 +17,14 @@ pub struct Output {
     /// Whether the output is a terminal, where columns are aligned and have headings.
     terminal: bool,
     escapes: bool,
+    /// The byte that ends a line.
+    end: u8,
+}
+
+impl AsRawFd for Output {
+    fn as_raw_fd(&self) -> RawFd {
+        self.out.get_ref().as_raw_fd()
+    }
 }
 
 impl Output {
@@ -26,12 +35,18 @@ impl Output {
             out: BufWriter::new(io::stdout().lock()),
             terminal,
             escapes: terminal,
+            end: b'\n',
         }
     }
 
     /// Escapes control characters even if the output isn't a terminal.
     pub fn escape(&mut self) {
         self.escapes = true;
+    }
+
+    /// Ends lines with a zero byte instead of a line feed.
+    pub fn end_with_zero(&mut self) {
+        self.end = 0;
     }
 
     /// Prints bytes.
@@ -42,7 +57,7 @@ impl Output {
     /// Prints a line.
     pub fn line(&mut self, line: &[u8]) -> Result<(), Failure> {
         self.bytes(line)?;
-        self.bytes(b"\n")
+        self.bytes(&[self.end])
     }
 
     /// Prints a line of JSON.
@@ -74,9 +89,10 @@ impl Output {
         }
     }
 
-    /// Prints rows, aligned below headings on a terminal, or with tabs between the columns otherwise.
+    /// Prints rows, aligned below headings on a terminal, or with tabs between the columns otherwise. Lines that end with a zero byte are
+    /// for programs, so they are never aligned.
     pub fn rows(&mut self, headings: &[&str], rows: &[Vec<Vec<u8>>]) -> Result<(), Failure> {
-        if !self.terminal || headings.len() < 2 {
+        if !self.terminal || self.end == 0 || headings.len() < 2 {
             return rows.iter().try_for_each(|row| self.line(&row.join(&b'\t')));
         }
         let shown = |row: &Vec<Vec<u8>>| {

@@ -1,11 +1,12 @@
 //! Files and their nodes. `be import` creates a node for each file; these functions find the node for a file, and the file for a node.
 
 use crate::failure::Failure;
+use crate::found::Row;
 use crate::import::content::{name_in, NAME, PARENT, ROOT, STAT};
 use crate::import::stat::Stat;
-use crate::server::pinned;
-use bestore_client::wire::Json;
-use bestore_client::{Client, ErrorName, Query};
+use crate::server::{pinned, rows_of};
+use bestore_client::wire::{Command, Json, Nodes, NodesFrom};
+use bestore_client::{Client, ErrorName};
 use bestore_types::Value;
 use std::collections::HashMap;
 use std::ffi::OsString;
@@ -108,6 +109,17 @@ impl Step {
     }
 }
 
+/// Requests a node's step. Returns `None` if there is no such node, or if it has no name.
+fn step_of(client: &mut Client, node: u64) -> Result<Option<Step>, Failure> {
+    match client.attributes(node) {
+        Err(error) if error.is(ErrorName::NoNode) => Ok(None),
+        answer => {
+            let attributes = answer?;
+            Ok(Step::read(|name| attributes.get(name)))
+        }
+    }
+}
+
 /// Finds the paths of nodes. The paths of folders are cached, so that each is requested only once.
 #[derive(Debug, Default)]
 pub struct Paths {
@@ -117,13 +129,7 @@ pub struct Paths {
 impl Paths {
     /// Returns the path of a node, or `None` if the node isn't a file's.
     pub fn of(&mut self, client: &mut Client, node: u64) -> Result<Option<PathBuf>, Failure> {
-        self.found(node, |node| match client.attributes(node) {
-            Err(error) if error.is(ErrorName::NoNode) => Ok(None),
-            answer => {
-                let attributes = answer?;
-                Ok(Step::read(|name| attributes.get(name)))
-            }
-        })
+        self.found(node, |node| step_of(client, node))
     }
 
     /// Returns the path of a node, calling the closure to look up each step.
@@ -167,29 +173,37 @@ impl Paths {
 /// Returns the paths of these nodes, in the same order.
 pub fn paths_of(client: &mut Client, nodes: &[u64]) -> Result<Vec<Option<PathBuf>>, Failure> {
     let mut paths = Paths::default();
-    nodes.iter().map(|node| paths.of(client, *node)).collect()
+    let rows = rows_of(client, nodes, &COLUMNS)?;
+    let path = |(node, row): (&u64, &Row)| {
+        paths.found(*node, |at| match at == *node {
+            true => Ok(Step::read(|name| value_of(&COLUMNS, row, name))),
+            false => step_of(client, at),
+        })
+    };
+    nodes.iter().zip(&rows).map(path).collect()
 }
 
-/// Calls the closure for each node that has a name, passing the node and its values in the columns, all from one snapshot.
-pub fn each_named(
+/// Returns the value in this column of a row.
+pub fn value_of<'a>(columns: &[&str], row: &'a [Option<Json>], name: &str) -> Option<&'a Value> {
+    let at = columns.iter().position(|column| *column == name)?;
+    row.get(at)?.as_ref().map(|Json(value)| value)
+}
+
+/// Calls the closure for each node, passing the node and its values in the columns. If the client has a snapshot pinned, all come from it.
+/// This doesn't use the index of names, which may lack nodes if it was removed and created again.
+pub fn each_node(
     client: &mut Client,
     columns: &[&str],
     mut each: impl FnMut(u64, &[Option<Json>]),
 ) -> Result<(), Failure> {
-    let mut query = Query {
-        text: "name==*",
-        columns,
-        ..Query::default()
-    };
-    loop {
-        let page = client.hits(query)?;
-        let (nodes, rows) = (page.nodes.unwrap_or_default(), page.rows.unwrap_or_default());
-        nodes.iter().zip(&rows).for_each(|(node, row)| each(*node, row));
-        match page.more {
-            Some(from) => query.from = from,
-            None => return Ok(()),
-        }
+    let mut next = Some(0);
+    while let Some(from) = next {
+        let page: Nodes = client.call(Command::Nodes(NodesFrom { from, limit: None }))?;
+        let rows = rows_of(client, &page.nodes, columns)?;
+        page.nodes.iter().zip(&rows).for_each(|(node, row)| each(*node, row));
+        next = page.more;
     }
+    Ok(())
 }
 
 #[cfg(test)]

@@ -7,22 +7,27 @@ use crate::found::{Found, Row};
 use crate::hints;
 use crate::output::Output;
 use crate::paths::paths_of;
+use crate::polling::poll;
 use crate::server::{self, pinned};
 use crate::text::{escaped, pointed};
 use crate::typed_query::TypedQuery;
 use bestore_client::wire::{self, kind_named, Command, Hits, Json, Push};
 use bestore_client::{Client, Error, ErrorName};
-use bestore_types::Value;
 use serde::Serialize;
+use std::io::ErrorKind;
+use std::os::unix::io::AsRawFd;
 use std::path::PathBuf;
 use std::time::Duration;
 
-/// How long to wait for a push before waiting again.
-const WAIT: Duration = Duration::from_secs(3_600);
+/// How long to wait for the rest of a push that has begun to arrive, before waiting again.
+const WAIT: Duration = Duration::from_secs(1);
 
 pub fn run(client: &mut Client, line: &Line, output: &mut Output) -> Result<(), Failure> {
     if line.escape {
         output.escape();
+    }
+    if line.null {
+        output.end_with_zero();
     }
     let query = TypedQuery::read(&line.text, &Clock::of_machine())?;
     let answer = match (line.watch, line.count) {
@@ -90,24 +95,24 @@ fn count(client: &mut Client, query: &TypedQuery, line: &Line, output: &mut Outp
 }
 
 fn find(client: &mut Client, query: &TypedQuery, line: &Line, output: &mut Output) -> Result<(), Failure> {
-    let found = pinned(client, |client| Found::read(client, &query.sent, line))?;
+    let shown = &*output;
+    // The paths come from the same snapshot as the nodes, so that they are those of files that the query finds.
+    let (found, names) = pinned(client, |client| {
+        let found = Found::read(client, &query.sent, line)?;
+        let names = names_of(client, found.nodes(), line, shown)?;
+        Ok((found, names))
+    })?;
     warn(client, query)?;
     if line.json {
         return output.json(&found);
     }
     let (nodes, mut found) = found.into_rows();
     found.resize(nodes.len(), Row::new());
-    let names = names_of(client, &nodes, line, output)?;
     let rows: Vec<_> = names
         .into_iter()
         .zip(&found)
         .map(|(name, row)| cells(name, row, output))
         .collect();
-    if line.null {
-        return rows
-            .iter()
-            .try_for_each(|row| output.bytes(&[&row.join(&b'\t')[..], b"\0"].concat()));
-    }
     output.rows(&headings(line), &rows)
 }
 
@@ -168,18 +173,27 @@ fn watch(client: &mut Client, query: &TypedQuery, line: &Line, output: &mut Outp
             false => show_change(client, &push, line, output)?,
         }
         output.flush()?;
-        push = next_push(client)?;
+        push = next_push(client, output)?;
         if let Some(refusal) = push.error.take() {
             return Err(Error::Refused(refusal).into());
         }
     }
 }
 
-fn next_push(client: &mut Client) -> Result<Push, Failure> {
+/// Waits for the next push. Fails if the program that reads the output has exited, because otherwise a watch would keep its place on the
+/// server until it has something to print.
+fn next_push(client: &mut Client, output: &Output) -> Result<Push, Failure> {
+    // What has already been received doesn't make the socket readable.
+    let mut within = Duration::ZERO;
     loop {
-        if let Some(push) = client.next_push(WAIT)? {
+        if let Some(push) = client.next_push(within)? {
             return Ok(push);
         }
+        let [server, reader] = poll([(client.as_raw_fd(), libc::POLLIN), (output.as_raw_fd(), 0)], None);
+        if reader != 0 {
+            return Err(Failure::Output(ErrorKind::BrokenPipe.into()));
+        }
+        within = if server != 0 { WAIT } else { Duration::ZERO };
     }
 }
 
@@ -193,7 +207,7 @@ fn show_count(commit: u64, count: usize, line: &Line, output: &mut Output) -> Re
 fn show_change(client: &mut Client, push: &Push, line: &Line, output: &mut Output) -> Result<(), Failure> {
     let rows = match line.columns.is_empty() {
         true => None,
-        false => Some(columns_of(client, &push.created, &line.columns)?),
+        false => Some(server::rows_of(client, &push.created, &line.columns)?),
     };
     if line.json {
         return output.json(&Change { push, rows });
@@ -211,17 +225,4 @@ fn show_change(client: &mut Client, push: &Push, line: &Line, output: &mut Outpu
         output.line(&cells.join(&b'\t'))?;
     }
     Ok(())
-}
-
-/// Returns the nodes' current values in the columns. A node that is gone has no values.
-fn columns_of(client: &mut Client, nodes: &[u64], columns: &[String]) -> Result<Vec<Row>, Failure> {
-    let row = |node: &u64| {
-        let mut attributes = match client.attributes(*node) {
-            Err(error) if error.is(ErrorName::NoNode) => Default::default(),
-            answer => answer?,
-        };
-        let mut value = |name: &String| attributes.remove(name).map(|value: Value| Json(value));
-        Ok(columns.iter().map(&mut value).collect())
-    };
-    nodes.iter().map(row).collect()
 }

@@ -2,9 +2,11 @@
 
 use crate::command_line::ServerOptions;
 use crate::failure::{complain, message, Failure};
-use bestore_client::wire::{Command, Indices, Nothing};
+use crate::found::Row;
+use bestore_client::wire::{Columns, ColumnsOf, Command, Indices, Nothing, Rows};
 use bestore_client::{Client, Error, ErrorName, Options, SocketPath};
 use bestore_types::Batch;
+use std::borrow::Cow;
 use std::collections::BTreeMap;
 
 /// How many times to retry a write while another client is writing.
@@ -12,6 +14,9 @@ const TRIES: u32 = 100;
 
 /// The maximum number of operations in a batch.
 const OPERATIONS: usize = 64;
+
+/// How many nodes to name in a request for their values. Their numbers fit on one line.
+const NODES: usize = 4_096;
 
 /// How many snapshots to try for a read before giving up.
 const SNAPSHOTS: u32 = 5;
@@ -53,6 +58,26 @@ fn open(line: &ServerOptions) -> Result<Client, Failure> {
 pub fn indices(client: &mut Client) -> Result<BTreeMap<String, String>, Error> {
     let read: Indices = client.call(Command::Indices(Nothing {}))?;
     Ok(read.indices)
+}
+
+/// Returns each node's values in the columns, up to 64. A node that is gone has no values.
+pub fn rows_of(client: &mut Client, nodes: &[u64], columns: &[impl AsRef<str>]) -> Result<Vec<Row>, Error> {
+    let mut rows: Vec<Row> = Vec::with_capacity(nodes.len());
+    while rows.len() < nodes.len() {
+        let left = &nodes[rows.len()..];
+        let asked = &left[..left.len().min(NODES)];
+        let names = columns.iter().map(|name| Cow::from(name.as_ref()));
+        let read: Rows = client.call(Command::Columns(ColumnsOf {
+            nodes: asked.to_vec(),
+            names: Columns(names.collect()),
+        }))?;
+        // If not all rows fit on one line, the reply has only the first ones.
+        if read.rows.is_empty() {
+            return Err(Error::BadLine("the reply has no rows".into()));
+        }
+        rows.extend(read.rows.into_iter().take(asked.len()));
+    }
+    Ok(rows)
 }
 
 /// Writes the batch, retrying while another client is writing.

@@ -31,6 +31,7 @@ pub fn show(client: &mut Client, line: &Line, output: &mut Output) -> Result<(),
     let trouble = status
         .trouble
         .iter()
-        .map(|trouble| vec!["trouble".into(), trouble.clone()]);
-    output.aligned(&lines.chain(volumes).chain(trouble).collect::<Vec<_>>())
+        .map(|trouble| vec!["trouble".into(), output.name(trouble).into_owned()]);
+    let lines: Vec<_> = lines.chain(volumes).chain(trouble).collect();
+    output.aligned(&lines)
 }

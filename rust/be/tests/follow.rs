@@ -1,12 +1,12 @@
 //! Tests of how `import --follow` handles changes.
 
-use crate::common::files::Folder;
+use crate::common::files::{Folder, Mount};
 use crate::common::refuser::Refuser;
-use crate::common::{Said, Server};
+use crate::common::{Said, Server, NOBODY};
 use std::fs;
-use std::io::{BufRead, BufReader, Read};
+use std::io::{BufRead, BufReader, Read, Write};
 use std::os::unix::fs::PermissionsExt;
-use std::path::{Path, PathBuf};
+use std::os::unix::process::CommandExt;
 use std::process::{Child, ChildStderr, ChildStdout, Command, Stdio};
 use std::sync::atomic::{AtomicBool, Ordering};
 use std::sync::mpsc::{channel, Receiver};
@@ -390,6 +390,111 @@ fn a_node_that_is_not_removed_goes_later_though_its_file_is_there_again() {
 }
 
 #[test]
+fn a_file_whose_node_was_removed_gets_another_when_it_changes() {
+    let (server, folder) = server!(Folder::with_server());
+    folder.folder("a/b");
+    folder.file("a/x", "x");
+    let _follower = Follower::start(&server, &folder);
+    server.done(&["rmnode", &folder.word("a/x"), &folder.word("a")]);
+    folder.file("a/x", "changed");
+    folder.file("a/b/new", "");
+    soon("a removed node", || {
+        same(&server, &folder) && server.paths("size==7").len() == 1
+    });
+    folder.file("a/later", "");
+    soon("a later file", || same(&server, &folder));
+}
+
+#[test]
+fn a_file_is_read_after_each_change_even_within_one_tick_of_the_clock() {
+    let (server, folder) = server!(Folder::with_server());
+    let file = folder.file("x", "content");
+    let _follower = Follower::start(&server, &folder);
+    // The node has an earlier size, and the file's times are those that the node has, as if both had been written within one tick.
+    server.done(&["addattr", "-t", "int64", "size", "3", &folder.word("x")]);
+    drop(fs::OpenOptions::new().write(true).open(&file).unwrap());
+    soon("a change within one tick", || server.paths("size==7").len() == 1);
+}
+
+#[test]
+fn a_new_server_that_refuses_indices_for_a_moment_is_caught_up_with() {
+    let (mut server, refuser, folder) = server!(Refuser::with_server());
+    folder.file("x", "");
+    let mut command = server.command(&["import", "--follow", "--json", &folder.all()]);
+    command.env("BESTORE_SOCKET", refuser.socket());
+    let follower = Follower::run(command);
+    refuser.refuse(r#"["index","#);
+    server.end();
+    follower.wait_until_it_says("waiting for the server");
+    // Its store is empty, so it has no indices yet.
+    server.start_again();
+    soon("a refusal", || refuser.has_refused(r#"["index","#));
+    refuser.accept();
+    follower.wait_until_it_says("the server is back");
+    soon("what was refused", || same(&server, &folder));
+}
+
+/// Starts an import as another user, which can't read everything. If that isn't possible, prints why and returns `None`.
+fn follower_as_nobody(server: &Server, refuser: &Refuser, folder: &Folder) -> Option<Follower> {
+    for path in [server.socket().parent().unwrap(), &folder.0] {
+        fs::set_permissions(path, fs::Permissions::from_mode(0o755)).unwrap();
+    }
+    fs::set_permissions(refuser.socket(), fs::Permissions::from_mode(0o777)).unwrap();
+    let as_nobody = |words: &[&str]| {
+        let mut command = server.command(words);
+        command.env("BESTORE_SOCKET", refuser.socket()).uid(NOBODY).gid(NOBODY);
+        command
+    };
+    match as_nobody(&["status"]).output() {
+        Ok(output) if output.status.success() => {}
+        _ => {
+            println!("be, a folder that may not be read: skipped, only root can act as another user, who may run be");
+            return None;
+        }
+    }
+    Some(Follower::run(as_nobody(&[
+        "import",
+        "--follow",
+        "--json",
+        &folder.all(),
+    ])))
+}
+
+#[test]
+fn a_folder_is_read_once_it_may_be_read() {
+    let (server, refuser, folder) = server!(Refuser::with_server());
+    let hidden = folder.folder("hidden");
+    folder.file("hidden/x", "");
+    let mode = |mode: u32| fs::set_permissions(&hidden, fs::Permissions::from_mode(mode)).unwrap();
+    mode(0o700);
+    let _follower = server!(follower_as_nobody(&server, &refuser, &folder));
+    assert_eq!(server.paths("name==x"), Default::default());
+    mode(0o755);
+    soon("a folder that may be read now", || same(&server, &folder));
+    folder.file("hidden/later", "");
+    soon("a later file", || same(&server, &folder));
+}
+
+#[test]
+fn a_file_that_may_not_be_read_any_more_keeps_its_node() {
+    let (server, refuser, folder) = server!(Refuser::with_server());
+    let hidden = folder.folder("hidden");
+    let file = folder.file("hidden/x", "");
+    let follower = server!(follower_as_nobody(&server, &refuser, &folder));
+    server.done(&["addattr", "mark", "x", &folder.word("hidden/x")]);
+    let mut open = fs::OpenOptions::new().append(true).open(&file).unwrap();
+    fs::set_permissions(&hidden, fs::Permissions::from_mode(0o700)).unwrap();
+    open.write_all(b"more of it").unwrap();
+    follower.wait_until_it_says("hidden/x: Permission denied");
+    // If the file were missing, its node would be removed when it is missed for the second time.
+    folder.file("later", "");
+    soon("a later file", || server.paths("name==later").len() == 1);
+    assert_eq!(server.value("mark", &file), "x");
+    fs::set_permissions(&hidden, fs::Permissions::from_mode(0o755)).unwrap();
+    soon("a file that may be read again", || server.paths("size==10").len() == 1);
+}
+
+#[test]
 fn a_file_system_that_is_mounted_later_is_not_read() {
     let (server, folder) = server!(Folder::with_server());
     let follower = Follower::run(server.command(&["import", "--follow", "-x", "--json", &folder.all()]));
@@ -407,23 +512,4 @@ fn a_file_system_that_is_mounted_later_is_not_read() {
     folder.file("later", "");
     soon("a later file", || server.paths("name==later").len() == 1);
     assert_eq!(server.paths("name==inner || name==file"), Default::default());
-}
-
-/// An in-memory file system mounted over a folder.
-struct Mount(PathBuf);
-
-impl Mount {
-    /// Mounts the file system, if this user is allowed to.
-    fn over(folder: &Path) -> Option<Self> {
-        let mut command = Command::new("mount");
-        command.args(["-t", "tmpfs", "tmpfs"]).arg(folder).stderr(Stdio::null());
-        let is_mounted = command.status().map_or(false, |status| status.success());
-        is_mounted.then(|| Self(folder.into()))
-    }
-}
-
-impl Drop for Mount {
-    fn drop(&mut self) {
-        let _ = Command::new("umount").arg("-l").arg(&self.0).status();
-    }
 }

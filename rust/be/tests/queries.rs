@@ -6,7 +6,7 @@ use std::path::Path;
 use std::process::{Command, Stdio};
 use std::sync::mpsc::{channel, Receiver};
 use std::thread;
-use std::time::Duration;
+use std::time::{Duration, Instant};
 
 #[test]
 fn nodes_are_found_with_columns_up_to_a_limit_and_counted() {
@@ -102,6 +102,21 @@ fn any_nodes_are_found() {
     assert_eq!(server.done(&["query", "--any", "2", "name==*"]).lines().count(), 2);
     assert_eq!(server.done(&["query", "--any", "9", "-c", "name", "name==b"]), "2\tb\n");
     assert_eq!(server.done(&["query", "--any", "9", "name==z"]), "");
+}
+
+#[test]
+fn any_nodes_are_as_many_as_asked_for_with_all_their_columns() {
+    let server = server!(Server::with_index("n"));
+    server.make(300, "n", &"x".repeat(255));
+    // The rows don't fit on one line of the protocol.
+    let columns = vec!["n"; 64].join(",");
+    let printed = server.done(&["query", "--any", "290", "-c", &columns, "n==*"]);
+    assert_eq!(printed.lines().count(), 290);
+    assert!(printed.lines().all(|line| line.len() > 64 * 256), "a row lacks values");
+    let json = server.done(&["query", "--any", "290", "--json", "-c", &columns, "n==*"]);
+    let json: serde_json::Value = serde_json::from_str(&json).unwrap();
+    let count = |name: &str| json[name].as_array().unwrap().len();
+    assert_eq!((count("nodes"), count("rows"), json.get("more")), (290, 290, None));
 }
 
 #[test]
@@ -353,6 +368,28 @@ fn a_watch_prints_what_comes_and_goes() {
 }
 
 #[test]
+fn a_watch_ends_its_lines_with_zero_bytes_if_asked_to() {
+    let server = server!(Server::with_three());
+    assert_eq!(server.done(&["query", "-0", "--count", "size>=15"]), "1\0");
+    let mut command = server.command(&["query", "--watch", "-0", "-c", "name", "size>=15"]);
+    let mut child = command.stdout(Stdio::piped()).spawn().unwrap();
+    let mut out = BufReader::new(child.stdout.take().unwrap());
+    let mut next = || {
+        let mut line = Vec::new();
+        out.read_until(0, &mut line).unwrap();
+        String::from_utf8(line).unwrap()
+    };
+    assert_eq!(next(), "+2\tb\0");
+    server.done(&["addattr", "name", "a\nb", "1"]);
+    server.done(&["addattr", "-t", "int64", "size", "30", "1"]);
+    assert_eq!(next(), "+1\ta\nb\0");
+    server.done(&["rmnode", "2"]);
+    assert_eq!(next(), "-2\0");
+    child.kill().unwrap();
+    child.wait().unwrap();
+}
+
+#[test]
 fn a_watch_counts_and_ends_with_its_index() {
     let server = server!(Server::with_three());
     let (child, lines) = watched(&server, &["--count", "size>=15"]);
@@ -396,6 +433,27 @@ fn a_reader_that_has_gone_is_no_error() {
         thread::sleep(Duration::from_millis(100));
     }
     assert!(child.wait().unwrap().success());
+}
+
+#[test]
+fn a_watch_ends_when_its_reader_has_gone_even_if_nothing_changes() {
+    let server = server!(Server::with_three());
+    let clients = || server.done(&["clients"]).lines().count();
+    let before = clients();
+    for words in [&["size>=15"][..], &["--json", "size>=15"], &["size>=99"]] {
+        let mut command = server.command(&[&["query", "--watch"], words].concat());
+        let mut child = command.stdout(Stdio::piped()).spawn().unwrap();
+        let until = Instant::now() + Duration::from_secs(20);
+        while clients() == before && Instant::now() < until {
+            thread::sleep(Duration::from_millis(10));
+        }
+        drop(child.stdout.take());
+        while child.try_wait().unwrap().is_none() {
+            assert!(Instant::now() < until, "{words:?}: the watch doesn't end");
+            thread::sleep(Duration::from_millis(10));
+        }
+        assert!(child.wait().unwrap().success(), "{words:?}");
+    }
 }
 
 /// Returns what the tool prints on a terminal.
@@ -459,13 +517,16 @@ fn words_are_completed() {
     server.done(&["mkindex", "MAIL:from"]);
     let script = format!(
         ". {functions}; . {}/completion/be.bash; complete_line() {{ \
-         COMP_LINE=$1; COMP_POINT=${{#1}}; read -ra COMP_WORDS <<<\"${{1//:/ : }}\"; \
+         COMP_LINE=$1; COMP_POINT=${{#1}}; local line=${{1//:/ : }}; read -ra COMP_WORDS <<<\"${{line//=/ = }}\"; \
          [[ $1 != *' ' ]] || COMP_WORDS+=(''); COMP_CWORD=$((${{#COMP_WORDS[@]}} - 1)); \
          _be; echo \"${{COMPREPLY[*]}}\"; }}; compopt() {{ echo \"$*\"; }}; \
          complete_line 'be lsi'; complete_line 'be query --co'; complete_line 'be addattr -t uint'; \
          complete_line 'be rmindex s'; complete_line 'be rmindex MAIL:f'; complete_line 'be query --sort si'; \
-         complete_line 'be catattr size so'; complete_line 'be rmnode s'",
-        env!("CARGO_MANIFEST_DIR")
+         complete_line 'be catattr size so'; complete_line 'be rmnode s'; \
+         complete_line 'be --socket={socket} lsi'; complete_line 'be --socket={socket} rmindex s'; \
+         complete_line 'be --wait 5 --timeout=9 query --co'",
+        env!("CARGO_MANIFEST_DIR"),
+        socket = server.socket().display()
     );
     let mut command = Command::new("bash");
     let folder = Path::new(crate::common::BE).parent().unwrap();
@@ -476,7 +537,8 @@ fn words_are_completed() {
         .env("PATH", path);
     let said: Said = command.output().unwrap().into();
     assert_eq!(
-        said.out, "lsindex\n--columns --count\nuint32 uint64\nsize\nfrom\nsize\n-o default\n\n-o default\n\n",
+        said.out,
+        "lsindex\n--columns --count\nuint32 uint64\nsize\nfrom\nsize\n-o default\n\n-o default\n\nlsindex\nsize\n--columns --count\n",
         "{}",
         said.error
     );

@@ -1,7 +1,7 @@
 //! Tests of how the tool reaches its server: where it looks, whose server it accepts, and how long it waits.
 
 use crate::common::files::Folder;
-use crate::common::{server_program, Said, Server, BE};
+use crate::common::{server_program, Said, Server, BE, NOBODY};
 use bestore_client::Client;
 use std::fs;
 use std::os::unix::fs::{MetadataExt, PermissionsExt};
@@ -10,9 +10,7 @@ use std::os::unix::process::CommandExt;
 use std::path::Path;
 use std::process::{Child, Command, Stdio};
 use std::thread;
-
-/// A user who is neither root nor the user running the tests.
-const NOBODY: u32 = 65_534;
+use std::time::{Duration, Instant};
 
 /// Returns the tool, in an environment that doesn't specify a server.
 fn be(words: &[&str]) -> Command {
@@ -90,12 +88,17 @@ fn a_socket_of_another_user_is_reported_as_such() {
 #[test]
 fn a_path_that_no_socket_can_have_is_reported_as_such() {
     let socket = format!("/tmp/{}", "a".repeat(103));
-    let said = said(&mut be(&["--socket", &socket, "status"]));
-    let why = format!(
-        "be: no server answers at {socket}: the path of a socket has 1 to 107 bytes and no zero byte\n  --socket or BESTORE_SOCKET can \
-         name another path\n"
-    );
-    assert_eq!((said.status, said.error), (1, why));
+    // No server can start there, so there is nothing to wait for.
+    let begun = Instant::now();
+    for wait in ["0", "60"] {
+        let said = said(&mut be(&["--socket", &socket, "--wait", wait, "status"]));
+        let why = format!(
+            "be: no server answers at {socket}: the path of a socket has 1 to 107 bytes and no zero byte\n  --socket or \
+             BESTORE_SOCKET can name another path\n"
+        );
+        assert_eq!((said.status, said.error), (1, why));
+    }
+    assert!(begun.elapsed() < Duration::from_secs(30), "be has waited");
 }
 
 #[test]

@@ -133,11 +133,9 @@ fn attributes_are_listed_and_removed() {
         (said.status, said.error.as_str()),
         (1, "be: node 1: no attribute size\n")
     );
-    let said = server.be(&["listattr", "99"]);
-    assert_eq!(
-        (said.status, said.error.as_str()),
-        (1, "be: node 99: there is no such node\n")
-    );
+    for words in [&["listattr", "99"][..], &["catattr", "size", "99"]] {
+        refused(&server, words, "be: node 99: there is no such node\n");
+    }
 }
 
 #[test]

@@ -9,7 +9,7 @@ use crc32fast::Hasher;
 use std::borrow::Cow;
 use std::collections::BTreeMap;
 use std::ffi::OsStr;
-use std::fs::{File, OpenOptions};
+use std::fs::{self, File, OpenOptions};
 use std::io::{self, Read};
 use std::os::unix::ffi::OsStrExt;
 use std::os::unix::fs::OpenOptionsExt;
@@ -62,7 +62,7 @@ pub const INDICES: [(&str, Kind); 9] = [
 ];
 
 /// The maximum number of attributes per node.
-const MOST: usize = 64;
+pub const MOST: usize = 64;
 
 /// The maximum number of bytes in a value, and in a name.
 pub const VALUE: usize = 255;
@@ -82,6 +82,10 @@ pub struct Content {
     pub values: BTreeMap<String, Value>,
     /// How many extended attributes were left out because the store can't hold them.
     pub left_out: usize,
+    /// Whether the file has been moved, replaced or removed since it was found, so that these may be another file's attributes.
+    pub is_stale: bool,
+    /// Whether some extended attributes couldn't be read.
+    pub is_partial: bool,
 }
 
 /// Reads the attributes of files.
@@ -118,6 +122,7 @@ impl Reader {
         if matches!(stat.form, Form::File | Form::Folder) {
             self.add_extended(path, &mut content);
         }
+        content.is_stale = fs::symlink_metadata(path).map_or(true, |now| stat.is_of_another(&Stat::from(&now)));
         content
     }
 
@@ -152,12 +157,18 @@ impl Reader {
     /// Adds the file's `user.*` extended attributes.
     pub fn add_extended(&self, path: &Path, content: &mut Content) {
         let (mut listed, mut sum): (Vec<u8>, u32) = (Vec::new(), 0);
-        for full in xattr::list(path).into_iter().flatten() {
+        let names = xattr::list(path);
+        // Some file systems have no extended attributes.
+        let has_failed = |error: &io::Error| error.raw_os_error() != Some(libc::ENOTSUP);
+        content.is_partial = names.as_ref().map_or_else(has_failed, |_| false);
+        for full in names.into_iter().flatten() {
             let name = match full.as_bytes().strip_prefix(b"user.") {
                 Some(name) => name,
                 None => continue,
             };
-            let extended = self.extended(path, &full, name);
+            let bytes = xattr::get(path, &full);
+            content.is_partial |= bytes.is_err();
+            let extended = bytes.ok().flatten().and_then(|bytes| self.extended(name, bytes));
             sum = extended.iter().map(sum_of).fold(sum, u32::wrapping_add);
             match extended {
                 Some((name, value)) if content.values.len() + 3 < MOST => {
@@ -179,12 +190,11 @@ impl Reader {
     }
 
     /// Converts an extended attribute to one that the store can hold, if possible.
-    fn extended(&self, path: &Path, full: &OsStr, name: &[u8]) -> Option<(String, Value)> {
+    fn extended(&self, name: &[u8], bytes: Vec<u8>) -> Option<(String, Value)> {
         let name = std::str::from_utf8(name).ok()?;
         if OWN.contains(&name) || name.is_empty() || name.len() > NAME_LENGTH {
             return None;
         }
-        let bytes = xattr::get(path, full).ok()??;
         let value = self.value_of(name, bytes)?;
         Some((name.into(), value))
     }

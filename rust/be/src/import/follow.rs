@@ -6,6 +6,7 @@ use super::walk::{is_of_a_store, Found, Walk, Walked};
 use super::Import;
 use crate::failure::{complain, Failure};
 use crate::output::Output;
+use crate::polling::poll;
 use inotify::{Event, EventMask, Inotify, WatchDescriptor, WatchMask};
 use std::collections::{BTreeMap, HashMap};
 use std::ffi::OsStr;
@@ -41,12 +42,21 @@ pub struct Watches {
     root: PathBuf,
 }
 
+/// What has happened at a path.
+#[derive(Clone, Copy, Debug, Default)]
+struct Change {
+    /// A file may have come or gone. If the path is a folder, everything below it must be read too.
+    is_named: bool,
+    /// The file itself may have changed, even if the file system reports the same time as when it was last read: the clock for these times
+    /// may tick only every 4 ms.
+    is_of_file: bool,
+}
+
 /// What has changed since the last write.
 #[derive(Debug, Default)]
 struct Dirty {
-    /// Paths where files were added, changed or removed. The value `true` means that if the path is a folder, everything below it must be
-    /// read too.
-    paths: BTreeMap<PathBuf, bool>,
+    /// Paths where files were added, changed or removed.
+    paths: BTreeMap<PathBuf, Change>,
     /// Whether events were lost, so that the whole folder must be read.
     lost: bool,
     /// Whether the imported folder itself is gone.
@@ -173,15 +183,8 @@ impl Watches {
     /// Waits up to the given time for events or for the server. Returns whether the server has sent something or closed the connection. A
     /// signal may end the wait early.
     fn wait_readable(&self, server: RawFd, within: Option<Duration>) -> bool {
-        let mut polled = [self.inotify.as_raw_fd(), server].map(|fd| libc::pollfd {
-            fd,
-            events: libc::POLLIN,
-            revents: 0,
-        });
-        let most = within.map_or(-1, |within| i32::try_from(within.as_millis()).unwrap_or(i32::MAX));
-        // SAFETY: poll accesses only these two entries.
-        let count = unsafe { libc::poll(polled.as_mut_ptr(), 2, most) };
-        count > 0 && polled[1].revents != 0
+        let [_, of_server] = poll([self.inotify.as_raw_fd(), server].map(|fd| (fd, libc::POLLIN)), within);
+        of_server != 0
     }
 
     /// Reads the available events, and returns whether there were any.
@@ -230,9 +233,12 @@ impl Dirty {
         let is_named = event.mask.intersects(names);
         if is_named {
             // This also changes the modification time of the folder.
-            self.paths.entry(folder.into()).or_insert(false);
+            self.paths.entry(folder.into()).or_default();
         }
-        *self.paths.entry(path).or_insert(false) |= is_named;
+        let changes = EventMask::MODIFY | EventMask::CLOSE_WRITE | EventMask::ATTRIB;
+        let change = self.paths.entry(path).or_default();
+        change.is_named |= is_named;
+        change.is_of_file |= event.mask.intersects(changes);
     }
 }
 
@@ -243,7 +249,7 @@ impl Import<'_> {
         again.scanned(is_refused);
         loop {
             let summary = match self.turn(&mut watches, &mut again) {
-                Err(failure) if failure.is_of_connection() => self.catch_up(&failure, &mut watches, &mut again)?,
+                Err(failure) if failure.is_passing() => self.catch_up(&failure, &mut watches, &mut again)?,
                 answer => answer?,
             };
             if self.line.verbose {
@@ -286,7 +292,7 @@ impl Import<'_> {
 
     /// Waits until the server is back, and writes what has changed in the meantime.
     fn catch_up(&mut self, failure: &Failure, watches: &mut Watches, again: &mut Again) -> Result<Summary, Failure> {
-        self.connect_again(failure)?;
+        self.connect_again(failure, AWAY.0)?;
         let summary = self.scan_until_done(watches, Self::scan)?;
         again.scanned(summary.is_worth_a_retry());
         Ok(summary)
@@ -298,23 +304,24 @@ impl Import<'_> {
         watches: &mut Watches,
         scan: fn(&mut Self, Option<&mut Watches>) -> Result<Summary, Failure>,
     ) -> Result<Summary, Failure> {
+        let mut pause = AWAY.0;
         loop {
             match scan(self, Some(watches)) {
-                Err(failure) if failure.is_of_connection() => self.connect_again(&failure)?,
+                Err(failure) if failure.is_passing() => self.connect_again(&failure, pause)?,
                 answer => return answer,
             }
+            pause = (2 * pause).min(AWAY.1);
         }
     }
 
-    /// Waits until the server is back, and loads what it knows about the folder.
-    fn connect_again(&mut self, failure: &Failure) -> Result<(), Failure> {
+    /// Waits until the server is back, for this long at first, and loads what it knows about the folder.
+    fn connect_again(&mut self, failure: &Failure, mut pause: Duration) -> Result<(), Failure> {
         complain(&format!("{failure}; waiting for the server"));
-        let (mut pause, longest) = AWAY;
         loop {
             thread::sleep(pause);
             self.look_for_folder(false)?;
             match Self::begin(self.connect, self.line, self.folder.clone()) {
-                Err(failure) if failure.is_of_connection() => pause = (2 * pause).min(longest),
+                Err(failure) if failure.is_passing() => pause = (2 * pause).min(AWAY.1),
                 again => {
                     *self = again?;
                     complain("the server is back");
@@ -337,9 +344,12 @@ impl Import<'_> {
             before: &mut before,
             device: self.device,
         };
-        for (path, is_named) in dirty.paths {
+        for (path, change) in dirty.paths {
+            if change.is_of_file {
+                seen.walked.changed.insert(path.clone());
+            }
             if !seen.has(&path) {
-                self.see(path, is_named, &mut walk, &mut seen);
+                self.see(path, change, &mut walk, &mut seen);
             }
         }
         match failed {
@@ -348,15 +358,22 @@ impl Import<'_> {
         }
     }
 
-    /// Reads what is at a path now. A new folder is read along with everything below it.
-    fn see(&mut self, path: PathBuf, is_named: bool, walk: &mut Walk<'_>, seen: &mut Seen) {
+    /// Reads what is at a path now. A new folder, and one that may be read again, is read along with everything below it.
+    fn see(&mut self, path: PathBuf, change: Change, walk: &mut Walk<'_>, seen: &mut Seen) {
         let there = fs::symlink_metadata(&path);
         let is_folder = there.as_ref().map_or(false, fs::Metadata::is_dir);
         let is_same_folder = there.as_ref().map_or(false, |about| self.is_same_folder(&path, about));
-        if is_same_folder || !(is_named || is_folder) {
+        // A change of its mode is a change of the folder itself.
+        let was_unread = change.is_of_file && self.take_unread(&path);
+        if is_same_folder && !was_unread || !(change.is_named || is_folder) {
             seen.known.extend(self.tree.files.remove_entry(&path));
-            let stat = there.ok().map(|about| (&about).into());
-            seen.walked.found.extend(stat.map(|stat| Found { path, stat }));
+            match there {
+                Ok(about) => seen.walked.found.push(Found {
+                    path,
+                    stat: (&about).into(),
+                }),
+                Err(error) => seen.walked.failed(&path, error),
+            }
             return;
         }
         seen.known.extend(self.tree.take_below(&path));
@@ -364,6 +381,16 @@ impl Import<'_> {
         seen.walked.found.extend(walked.found);
         seen.walked.unread.extend(walked.unread);
         seen.below = Some(path);
+    }
+
+    /// Returns whether something at this path or below couldn't be read when it was last found, and forgets it.
+    fn take_unread(&mut self, path: &Path) -> bool {
+        let range = self.unread.range(path.to_path_buf()..);
+        let below: Vec<PathBuf> = range.take_while(|it| it.starts_with(path)).cloned().collect();
+        for path in &below {
+            self.unread.remove(path);
+        }
+        !below.is_empty()
     }
 
     /// Returns whether the folder at this path is the same folder as before.

@@ -1,14 +1,14 @@
 //! What the store knows about the files in a folder.
 
 use super::content::STAT;
-use super::stat::Identity;
+use super::stat::{Identity, Stat};
 use crate::failure::Failure;
-use crate::paths::{each_named, Paths, Step, COLUMNS};
+use crate::paths::{each_node, value_of, Paths, Step, COLUMNS};
 use crate::server::pinned;
-use bestore_client::wire::Json;
 use bestore_client::Client;
 use bestore_types::Value;
 use std::collections::{BTreeMap, HashMap, HashSet};
+use std::fs;
 use std::path::{Path, PathBuf};
 
 /// A file that has a node.
@@ -37,6 +37,8 @@ pub struct Tree {
     pub doubles: Vec<(PathBuf, Known)>,
     /// Files whose folder no longer has a node.
     pub lost: Vec<Known>,
+    /// Whether the folder was imported at another path, from which it has been moved.
+    pub is_moved: bool,
 }
 
 impl Tree {
@@ -45,11 +47,11 @@ impl Tree {
         let columns: Vec<&str> = COLUMNS.into_iter().chain([STAT]).collect();
         let (steps, mut stats) = pinned(client, |client| {
             let (mut steps, mut stats) = (HashMap::new(), HashMap::new());
-            each_named(client, &columns, |node, row| {
+            each_node(client, &columns, |node, row| {
                 let value = |name: &str| value_of(&columns, row, name);
-                if let (Some(step), Some(Value::Text(stat))) = (Step::read(value), value(STAT)) {
+                if let Some((step, stat)) = Step::read(value).and_then(|step| with_stat(step, value(STAT))) {
                     steps.insert(node, step);
-                    stats.insert(node, stat.clone());
+                    stats.insert(node, stat);
                 }
             })?;
             Ok((steps, stats))
@@ -59,7 +61,11 @@ impl Tree {
     }
 
     fn of_steps(steps: &HashMap<u64, Step>, stats: HashMap<u64, String>, folder: &Path) -> Self {
-        let mut tree = Self::default();
+        let moved = moved_from(steps, &stats, folder);
+        let mut tree = Self {
+            is_moved: moved.is_some(),
+            ..Self::default()
+        };
         let mut paths = Paths::default();
         for (node, stat) in stats {
             let parent = steps.get(&node).and_then(|step| step.parent);
@@ -67,11 +73,15 @@ impl Tree {
             match paths.found(node, |node| {
                 Ok::<_, std::convert::Infallible>(steps.get(&node).cloned())
             }) {
-                Ok(Some(path)) if path.starts_with(folder) => {
-                    tree.add(path, known);
-                }
+                Ok(Some(path)) if path.starts_with(folder) => tree.add(path, known),
+                Ok(Some(path)) => match moved.as_deref().and_then(|moved| path.strip_prefix(moved).ok()) {
+                    // The folder's own node is recognised by its identity, like that of any folder that is renamed.
+                    Some(below) if below.as_os_str().is_empty() => tree.add(path, known),
+                    Some(below) => tree.add(folder.join(below), known),
+                    None => {}
+                },
                 Ok(None) => tree.lost.push(known),
-                _ => {}
+                Err(never) => match never {},
             }
         }
         tree
@@ -97,9 +107,25 @@ impl Tree {
     }
 }
 
-fn value_of<'a>(columns: &[&str], row: &'a [Option<Json>], name: &str) -> Option<&'a Value> {
-    let at = columns.iter().position(|column| *column == name)?;
-    row.get(at)?.as_ref().map(|Json(value)| value)
+/// Returns the path at which the folder was imported, if it has been moved since.
+fn moved_from(steps: &HashMap<u64, Step>, stats: &HashMap<u64, String>, folder: &Path) -> Option<PathBuf> {
+    let identity = |path: &Path| fs::symlink_metadata(path).ok().map(|about| Stat::from(&about).identity);
+    let own = identity(folder)?;
+    steps.iter().find_map(|(node, step)| {
+        let root = step.root.as_ref().filter(|root| *root != folder)?;
+        let was = Identity::read(stats.get(node)?)?;
+        (was == own && identity(root) != Some(own)).then(|| root.clone())
+    })
+}
+
+/// Returns the step and the state of a file's node, or `None` if the node isn't a file's. `FILE:stat` is written last, so a node lacks it
+/// if an import was cut off while it was creating the node. Such a file is recognised only by its path.
+fn with_stat(step: Step, stat: Option<&Value>) -> Option<(Step, String)> {
+    match stat {
+        Some(Value::Text(stat)) => Some((step, stat.clone())),
+        None if step.parent.is_some() || step.root.is_some() => Some((step, String::new())),
+        _ => None,
+    }
 }
 
 #[cfg(test)]

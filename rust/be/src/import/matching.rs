@@ -1,9 +1,11 @@
 //! Decides which node belongs to each file. A file keeps its node when it is changed, renamed or moved, so the attributes that users have
 //! set are preserved.
 
+use super::edit::More;
 use super::known::Known;
 use super::stat::Identity;
 use super::walk::Found;
+use std::cmp::Reverse;
 use std::collections::{HashMap, HashSet};
 use std::path::PathBuf;
 
@@ -56,7 +58,7 @@ impl Left {
     }
 
     /// Sorts the nodes at this file's path so that the one to keep comes first.
-    fn sort_at_path<E>(&mut self, found: &Found, has_more: &mut impl FnMut(u64) -> Result<bool, E>) -> Result<(), E> {
+    fn sort_at_path<E>(&mut self, found: &Found, more: &mut impl FnMut(u64) -> Result<More, E>) -> Result<(), E> {
         let several = match self.by_path.get(&found.path) {
             Some(nodes) if nodes.len() > 1 => nodes,
             _ => return Ok(()),
@@ -64,7 +66,7 @@ impl Left {
         let mut ranked = Vec::new();
         for node in several {
             let is_another = self.identity(*node) != Some(found.stat.identity);
-            ranked.push((!has_more(*node)?, is_another, *node));
+            ranked.push((Reverse(more(*node)?), is_another, *node));
         }
         ranked.sort_unstable();
         let sorted = ranked.into_iter().map(|(_, _, node)| node).collect();
@@ -83,27 +85,27 @@ impl Left {
     }
 }
 
-/// Assigns the nodes to the files. `has_more` returns whether a node has attributes that a user has set.
+/// Assigns the nodes to the files. `more` returns which attributes a node has besides those that every file has.
 ///
 /// 1. A file that is still at the same path keeps its node.
 /// 2. A file that is now at another path keeps its node too.
 /// 3. A different file at the same path takes over the node there, as when an editor has replaced the file.
 /// 4. Every other file has no node yet.
 ///
-/// If one file was moved onto another, rules 2 and 3 give different nodes. Rule 2 wins, unless a user has set attributes only on rule 3's
-/// node.
+/// If one file was moved onto another, rules 2 and 3 give different nodes. Rule 2 wins, unless rule 3's node has more. Attributes that a
+/// user has set count for more than those that come from extended attributes, because a program that replaces a file may have copied the
+/// latter.
 ///
-/// If several nodes have the same path, a node on which a user has set attributes comes first, then the same file's node, then
-/// the oldest.
+/// If several nodes have the same path, the node that has more comes first, then the same file's node, then the oldest.
 pub fn matched<E>(
     found: Vec<Found>,
     known: Vec<(PathBuf, Known)>,
-    mut has_more: impl FnMut(u64) -> Result<bool, E>,
+    mut more: impl FnMut(u64) -> Result<More, E>,
 ) -> Result<Matching, E> {
     let mut left = Left::new(known);
     let mut files: Vec<Matched> = found.into_iter().map(|found| Matched { found, known: None }).collect();
     for file in &mut files {
-        left.sort_at_path(&file.found, &mut has_more)?;
+        left.sort_at_path(&file.found, &mut more)?;
         match left.at_path(&file.found) {
             Some(node) if left.identity(node) == Some(file.found.stat.identity) => file.known = left.take(node),
             _ => {}
@@ -115,7 +117,7 @@ pub fn matched<E>(
             let replaced = left.at_path(&file.found);
             let replaced = replaced.filter(|there| left.identity(*there).map_or(true, |it| !elsewhere.contains(&it)));
             let node = match replaced {
-                Some(there) if has_more(there)? && !has_more(node)? => there,
+                Some(there) if more(there)? > more(node)? => there,
                 _ => node,
             };
             file.known = left.take(node);
@@ -187,10 +189,13 @@ mod tests {
             &self,
             found: &[(&str, &str)],
             known: &[(u64, &str, &str)],
-            more: &[u64],
+            more: &[(u64, More)],
         ) -> (Vec<Option<u64>>, Vec<u64>) {
-            let has_more = |node: u64| Ok::<_, ()>(more.contains(&node));
-            let matching = matched(self.found(found), self.known(known), has_more).unwrap();
+            let more = |node: u64| {
+                let of_node = more.iter().find(|(of, _)| *of == node);
+                Ok::<_, ()>(of_node.map_or(More::None, |(_, more)| *more))
+            };
+            let matching = matched(self.found(found), self.known(known), more).unwrap();
             let node = |file: &Matched| file.known.as_ref().map(|(_, known)| known.node);
             let mut gone: Vec<u64> = matching.gone.iter().map(|(_, known)| known.node).collect();
             gone.sort_unstable();
@@ -226,12 +231,23 @@ mod tests {
         let files = Files::new("onto");
         let known = [(1, "/new", "A"), (2, "/b", "B")];
         let found = [("/b", "A")];
-        assert_eq!(files.nodes(&found, &known, &[]), (vec![Some(1)], vec![2]));
-        assert_eq!(files.nodes(&found, &known, &[2]), (vec![Some(2)], vec![1]));
-        assert_eq!(files.nodes(&found, &known, &[1, 2]), (vec![Some(1)], vec![2]));
+        let (own, others) = ((vec![Some(1)], vec![2]), (vec![Some(2)], vec![1]));
+        for (of_own, of_other, stays) in [
+            (More::None, More::None, &own),
+            (More::None, More::Extended, &others),
+            (More::None, More::OfUser, &others),
+            (More::Extended, More::Extended, &own),
+            (More::Extended, More::OfUser, &others),
+            (More::OfUser, More::Extended, &own),
+            (More::OfUser, More::OfUser, &own),
+        ] {
+            let more = [(1, of_own), (2, of_other)];
+            assert_eq!(&files.nodes(&found, &known, &more), stays, "{more:?}");
+        }
         // The file that was there has moved elsewhere.
         let found = [("/b", "A"), ("/c", "B")];
-        assert_eq!(files.nodes(&found, &known, &[2]), (vec![Some(1), Some(2)], vec![]));
+        let more = [(2, More::OfUser)];
+        assert_eq!(files.nodes(&found, &known, &more), (vec![Some(1), Some(2)], vec![]));
     }
 
     #[test]
@@ -240,15 +256,24 @@ mod tests {
         for (first, second) in [("A", "old"), ("old", "A"), ("A", "A"), ("old", "older")] {
             let known = [(1, "/a", first), (2, "/a", second)];
             let own = if second == "A" && first != "A" { 2 } else { 1 };
-            for (more, stays) in [(&[][..], own), (&[1], 1), (&[2], 2), (&[1, 2], own)] {
+            let (one, two) = ((1, More::OfUser), (2, More::OfUser));
+            let extended = (3 - own, More::Extended);
+            for (more, stays) in [
+                (vec![], own),
+                (vec![one], 1),
+                (vec![two], 2),
+                (vec![one, two], own),
+                (vec![extended], 3 - own),
+                (vec![extended, (own, More::OfUser)], own),
+            ] {
                 let (nodes, gone) = (vec![Some(stays)], vec![3 - stays]);
                 assert_eq!(
-                    files.nodes(&[("/a", "A")], &known, more),
+                    files.nodes(&[("/a", "A")], &known, &more),
                     (nodes, gone),
                     "{known:?} {more:?}"
                 );
                 assert_eq!(
-                    files.nodes(&[], &known, more),
+                    files.nodes(&[], &known, &more),
                     (vec![], vec![1, 2]),
                     "{known:?} {more:?}"
                 );
@@ -256,9 +281,9 @@ mod tests {
         }
         // The file of one of these nodes is elsewhere.
         let known = [(1, "/a", "A"), (2, "/a", "B")];
-        for more in [&[][..], &[1], &[2]] {
+        for more in [vec![], vec![(1, More::OfUser)], vec![(2, More::OfUser)]] {
             let found = [("/a", "A"), ("/b", "B")];
-            assert_eq!(files.nodes(&found, &known, more), (vec![Some(1), Some(2)], vec![]));
+            assert_eq!(files.nodes(&found, &known, &more), (vec![Some(1), Some(2)], vec![]));
         }
     }
 

@@ -12,23 +12,24 @@ mod matching;
 pub mod stat;
 mod summary;
 mod types;
+mod unmounted;
 mod update;
 mod volume;
 mod walk;
 
 use crate::command_line::Import as Line;
-use crate::failure::{complain, Failure};
+use crate::failure::{complain, message, Failure};
 use crate::kind::kind_name;
 use crate::output::Output;
 use crate::server;
 use bestore_client::wire::kind_named;
-use bestore_client::{Client, ErrorName};
+use bestore_client::{Client, Error, ErrorName};
 use bestore_types::{Batch, Kind, Value};
 use content::{Reader, INDICES};
 use follow::Watches;
 use indicatif::{ProgressBar, ProgressStyle};
 use known::{Known, Tree};
-use std::collections::{BTreeMap, HashSet};
+use std::collections::{BTreeMap, BTreeSet, HashSet};
 use std::fs;
 use std::os::unix::ffi::OsStrExt;
 use std::os::unix::fs::MetadataExt;
@@ -62,6 +63,8 @@ pub struct Import<'a> {
     missing: Vec<(PathBuf, Known)>,
     /// Files that were missing twice in a row but whose nodes the store has refused to remove.
     unremoved: Vec<(PathBuf, Known)>,
+    /// Files and folders that couldn't be read when they were last found.
+    unread: BTreeSet<PathBuf>,
 }
 
 pub fn run(connect: Connect<'_>, line: &Line, output: &mut Output) -> Result<(), Failure> {
@@ -109,6 +112,7 @@ impl<'a> Import<'a> {
             },
             missing: Vec::new(),
             unremoved: Vec::new(),
+            unread: BTreeSet::new(),
             folder,
             connect,
             line,
@@ -159,15 +163,20 @@ impl<'a> Import<'a> {
             before: &mut before,
             device: self.device,
         };
-        let walked = walk.below(&self.folder);
+        let mut walked = walk.below(&self.folder);
         if walked.found.is_empty() {
             return Err(Failure::Gone(self.folder.clone()));
+        }
+        if std::mem::take(&mut self.tree.is_moved) {
+            // The store has the folder's earlier path.
+            walked.changed.insert(self.folder.clone());
         }
         progress.finish_and_clear();
         if let Some(failure) = failed {
             return Err(failure);
         }
         let known = std::mem::take(&mut self.tree.files).into_iter().collect();
+        self.unread.clear();
         self.update(walked, known)
     }
 
@@ -185,7 +194,7 @@ fn device_of(folder: &Path) -> Result<u64, Failure> {
     Ok(about.dev())
 }
 
-/// Creates the missing indices, and returns the kinds of all indices.
+/// Creates the missing indices and adds what is already in the store to them. Returns the kinds of all indices.
 fn make_indices(client: &mut Client) -> Result<BTreeMap<String, Kind>, Failure> {
     let kinds = |names: BTreeMap<String, String>| -> BTreeMap<String, Kind> {
         let kind = |(name, kind): (String, String)| kind_named(&kind).map(|kind| (name, kind));
@@ -195,8 +204,10 @@ fn make_indices(client: &mut Client) -> Result<BTreeMap<String, Kind>, Failure> 
     for (name, kind) in INDICES {
         match there.get(name) {
             None => match server::apply(client, Batch::new().make_index(name, kind)) {
-                Err(error) if !error.is(ErrorName::IndexExists) => return Err(error.into()),
-                _ => {}
+                Ok(()) => fill_index(client, name)?,
+                // Another import has created it.
+                Err(error) if error.is(ErrorName::IndexExists) => {}
+                Err(error) => return Err(error.into()),
             },
             Some(other) if *other != kind => complain(&format!(
                 "warning: the index {name} holds {}, so it omits each file's {}",
@@ -213,6 +224,20 @@ fn make_indices(client: &mut Client) -> Result<BTreeMap<String, Kind>, Failure> 
         ));
     }
     Ok(all)
+}
+
+/// Adds the attributes of existing nodes to a new index. Unchanged files aren't written again, so queries wouldn't find them if the index
+/// had been removed since they were imported.
+fn fill_index(client: &mut Client, name: &str) -> Result<(), Failure> {
+    match client.reindex(name) {
+        Ok(_) => {}
+        Err(error @ Error::Refused(_)) => complain(&format!(
+            "warning: the index {name} may lack earlier nodes, which be reindex {name} adds: {}",
+            message(&error)
+        )),
+        Err(error) => return Err(error.into()),
+    }
+    Ok(())
 }
 
 /// Shows a spinner and a count on a terminal.

@@ -67,6 +67,11 @@ impl Identity {
         };
         Some(Self { device, inode, birth })
     }
+
+    /// Returns whether the two files are on the same file system.
+    pub fn is_beside(&self, other: &Self) -> bool {
+        self.device == other.device
+    }
 }
 
 impl fmt::Display for Identity {
@@ -122,6 +127,13 @@ impl Stat {
     pub fn text(&self) -> String {
         let (seconds, nanoseconds) = self.change;
         format!("{}:{seconds}.{nanoseconds:09}", self.identity)
+    }
+
+    /// Returns whether two files were at a path when these reports about it were made. On some file systems, a file's inode number can
+    /// change, so more has to differ.
+    pub fn is_of_another(&self, other: &Self) -> bool {
+        let others = |stat: &Self| (stat.form, stat.size, stat.modified, stat.change);
+        self.identity != other.identity && others(self) != others(other)
     }
 }
 

@@ -3,29 +3,21 @@
 use super::content::{NAME_LENGTH, VALUE};
 use super::walk::Unread;
 use crate::command_line::Import as Line;
-use crate::failure::{complain, message, Failure};
+use crate::failure::{complain, is_passing, message, Failure};
 use crate::output::Output;
 use crate::text::escaped;
-use bestore_client::{Error, ErrorName};
+use bestore_client::Error;
 use serde::Serialize;
 use std::path::{Path, PathBuf};
 
 /// The maximum number of pages in a store.
 const MOST_PAGES: u64 = 16_384;
 
+/// The maximum number of volumes of a server.
+const MOST_VOLUMES: u64 = 64;
+
 /// The maximum number of paths to print for each problem.
 const SHOWN: usize = 10;
-
-/// Server errors after which the same write may succeed if retried later.
-const PASSING: [ErrorName; 7] = [
-    ErrorName::Full,
-    ErrorName::Busy,
-    ErrorName::Conflict,
-    ErrorName::OutOfMemory,
-    ErrorName::NotSaved,
-    ErrorName::Stopped,
-    ErrorName::NotLeader,
-];
 
 /// What happened to a file.
 #[derive(Clone, Copy, Debug, PartialEq, Eq)]
@@ -72,7 +64,7 @@ pub struct Summary {
     /// The files for which the store refused a change, or to which an attribute couldn't be written, with the reasons.
     #[serde(serialize_with = "count")]
     pub refused: Vec<(PathBuf, String)>,
-    /// Whether the store may later accept what it has refused.
+    /// Whether the folder should be read again later, because the store may then accept what it has refused, or because it has lost nodes.
     #[serde(skip)]
     is_passing: bool,
     #[serde(skip)]
@@ -96,11 +88,16 @@ impl Summary {
 
     /// Records that the store has refused a change for a file.
     pub fn refuse(&mut self, path: PathBuf, error: &Error) {
-        self.is_passing |= error.refusal().map_or(false, |refusal| PASSING.contains(&refusal.name));
+        self.is_passing |= is_passing(error);
         self.refused.push((path, message(error)));
     }
 
-    /// Returns whether the store may later accept what it has refused.
+    /// Records that another program has removed a file's node, so that the store differs from what this program assumes.
+    pub fn miss(&mut self) {
+        self.is_passing = true;
+    }
+
+    /// Returns whether reading the folder again later may get more into the store.
     pub fn is_worth_a_retry(&self) -> bool {
         self.is_passing || self.left > 0
     }
@@ -194,6 +191,10 @@ fn what_helps(files: usize, left: usize, pages: u64, used: u64, volumes: u64) ->
         ),
         (false, _) => {
             let volumes = (needed + MOST_PAGES - 1) / MOST_PAGES;
+            if volumes > MOST_VOLUMES {
+                let largest = format!("bestored --volumes {MOST_VOLUMES} --pages {MOST_PAGES}");
+                return format!("even the largest server, {largest}, doesn't have room for all");
+            }
             format!("--volumes {volumes} --pages {MOST_PAGES}")
         }
     };
@@ -225,5 +226,11 @@ mod tests {
         check(100, 100, 1024, 1000, 4, "--volumes 4 --pages 1024");
         check(14_000, 46_000, 16_384, 16_000, 1, "--volumes 5 --pages 16384");
         check(0, 5, 8, 8, 1, "--pages 64");
+        check(13_000, 740_000, 16_384, 16_384, 1, "--volumes 64 --pages 16384");
+        let said = what_helps(13_000, 760_000, 16_384, 16_384, 1);
+        assert_eq!(
+            said,
+            "even the largest server, bestored --volumes 64 --pages 16384, doesn't have room for all"
+        );
     }
 }

@@ -1,7 +1,7 @@
 //! Updates the store to match the files that were found.
 
 use super::content::{Content, Reader};
-use super::edit::{between, has_more, place, Edits};
+use super::edit::{between, keep_extended, place, Edit, Edits, More, OPERATIONS};
 use super::known::Known;
 use super::matching::{matched, Matched, Matching};
 use super::stat::Form;
@@ -19,8 +19,8 @@ use std::thread;
 /// How many files are read and written at a time.
 const SLICE: usize = 8_192;
 
-/// The maximum number of operations in a batch.
-const OPERATIONS: usize = 64;
+/// Why a file isn't written if its folder isn't either.
+const NO_FOLDER: &str = "the folder that contains it has no node";
 
 /// Approximately how many entries of the store's trees fit on a page.
 const ENTRIES: u64 = 8;
@@ -29,7 +29,7 @@ impl Import<'_> {
     /// Writes what was found. If a known file wasn't found, its node is removed only if that happens twice in a row, because a file that is
     /// moved while folders are being read can be missed once at both of its paths.
     pub fn update(&mut self, walked: Walked, known: Vec<(PathBuf, Known)>) -> Result<Summary, Failure> {
-        let Walked { found, unread } = walked;
+        let (found, mut unread) = (walked.found, walked.unread);
         self.refuse_another(&found, &known)?;
         let lost = std::mem::take(&mut self.tree.lost);
         let lost_nodes: Vec<u64> = lost.iter().map(|known| known.node).collect();
@@ -41,16 +41,18 @@ impl Import<'_> {
         let known = lost.chain(missing).chain(doubles).chain(known).collect();
         let client = &mut self.client;
         let Matching { files, mut gone } = matched(found, known, |node| match client.attributes(node) {
-            Err(error) if error.is(ErrorName::NoNode) => Ok(false),
-            answer => answer.map(|attributes| has_more(&attributes)),
+            Err(error) if error.is(ErrorName::NoNode) => Ok(More::None),
+            answer => answer.map(|attributes| More::of(&attributes)),
         })?;
         gone.retain(|(_, known)| !lost_nodes.contains(&known.node));
+        let files = self.without_unmounted(files, &gone, &mut unread);
         let mut summary = Summary::default();
         self.remove(gone, &missed, &unread, &mut summary)?;
+        self.unread.extend(unread.iter().map(|it| it.path.clone()));
         summary.unread = unread;
 
         let (new, there): (Vec<Matched>, Vec<Matched>) = files.into_iter().partition(|file| file.known.is_none());
-        let changed = self.keep_unchanged(there);
+        let changed = self.keep_unchanged(there, &walked.changed);
         let new: Vec<Found> = new.into_iter().map(|file| file.found).collect();
         let (folders, files): (Vec<Found>, Vec<Found>) =
             new.into_iter().partition(|found| found.stat.form == Form::Folder);
@@ -94,8 +96,8 @@ impl Import<'_> {
         Ok(())
     }
 
-    /// Adds the files that have nodes to the tree, and returns those that differ from the store.
-    fn keep_unchanged(&mut self, files: Vec<Matched>) -> Vec<Matched> {
+    /// Adds the files that have nodes to the tree, and returns those that differ from the store or may have changed at these paths.
+    fn keep_unchanged(&mut self, files: Vec<Matched>, paths: &HashSet<PathBuf>) -> Vec<Matched> {
         let mut nodes: HashMap<PathBuf, u64> = HashMap::new();
         for file in &files {
             if let Some((_, known)) = &file.known {
@@ -119,6 +121,7 @@ impl Import<'_> {
                 && known.stat == file.found.stat.text()
                 && known.parent == parent
                 && was.file_name() == file.found.path.file_name()
+                && !paths.contains(&file.found.path)
                 && !self.line.reread;
             self.tree.files.insert(file.found.path.clone(), known.clone());
             if !is_same {
@@ -169,29 +172,23 @@ impl Import<'_> {
         let progress = bar("changed files", files.len());
         for files in slices(files) {
             let found: Vec<&Found> = files.iter().map(|file| &file.found).collect();
-            let mut contents = read(&self.reader, &found);
+            let (contents, count) = (read(&self.reader, &found), files.len());
+            let pairs = files.into_iter().zip(contents);
+            // What has been moved or replaced meanwhile is left to the next import.
+            let (files, contents): (Vec<Matched>, Vec<Content>) =
+                pairs.filter(|(_, content)| !content.is_stale).unzip();
             let (mut all, mut fates) = (Vec::new(), Vec::new());
-            for (file, content) in files.iter().zip(&mut contents) {
-                summary.xattrs_left += content.left_out;
+            for (file, content) in files.iter().zip(contents) {
                 let (was, known) = match &file.known {
                     Some(known) => known,
                     None => continue,
                 };
-                self.place(&file.found.path, Some(known), content);
-                let had = match self.client.attributes(known.node) {
-                    Err(error) if error.is(ErrorName::NoNode) => continue,
-                    answer => answer?,
-                };
-                let edits = between(&had, &content.values);
+                let edits = self.edits_of(&file.found, known, content, summary)?;
                 let path = file.found.path.clone();
                 if !edits.is_empty() {
                     let fate = if *was == path { Fate::Changed } else { Fate::Renamed };
                     fates.push((fate, path.clone()));
-                    all.extend(edits.chunks(OPERATIONS).map(|edits| Edits {
-                        path: path.clone(),
-                        node: known.node,
-                        edits: edits.to_vec(),
-                    }));
+                    all.extend(Edits::parts(&path, known.node, &edits));
                 }
             }
             let refused = self.write(&all, summary)?;
@@ -199,10 +196,34 @@ impl Import<'_> {
             written.for_each(|(fate, path)| summary.add(fate, path));
             let kept = files.iter().filter(|file| !refused.contains(&file.found.path));
             kept.for_each(|file| self.keep(&file.found));
-            progress.inc(files.len() as u64);
+            progress.inc(count as u64);
         }
         progress.finish_and_clear();
         Ok(())
+    }
+
+    /// Returns the changes that turn the attributes of a file's node into those that were read.
+    fn edits_of(
+        &mut self,
+        found: &Found,
+        known: &Known,
+        mut content: Content,
+        summary: &mut Summary,
+    ) -> Result<Vec<Edit>, Failure> {
+        summary.xattrs_left += content.left_out;
+        self.place(&found.path, Some(known), &mut content);
+        let had = match self.client.attributes(known.node) {
+            Err(error) if error.is(ErrorName::NoNode) => {
+                self.forget(&found.path, known.node, summary);
+                return Ok(Vec::new());
+            }
+            answer => answer?,
+        };
+        if content.is_partial {
+            keep_extended(&had, &mut content.values);
+        }
+        let is_replaced = known.identity() != Some(found.stat.identity);
+        Ok(between(&had, &content.values, is_replaced))
     }
 
     /// Records what the store now knows about a file.
@@ -251,8 +272,7 @@ impl Import<'_> {
             let mut batch = Batch::new();
             edit.add_to(&mut batch);
             match self.write_batch(batch) {
-                // Another program has removed the node. If the file still exists, the next import creates a new node.
-                Err(error) if error.is(ErrorName::NoNode) => self.forget(edit),
+                Err(error) if error.is(ErrorName::NoNode) => self.forget(&edit.path, edit.node, summary),
                 Err(error @ Error::Refused(_)) => {
                     summary.refuse(edit.path.clone(), &error);
                     refused.push(edit.path.clone());
@@ -263,10 +283,12 @@ impl Import<'_> {
         Ok(refused)
     }
 
-    /// Removes a file from the tree if its node is gone, unless it has another node there.
-    fn forget(&mut self, edits: &Edits) {
-        if self.node_at(&edits.path) == Some(edits.node) {
-            self.tree.files.remove(&edits.path);
+    /// Removes a file from the tree because another program has removed its node, unless the file has another node there. If the file still
+    /// exists, the next import creates a new node.
+    fn forget(&mut self, path: &Path, node: u64, summary: &mut Summary) {
+        if self.node_at(path) == Some(node) {
+            self.tree.files.remove(path);
+            summary.miss();
         }
     }
 
@@ -283,13 +305,19 @@ impl Import<'_> {
             let contents = read(&self.reader, &found);
             let mut new = Vec::new();
             for (found, mut content) in files.iter().zip(contents) {
+                // A folder gets its node all the same, because its contents may already be there again.
+                if content.is_stale && found.stat.form != Form::Folder {
+                    continue;
+                }
                 match self.place(&found.path, None, &mut content) {
                     true => {
                         summary.xattrs_left += content.left_out;
                         let (path, values) = (found.path.clone(), content.values);
                         new.push(New { path, values });
                     }
-                    false => summary.left += 1,
+                    false if self.volumes.iter().all(|volume| volume.is_full) => summary.left += 1,
+                    // The folder's node was refused, or another program has removed it.
+                    false => summary.refused.push((found.path.clone(), NO_FOLDER.into())),
                 }
             }
             let stats: HashMap<&Path, String> = files.iter().map(|it| (it.path.as_path(), it.stat.text())).collect();

@@ -30,6 +30,8 @@ pub struct Unread {
 pub struct Walked {
     pub found: Vec<Found>,
     pub unread: Vec<Unread>,
+    /// Paths at which the file must be read even if its state is the one in the store.
+    pub changed: HashSet<PathBuf>,
 }
 
 /// Returns whether a file belongs to a kept store, including the files that SQLite puts next to it. Such files are left out, because
@@ -120,9 +122,9 @@ impl Walked {
         }
     }
 
-    /// Records why a file can't be read, unless the file is gone.
-    fn failed(&mut self, path: &Path, error: io::Error) {
-        if error.kind() != ErrorKind::NotFound {
+    /// Records why a file can't be read, unless the file is gone, or its folder has become a file.
+    pub fn failed(&mut self, path: &Path, error: io::Error) {
+        if error.kind() != ErrorKind::NotFound && error.raw_os_error() != Some(libc::ENOTDIR) {
             self.unread.push(Unread {
                 path: path.into(),
                 error,
@@ -134,6 +136,16 @@ impl Walked {
 #[cfg(test)]
 mod tests {
     use super::*;
+
+    #[test]
+    fn a_folder_that_has_become_a_file_is_not_said_to_be_unreadable() {
+        let mut walked = Walked::default();
+        for number in [libc::ENOENT, libc::ENOTDIR, libc::EACCES] {
+            walked.failed(Path::new("/a"), io::Error::from_raw_os_error(number));
+        }
+        let unread: Vec<_> = walked.unread.iter().map(|it| it.error.raw_os_error()).collect();
+        assert_eq!(unread, [Some(libc::EACCES)]);
+    }
 
     #[test]
     fn a_file_that_is_found_twice_counts_as_it_was_last() {

@@ -6,6 +6,7 @@ use std::ffi::OsStr;
 use std::fs;
 use std::os::unix::ffi::{OsStrExt, OsStringExt};
 use std::path::{Path, PathBuf};
+use std::process::{Command, Stdio};
 use std::sync::atomic::{AtomicU32, Ordering};
 
 /// A folder that is removed at the end of the test.
@@ -78,6 +79,25 @@ impl Drop for Folder {
     }
 }
 
+/// An in-memory file system mounted over a folder.
+pub struct Mount(PathBuf);
+
+impl Mount {
+    /// Mounts the file system, if this user is allowed to.
+    pub fn over(folder: &Path) -> Option<Self> {
+        let mut command = Command::new("mount");
+        command.args(["-t", "tmpfs", "tmpfs"]).arg(folder).stderr(Stdio::null());
+        let is_mounted = command.status().map_or(false, |status| status.success());
+        is_mounted.then(|| Self(folder.into()))
+    }
+}
+
+impl Drop for Mount {
+    fn drop(&mut self) {
+        let _ = Command::new("umount").arg("-l").arg(&self.0).status();
+    }
+}
+
 impl Server {
     /// Imports a folder, and returns the counts: new, changed, renamed, removed.
     pub fn import(&self, folder: &Folder) -> [u64; 4] {
@@ -145,6 +165,23 @@ impl Server {
 pub fn counts(json: &str) -> [u64; 4] {
     let read: serde_json::Value = serde_json::from_str(json).unwrap();
     ["new", "changed", "renamed", "removed"].map(|name| read[name].as_u64().unwrap())
+}
+
+/// Creates a folder with a few files.
+pub fn small() -> Folder {
+    let folder = Folder::new();
+    folder.folder("a/b");
+    folder.file("a/x.txt", "hello");
+    folder.file("a/b/y.h", "int y;");
+    folder.file("z", "no extension\n");
+    folder
+}
+
+/// Returns the number of a file's node.
+pub fn node_of(server: &Server, folder: &Folder, name: &str) -> u64 {
+    let printed = server.done(&["listattr", "--json", &folder.word(name)]);
+    let read: serde_json::Value = serde_json::from_str(&printed).unwrap();
+    read["node"].as_u64().unwrap()
 }
 
 /// Returns a name that isn't UTF-8.

@@ -26,6 +26,9 @@ macro_rules! server {
     };
 }
 
+/// A user who is neither root nor the user running the tests.
+pub const NOBODY: u32 = 65_534;
+
 /// The tool.
 pub const BE: &str = env!("CARGO_BIN_EXE_be");
 
