@@ -18,7 +18,6 @@ import argparse
 import importlib
 import os
 import random
-import shutil
 import sqlite3
 import struct
 import sys
@@ -183,8 +182,8 @@ class Lmdb(Peer):
 
     def __init__(self, nodes: int) -> None:
         lmdb: Any = importlib.import_module("lmdb")
-        self._folder = tempfile.mkdtemp(dir="/dev/shm" if os.path.isdir("/dev/shm") else None)
-        self._environment = lmdb.open(self._folder, map_size=1 << 30, max_dbs=3, sync=False, writemap=True)
+        self._folder = tempfile.TemporaryDirectory(dir="/dev/shm" if os.path.isdir("/dev/shm") else None)
+        self._environment = lmdb.open(self._folder.name, map_size=1 << 30, max_dbs=3, sync=False, writemap=True)
         self._nodes = self._environment.open_db(b"nodes")
         self._names, self._sizes = (self._environment.open_db(key, dupsort=True) for key in (b"names", b"sizes"))
         with self._environment.begin(write=True) as writing:
@@ -268,7 +267,7 @@ class Lmdb(Peer):
 
     def close(self) -> None:
         self._environment.close()
-        shutil.rmtree(self._folder)
+        self._folder.cleanup()
 
 
 class Sqlite(Peer):

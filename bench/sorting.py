@@ -96,8 +96,11 @@ class Server:
         self._folder = Path(tempfile.mkdtemp(prefix="bestore-sorting-"))
         self.place, self._programs = str(self._folder / "socket"), programs
         words = [str(programs / "bestored"), "--socket", self.place, "--pages", "16384", "--volumes", str(volumes)]
-        self.process = subprocess.Popen(words, stderr=subprocess.DEVNULL)
-        while not os.path.exists(self.place) and self.process.poll() is None:
+        self.process = subprocess.Popen(words)
+        while not os.path.exists(self.place):
+            if self.process.poll() is not None:
+                shutil.rmtree(self._folder)
+                sys.exit(f"{words[0]} ended with status {self.process.returncode}")
             time.sleep(0.01)
 
     def __enter__(self) -> Server:

@@ -185,6 +185,11 @@ build -O2 ../examples/c/counter.c -o "$work/counter"
 "$work/mailbox" "$work/broken.mbox" 'MAIL:from=="*"' 'MAIL:subject=="?" || MAIL:subject=="??"' 'MAIL:subject=="no end"' \
     'MAIL:subject=="0*0" && MAIL:from=="B?b"' 'MAIL:subject==again1 && MAIL:from==first' 'MAIL:from==" zero"' >"$work/said"
 sed -n '/^  /!s/.*: //p' "$work/said" | tr '\n' ' ' | cmp - <(printf '3 3 1 1 1 1 1 ')
+if "$work/mailbox" "$work/missing.mbox" 'MAIL:from=="*"' 2>"$work/warned" || ! grep -q "missing.mbox: No such file" "$work/warned"; then
+    cat "$work/warned" >&2
+    echo "mailbox: a missing file isn't reported" >&2
+    exit 1
+fi
 # When the store is full, reading stops, and the mails read so far can be found.
 awk 'BEGIN { for (i = 0; i < 6000; i++) printf "From x\nFrom: ann%d\nTo: bob%d\nSubject: Letter %d\nDate: Mon, 3 Mar 2025 09:12:00 +0000\n\nText\n", i, i, i }' \
     >"$work/many.mbox"
@@ -212,7 +217,7 @@ if [ -n "$has_cpp" ]; then
     : >"$work/files/"$'bad\xff\xc3.txt' >"$work/files/[draft].txt"
     "$work/catalogue" "$work/files" 'name=="bad*"' 'name==\[draft].txt' 'size>1.5' 2>"$work/warned" |
         cmp - <(printf '4 files\nname=="bad*": 1\n  bad??.txt 0\nname==\\[draft].txt: 1\n  [draft].txt 0\nsize>1.5: 0\n')
-    grep -q "1.5 is none" "$work/warned"
+    grep -qx "size is a whole number in every file, and 1.5 isn't one, so the comparison is never true" "$work/warned"
     echo "examples in C++: ok"
 fi
 

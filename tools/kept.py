@@ -12,6 +12,10 @@ from pathlib import Path
 from typing import Callable, Iterable
 
 
+# How many files `keep_file` keeps of a kind.
+FILES = 8
+
+
 def folder() -> Path:
     """Returns the folder, which may not exist yet."""
     cache = Path(os.environ.get("XDG_CACHE_HOME") or Path.home() / ".cache")
@@ -53,12 +57,15 @@ def keep(what: str, sum_of_all: str, text: str = "") -> None:
 
 
 def keep_file(what: str, sum_of_all: str, file: Path) -> None:
-    """Keeps a copy of a file. If the folder can't be made or written, nothing is kept."""
+    """Keeps a copy of a file, and removes the oldest of its kind. If the folder can't be made or written, nothing is kept."""
     try:
         place = folder() / what
         place.mkdir(parents=True, exist_ok=True)
         with tempfile.TemporaryDirectory(dir=place) as room:
             shutil.copyfile(file, Path(room, "copy"))
             os.replace(Path(room, "copy"), place / sum_of_all)
+        there = sorted((it for it in place.iterdir() if it.is_file()), key=lambda it: it.stat().st_mtime_ns)
+        for it in there[:-FILES]:
+            it.unlink()
     except OSError:
         pass

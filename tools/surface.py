@@ -26,6 +26,7 @@ BINDINGS = "rust/bestore-sys/src/lib.rs"
 ABI = "c/abi/libbestore.so.0.c"
 MANUAL = "docs/bestore.3"
 END = re.compile(r"^[^\w\n]*surface\.toml: end[^\w\n]*$", re.M)
+VERSION = re.compile(r"^/\* Version ([\d.]+)\. \*/$", re.M)
 
 
 def with_region(path: str, text: str, name: str, body: str) -> str:
@@ -96,6 +97,25 @@ def described(surface: Surface) -> dict[str, str]:
     return dict(rows)
 
 
+def versions_in(text: str) -> dict[str, str]:
+    """Returns the versions under which the description of the ABI has its calls and helpers, by name."""
+    parts = VERSION.split(text)
+    return {name: version for version, part in zip(parts[1::2], parts[2::2])
+            for name in re.findall(r"^(?:CALL\(|HELPER\([^,]*, )(bes_\w+)", part, re.M)}
+
+
+def lines_under_versions(text: str, lines: dict[str, str], versions: dict[str, str]) -> list[str]:
+    """Returns the lines that the description of the ABI lacks, by the version of what they describe. A heading comes before the first
+    line of a version, except for the version with which the description ends."""
+    last, added = VERSION.findall(text)[-1], []
+    for name in sorted(lines, key=lambda it: numbers_of(versions[it])):
+        if versions[name] != last:
+            last = versions[name]
+            added += ["", f"/* Version {last}. */"]
+        added.append(lines[name])
+    return added
+
+
 def with_abi(surface: Surface, text: str, calls: dict[str, str], helpers: dict[str, str]) -> str:
     """Returns the description of the ABI, with a line added for each number, call and helper that it lacks."""
     numbers = dict(re.findall(r"^NUMBER\((\w+), (\w+)\)", text, re.M))
@@ -105,12 +125,16 @@ def with_abi(surface: Surface, text: str, calls: dict[str, str], helpers: dict[s
             raise Wrong(f"{ABI} has {name}, and surface.toml doesn't: programs have it, so it has to stay")
         if wanted[name] != number:
             raise Wrong(f"{ABI} has {name} = {number}, and surface.toml {wanted[name]}: programs have {number}, so it has to stay")
-    has = set(re.findall(r"^(?:CALL\(|HELPER\([^,]*, )(bes_\w+)", text, re.M))
+    has, versions = versions_in(text), surface.versions
+    for name, version in sorted(has.items()):
+        if name not in versions:
+            raise Wrong(f"{ABI} has {name}, and surface.toml doesn't export it: programs call it, so it has to stay")
+        if versions[name] != version:
+            raise Wrong(f"{ABI} has {name} under version {version}, and surface.toml under {versions[name]}: packages that call it would "
+                        "accept an earlier library")
     added = [f"NUMBER({name}, {number})" for name, number in wanted.items() if name not in numbers]
-    added += [f"CALL({name}, {calls[name]})" for name in surface.calls if name not in has]
-    added += [helpers[name] for name in surface.all_helpers if name not in has]
-    for name in sorted(has - {*surface.calls, *surface.all_helpers}):
-        raise Wrong(f"{ABI} has {name}, and surface.toml doesn't export it: programs call it, so it has to stay")
+    lines = {**{name: f"CALL({name}, {calls[name]})" for name in surface.calls}, **helpers}
+    added += lines_under_versions(text, {name: line for name, line in lines.items() if name not in has}, versions)
     return text.replace("\nint main(void)", "".join(f"{line}\n" for line in added) + "\nint main(void)")
 
 

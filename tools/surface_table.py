@@ -167,6 +167,12 @@ class Surface:
         """The library's helpers, which are plain C."""
         return [call for calls in self.helpers.values() for call in calls]
 
+    @property
+    def versions(self) -> dict[str, str]:
+        """The versions that brought the calls and helpers, by name."""
+        tables = [*self.exports.items(), *self.helpers.items()]
+        return {call: version for version, calls in tables for call in calls}
+
 
 Row = TypeVar("Row", Class, Kind, Fault, ServerFault, Numbered)
 

@@ -18,6 +18,8 @@ import tempfile
 from collections.abc import Iterator
 from dataclasses import dataclass
 
+from running import run_program
+
 # A first-level cache of 32 KB and a last-level cache of 1 MB on every machine, so that counts from different machines can be compared.
 OPTIONS = ["--tool=callgrind", "--cache-sim=yes", "--I1=32768,8,64", "--D1=32768,8,64", "--LL=1048576,16,64", "--combine-dumps=no",
            "--dump-before=clock_gettime*", "--dump-before=write", "--dump-instr=yes", "--compress-pos=no",
@@ -58,7 +60,7 @@ def count_cases(words: list[str]) -> dict[str, Counts]:
 
 
 def _run(words: list[str], folder: str) -> list[str]:
-    ended = subprocess.run(["valgrind", *OPTIONS, f"--callgrind-out-file={folder}/part", *words], capture_output=True, text=True)
+    ended = run_program(["valgrind", *OPTIONS, f"--callgrind-out-file={folder}/part", *words], stderr=subprocess.PIPE)
     if ended.returncode != 0:
         sys.exit(f"{ended.stderr}{' '.join(words)} has ended under callgrind with status {ended.returncode}")
     return ended.stdout.splitlines()

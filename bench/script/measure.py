@@ -2,12 +2,12 @@
 from __future__ import annotations
 
 import os
-import subprocess
 import sys
 from collections import defaultdict
 from collections.abc import Iterable
 
 from peers import NODES, PEERS, SIZES, TITLES, Peer, Workload, single_workloads
+from running import run_program
 
 Said = list[tuple[str, float]]
 
@@ -132,7 +132,7 @@ def stop_on_other_answers(results: Results) -> None:
 
 def run(words: list[str]) -> Said:
     """Runs a program, and returns the cases and values that it prints."""
-    ended = subprocess.run(words, stdout=subprocess.PIPE, text=True)
+    ended = run_program(words)
     if ended.returncode != 0:
         sys.exit(f"{' '.join(words)} has ended with status {ended.returncode}")
     return values_in(ended.stdout.splitlines())

@@ -218,11 +218,28 @@ SIZE(bes_cursor, 272)
 FIELD(bes_cursor, kind, 0, uint32_t)
 FIELD(bes_cursor, length, 4, uint32_t)
 _Static_assert(offsetof(bes_cursor, key) == 8, "the place of bes_cursor.key");
+
+/* Version 0.5.0. */
+SIZE(bes_compared, 88)
+FIELD(bes_compared, at, 0, uint64_t)
+FIELD(bes_compared, end, 8, uint64_t)
+FIELD(bes_compared, name_at, 16, uint64_t)
+FIELD(bes_compared, name_end, 24, uint64_t)
+FIELD(bes_compared, value_at, 32, uint64_t)
+FIELD(bes_compared, value_end, 40, uint64_t)
+FIELD(bes_compared, plain_name_at, 48, uint64_t)
+FIELD(bes_compared, plain_value_at, 56, uint64_t)
+FIELD(bes_compared, plain_end, 64, uint64_t)
+FIELD(bes_compared, kind, 72, uint32_t)
+FIELD(bes_compared, kind_in_text, 76, uint32_t)
+FIELD(bes_compared, form, 80, uint32_t)
+FIELD(bes_compared, is_never_int32, 84, bool)
+FIELD(bes_compared, is_never_int64, 85, bool)
+FIELD(bes_compared, is_never_uint32, 86, bool)
+FIELD(bes_compared, is_never_uint64, 87, bool)
 CALL(bes_query_comparisons, const uint8_t *, size_t, bes_counts *, bes_compared *, size_t, uint8_t *, size_t, uint64_t *)
 CALL(bes_escape_bytes, const uint8_t *, size_t, uint8_t *, size_t, uint64_t *)
 CALL(bes_any_case_bytes, const uint8_t *, size_t, uint8_t *, size_t, uint64_t *)
-
-/* Version 0.5.0. */
 NUMBER(BES_WRONG_KIND, 80)
 
 SIZE(bes_draft, 16)
@@ -275,22 +292,3 @@ int main(void)
 {
     return 0;
 }
-
-/* Version 0.5.0. */
-SIZE(bes_compared, 88)
-FIELD(bes_compared, at, 0, uint64_t)
-FIELD(bes_compared, end, 8, uint64_t)
-FIELD(bes_compared, name_at, 16, uint64_t)
-FIELD(bes_compared, name_end, 24, uint64_t)
-FIELD(bes_compared, value_at, 32, uint64_t)
-FIELD(bes_compared, value_end, 40, uint64_t)
-FIELD(bes_compared, plain_name_at, 48, uint64_t)
-FIELD(bes_compared, plain_value_at, 56, uint64_t)
-FIELD(bes_compared, plain_end, 64, uint64_t)
-FIELD(bes_compared, kind, 72, uint32_t)
-FIELD(bes_compared, kind_in_text, 76, uint32_t)
-FIELD(bes_compared, form, 80, uint32_t)
-FIELD(bes_compared, is_never_int32, 84, bool)
-FIELD(bes_compared, is_never_int64, 85, bool)
-FIELD(bes_compared, is_never_uint32, 86, bool)
-FIELD(bes_compared, is_never_uint64, 87, bool)

@@ -84,8 +84,8 @@ bool print(bestore::Pin &pin, const char *query)
         return false;
     }
     for (const auto &comparison : pin.never_true(bestore::Prepared(query)))
-        std::fprintf(stderr, "%s is a number in each file, and %s is none: the comparison is never true\n", comparison.name.c_str(),
-                     comparison.value.c_str());
+        std::fprintf(stderr, "%s is a whole number in every file, and %s isn't one, so the comparison is never true\n",
+                     comparison.name.c_str(), comparison.value.c_str());
     return true;
 }
 

@@ -195,9 +195,13 @@ int main(int argc, char **argv)
     uint64_t mails = 0, number = TEXTS + 1;
     uint32_t error;
     FILE *file = argc > 2 ? fopen(argv[1], "r") : NULL;
-    if (!file) {
+    if (argc <= 2) {
         fprintf(stderr, "mailbox FILE QUERY..\n");
         return 2;
+    }
+    if (!file) {
+        perror(argv[1]);
+        return 1;
     }
     open_store(&pass, &watch.pass);
     if (pthread_create(&running, NULL, watcher, &watch) != 0)

@@ -4,6 +4,9 @@ use std::env;
 use std::path::{Path, PathBuf};
 use std::process::exit;
 
+/// The lowest version of the library that has all the calls that this crate declares.
+const LOWEST: &str = env!("CARGO_PKG_VERSION");
+
 fn main() {
     println!("cargo:rerun-if-env-changed=BESTORE_LIB_DIR");
     println!("cargo:rerun-if-env-changed=BESTORE_STATIC");
@@ -36,10 +39,10 @@ fn link_from(folder: &Path) {
 }
 
 fn link_by_pkg_config() {
-    let found = pkg_config::Config::new().atleast_version("0.4.0").probe("bestore");
+    let found = pkg_config::Config::new().atleast_version(LOWEST).probe("bestore");
     if let Err(error) = found {
         fail(&format!(
-            "libbestore 0.4.0 or later was not found.\n\
+            "libbestore {LOWEST} or later was not found.\n\
              Name the folder that has libbestore.so or libbestore.a by BESTORE_LIB_DIR,\n\
              or the folder that has bestore.pc by PKG_CONFIG_PATH.\n\n{error}"
         ));
