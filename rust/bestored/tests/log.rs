@@ -65,7 +65,7 @@ impl Member {
         Self::start_at(folder, &database.url(), how)
     }
 
-    fn start_at(folder: Folder, url: &str, how: &str) -> Self {
+    pub fn start_at(folder: Folder, url: &str, how: &str) -> Self {
         Self::run(folder, &[how, url, "--pages", "512", "--passes", "16"])
     }
 

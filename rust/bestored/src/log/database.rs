@@ -18,10 +18,16 @@ use tokio_postgres::{AsyncMessage, Client, Config, NoTls, Row as SqlRow, Socket,
 const FORMAT: i32 = 1;
 
 /// How long a call may take. PostgreSQL cancels a statement slightly sooner.
-const LIMIT: Duration = Duration::from_secs(6);
+pub const LIMIT: Duration = Duration::from_secs(6);
+
+/// How long a call may take that writes part of a state or removes old entries. PostgreSQL cancels the statement slightly sooner.
+const STATE_LIMIT: Duration = Duration::from_secs(60);
 
 /// The maximum number of entries to read at a time.
 pub const ENTRIES: usize = 500;
+
+/// The maximum number of the state's batches to read at a time: few enough that they arrive within `LIMIT` over a slow network.
+const BATCHES: usize = 100;
 
 /// How many entries from before the state to leave in the log, for followers that lag slightly.
 const SPARE: u64 = 10_000;
@@ -180,9 +186,16 @@ impl Future for NextMessage<'_> {
 
 /// Waits for the call to finish, for a limited time.
 async fn limited<T>(call: impl Future<Output = std::result::Result<T, tokio_postgres::Error>>) -> Result<T> {
-    match tokio::time::timeout(LIMIT, call).await {
+    limited_to(LIMIT, call).await
+}
+
+async fn limited_to<T>(
+    limit: Duration,
+    call: impl Future<Output = std::result::Result<T, tokio_postgres::Error>>,
+) -> Result<T> {
+    match tokio::time::timeout(limit, call).await {
         Ok(answer) => Ok(answer?),
-        Err(_) => Err(Error::Slow(LIMIT)),
+        Err(_) => Err(Error::Slow(limit)),
     }
 }
 
@@ -368,37 +381,44 @@ impl Database {
 
     /// Returns the head and the state, both read in one transaction.
     pub async fn state(&mut self) -> Result<(Head, Vec<Vec<u8>>)> {
-        let begin = "BEGIN ISOLATION LEVEL REPEATABLE READ READ ONLY; SET LOCAL statement_timeout = 0";
-        self.client.batch_execute(begin).await?;
+        let begin = "BEGIN ISOLATION LEVEL REPEATABLE READ READ ONLY";
+        limited(self.client.batch_execute(begin)).await?;
         let head = self.head().await?;
-        let rows = self
-            .client
-            .query("SELECT batch FROM bestore_state ORDER BY place", &[])
-            .await?;
-        self.client.batch_execute("COMMIT").await?;
-        let batches: std::result::Result<_, _> = rows.iter().map(|row| row.try_get(0)).collect();
-        Ok((head, batches?))
+        let (mut batches, mut last) = (Vec::new(), 0_i64);
+        loop {
+            let sql = "SELECT place, batch FROM bestore_state WHERE place > $1 ORDER BY place LIMIT $2";
+            let rows = limited(self.client.query(sql, &[&last, &(BATCHES as i64)])).await?;
+            for row in &rows {
+                last = row.try_get("place")?;
+                batches.push(row.try_get("batch")?);
+            }
+            if rows.len() < BATCHES {
+                break;
+            }
+        }
+        limited(self.client.batch_execute("COMMIT")).await?;
+        Ok((head, batches))
     }
 
     /// Replaces the log's state with this one, which contains the entries up to `number`, and removes much older entries. Returns
     /// `false` and changes nothing if the term is no longer the last one.
     pub async fn write_state(&self, term: u64, number: u64, next: u64, batches: &[Vec<u8>]) -> Result<bool> {
-        let begin =
-            "BEGIN; SET LOCAL statement_timeout = 0; LOCK bestore_state IN EXCLUSIVE MODE; DELETE FROM bestore_state";
-        self.client.batch_execute(begin).await?;
+        limited(self.client.batch_execute("BEGIN; LOCK bestore_state IN EXCLUSIVE MODE")).await?;
+        let begin = "SET LOCAL statement_timeout = '55s'; DELETE FROM bestore_state";
+        limited_to(STATE_LIMIT, self.client.batch_execute(begin)).await?;
         let insert = "INSERT INTO bestore_state SELECT $1 + place, batch FROM unnest($2::bytea[]) WITH ORDINALITY AS row (batch, place)";
-        let insert = self.client.prepare(insert).await?;
+        let insert = limited(self.client.prepare(insert)).await?;
         for (place, part) in (0_i64..).step_by(ENTRIES).zip(batches.chunks(ENTRIES)) {
-            self.client.execute(&insert, &[&place, &part]).await?;
+            limited_to(STATE_LIMIT, self.client.execute(&insert, &[&place, &part])).await?;
         }
         let spared = number.saturating_sub(SPARE) as i64;
-        self.client.execute(REMOVE, &[&spared, &(TOKENS as i64)]).await?;
+        limited_to(STATE_LIMIT, self.client.execute(REMOVE, &[&spared, &(TOKENS as i64)])).await?;
         // This statement comes last, because from here to the commit no entry can be added.
         let update = "UPDATE bestore_log SET entries = $1, next = $2 WHERE term = $3 AND entries <= $1 AND last >= $1";
         let parameters: [&(dyn ToSql + Sync); 3] = [&(number as i64), &(next as i64), &(term as i64)];
-        let is_leading = self.client.execute(update, &parameters).await? == 1;
+        let is_leading = limited(self.client.execute(update, &parameters)).await? == 1;
         let end = if is_leading { "COMMIT" } else { "ROLLBACK" };
-        self.client.batch_execute(end).await?;
+        limited_to(STATE_LIMIT, self.client.batch_execute(end)).await?;
         Ok(is_leading)
     }
 }

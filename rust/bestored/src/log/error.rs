@@ -142,6 +142,9 @@ pub enum Refused {
     /// Nothing was written, because the log can't be written to.
     #[error("nothing was written: {0}")]
     Stopped(Arc<Error>),
+    /// The state wasn't replaced. The log still has the state before it and the entries.
+    #[error("the state couldn't be written to the log: {0}")]
+    StateNotWritten(Arc<Error>),
 }
 
 impl From<Refused> for bestore::Error {

@@ -445,10 +445,7 @@ impl Member {
         let shared = shared.clone();
         let writing = thread::Builder::new().name("log-state".into()).spawn(move || {
             if let Err(failure) = shared.kept.compact() {
-                report!(
-                    "bestored: the state of the log couldn't be written: {}",
-                    failure.0.message
-                );
+                report!("bestored: {}", failure.0.message);
             }
         });
         if let Err(error) = writing {

@@ -3,8 +3,9 @@
 use std::io::{Read, Write};
 use std::net::{Shutdown, TcpListener, TcpStream};
 use std::sync::atomic::{AtomicU8, Ordering::SeqCst};
-use std::sync::Arc;
+use std::sync::{Arc, Mutex};
 use std::thread;
+use std::time::Duration;
 
 /// The bytes that are lost when the connection breaks.
 #[derive(Clone, Copy, Debug, PartialEq, Eq)]
@@ -19,6 +20,8 @@ pub enum Lost {
 pub struct Proxy {
     pub port: u16,
     lost: Arc<AtomicU8>,
+    /// A connection hangs from the request on that contains this text.
+    hangs_at: Arc<Mutex<Option<&'static str>>>,
 }
 
 impl Proxy {
@@ -28,13 +31,14 @@ impl Proxy {
         let proxy = Self {
             port: listener.local_addr().unwrap().port(),
             lost: Arc::new(AtomicU8::new(Lost::Nothing as u8)),
+            hangs_at: Arc::default(),
         };
-        let lost = proxy.lost.clone();
+        let (lost, hangs_at) = (proxy.lost.clone(), proxy.hangs_at.clone());
         thread::spawn(move || {
             for client in listener.incoming().flatten() {
                 if let Ok(server) = TcpStream::connect(("127.0.0.1", to)) {
-                    forward(&client, &server, Lost::Requests, &lost);
-                    forward(&server, &client, Lost::Replies, &lost);
+                    forward(&client, &server, Lost::Requests, &lost, &hangs_at);
+                    forward(&server, &client, Lost::Replies, &lost, &Arc::default());
                 }
             }
         });
@@ -50,14 +54,32 @@ impl Proxy {
     pub fn has_lost(&self) -> bool {
         self.lost.load(SeqCst) == Lost::Nothing as u8
     }
+
+    /// Lets each connection hang from its next request on that contains this text. Without a text, new connections no longer hang.
+    pub fn hang_at(&self, text: Option<&'static str>) {
+        *self.hangs_at.lock().unwrap() = text;
+    }
 }
 
 /// Starts a thread that forwards the bytes that one side sends to the other.
-fn forward(from: &TcpStream, to: &TcpStream, what: Lost, lost: &Arc<AtomicU8>) {
-    let (mut from, mut to, lost) = (from.try_clone().unwrap(), to.try_clone().unwrap(), lost.clone());
+fn forward(
+    from: &TcpStream,
+    to: &TcpStream,
+    what: Lost,
+    lost: &Arc<AtomicU8>,
+    hangs_at: &Arc<Mutex<Option<&'static str>>>,
+) {
+    let (mut from, mut to) = (from.try_clone().unwrap(), to.try_clone().unwrap());
+    let (lost, hangs_at) = (lost.clone(), hangs_at.clone());
     thread::spawn(move || {
         let mut bytes = [0; 1 << 14];
         while let Ok(count @ 1..) = from.read(&mut bytes) {
+            let text = *hangs_at.lock().unwrap();
+            let contains = |text: &str| bytes[..count].windows(text.len()).any(|part| part == text.as_bytes());
+            if text.map_or(false, contains) {
+                // Both sides stay connected, and hear nothing more from each other.
+                thread::sleep(Duration::from_secs(3_600));
+            }
             let is_lost = lost.compare_exchange(what as u8, Lost::Nothing as u8, SeqCst, SeqCst);
             if is_lost.is_ok() || to.write_all(&bytes[..count]).is_err() {
                 break;
