@@ -31,6 +31,8 @@ pub struct Client {
     pub(crate) socket: Option<SocketPath>,
     /// The server's run, once the server has sent it.
     pub(crate) run: Option<String>,
+    /// The number of the server's volumes, or 0 until the server has sent it.
+    pub(crate) volumes: u32,
     /// Whether a snapshot is pinned, and whether there were live queries. A new connection starts without either.
     pub(crate) is_pinned: bool,
     pub(crate) has_watches: bool,
@@ -144,6 +146,7 @@ impl Client {
             stream,
             socket: None,
             run: None,
+            volumes: 0,
             is_pinned: false,
             has_watches: false,
             options,

@@ -7,17 +7,6 @@ use crate::pressure::Pressure;
 use bestore::{Batch, Error, Node, Operation, ShelfSnapshot, Status, Written};
 use bestore_client::wire::{self, Numbers};
 
-fn is_of_indices(operation: &Operation<'_>) -> bool {
-    matches!(operation, Operation::MakeIndex { .. } | Operation::RemoveIndex { .. })
-}
-
-/// Returns whether the operations apply to every volume. They do if they only create and remove indices, and the request names no
-/// volume.
-pub fn is_for_all(write: &wire::Write, volumes: usize) -> bool {
-    let mut operations = write.operations.batch.operations();
-    volumes > 1 && write.volume.is_none() && operations.len() > 0 && operations.all(|one| is_of_indices(&one))
-}
-
 /// Writes the batch to one volume. Calls `made` with the reply once the batch is in memory.
 pub fn write(
     pressure: &Pressure,

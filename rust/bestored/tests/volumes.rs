@@ -122,6 +122,10 @@ fn what_cant_be_in_volumes_is_refused() {
             r#"{"name":"PartialIndex","#,
         ),
         (
+            r#""batch":{"operations":[["index","a","text"]],"expected":[1,1]}"#,
+            r#"{"name":"BadRequest","message":"a batch that is written to every volume takes no `expected`;"#,
+        ),
+        (
             r#""batch":{"operations":[["index","size","int64"]]}"#,
             r#"{"name":"IndexExists","number":5,"#,
         ),
