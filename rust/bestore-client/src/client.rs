@@ -3,7 +3,7 @@
 use crate::options::end_of;
 use crate::pushes::Pushes;
 use crate::wire::{self, Command, Json, Nothing, Numbers, Push, Refusal, Request};
-use crate::{Error, Options, Result, SocketPath};
+use crate::{os, Error, Options, Result, SocketPath};
 use bestore_types::{Batch, Value, Written};
 use serde::de::DeserializeOwned;
 use serde::Deserialize;
@@ -16,8 +16,9 @@ use std::os::unix::net::UnixStream;
 use std::path::Path;
 use std::time::{Duration, Instant};
 
-/// The maximum number of bytes in a line from the server.
+/// The maximum number of bytes in a line from the server, and in one read.
 const LINE: usize = 2 << 20;
+const CHUNK: usize = 1 << 14;
 
 /// How long a command may wait in the server: the default and the maximum.
 const WITHIN: Duration = Duration::from_secs(5);
@@ -274,16 +275,25 @@ impl Client {
         }
     }
 
+    /// Returns the length of the first line that has been received, if its end has been received.
+    fn line_end(&mut self) -> Option<usize> {
+        let unseen = &self.received[self.searched..];
+        match unseen.iter().position(|byte| *byte == b'\n') {
+            Some(at) => Some(self.searched + at + 1),
+            None => {
+                self.searched = self.received.len();
+                None
+            }
+        }
+    }
+
     /// Waits for the next line and returns its length, or `None` if the time is up first.
     fn read_line(&mut self, until: Option<Instant>) -> Result<Option<usize>> {
         loop {
-            let unseen = &self.received[self.searched..];
-            if let Some(at) = unseen.iter().position(|byte| *byte == b'\n') {
-                let end = self.searched + at + 1;
+            if let Some(end) = self.line_end() {
                 self.searched = 0;
                 return Ok(Some(end));
             }
-            self.searched = self.received.len();
             if self.searched > LINE {
                 return Err(bad("the line is too long"));
             }
@@ -304,11 +314,16 @@ impl Client {
         if left.is_some() {
             self.stream.set_read_timeout(left)?;
         }
-        let mut bytes = [0; 1 << 14];
+        let mut bytes = [0; CHUNK];
         let read = self.stream.read(&mut bytes);
         if left.is_some() {
             self.stream.set_read_timeout(None)?;
         }
+        self.add_read(read, &bytes)
+    }
+
+    /// Adds what was read. Returns `false` if nothing had arrived in time.
+    fn add_read(&mut self, read: io::Result<usize>, bytes: &[u8]) -> Result<bool> {
         match read {
             Ok(0) => Err(Error::Closed),
             Ok(count) => {
@@ -322,7 +337,20 @@ impl Client {
         }
     }
 
-    /// Returns the next line pushed for a live query, or `None` if none arrives within this time. Lines that arrive while another call
+    /// Reads what has already arrived, up to the end of a line.
+    fn read_arrived(&mut self) -> Result<()> {
+        let mut bytes = [0; CHUNK];
+        while !self.is_over && self.searched <= LINE && self.line_end().is_none() {
+            let read = os::receive_now(&self.stream, &mut bytes);
+            if !self.add_read(read, &bytes)? {
+                break;
+            }
+        }
+        Ok(())
+    }
+
+    /// Returns the next line pushed for a live query, or `None` if none arrives within this time. If the time is zero, the call only returns
+    /// what has already arrived. Lines that arrive while another call
     /// waits for its reply are buffered, up to [`Options::most_pushed`]. A push with an `error` is the last one for its live query.
     ///
     /// # Errors
@@ -330,6 +358,9 @@ impl Client {
     pub fn next_push(&mut self, within: Duration) -> Result<Option<Push>> {
         if let Some(push) = self.pushes.take() {
             return Ok(Some(push));
+        }
+        if within.is_zero() {
+            self.read_arrived()?;
         }
         let until = end_of(within);
         while let Some(end) = self.read_line(Some(until))? {
@@ -573,40 +604,6 @@ impl Client {
         self.call::<Nothing>(command).map(drop)
     }
 
-    /// Returns how full the store is.
-    ///
-    /// # Errors
-    /// The same as `call`.
-    pub fn status(&mut self) -> Result<wire::Status> {
-        self.call(Command::Status(Nothing {}))
-    }
-
-    /// Returns what the server is doing.
-    ///
-    /// # Errors
-    /// The same as `call`.
-    pub fn info(&mut self) -> Result<wire::Info> {
-        self.call(Command::Info(Nothing {}))
-    }
-
-    /// Returns the connected clients.
-    ///
-    /// # Errors
-    /// The same as `call`.
-    pub fn clients(&mut self) -> Result<Vec<wire::ClientInfo>> {
-        let read: wire::Clients = self.call(Command::Clients(Nothing {}))?;
-        Ok(read.clients)
-    }
-
-    /// Disconnects the client with this number, as listed by [`clients`](Self::clients), and unpins its snapshot. A write that the client
-    /// has already sent may still take effect.
-    ///
-    /// # Errors
-    /// The same as `call`; `NoClient`.
-    pub fn kick(&mut self, client: u64) -> Result<()> {
-        self.call::<Nothing>(Command::Kick(wire::Kick { client })).map(drop)
-    }
-
     /// Returns the server's status in the log that machines share.
     ///
     /// # Errors
@@ -729,6 +726,21 @@ mod tests {
         let end = client.next_push(Duration::ZERO).unwrap().unwrap();
         assert!(end.error.unwrap().name == ErrorName::PushesLost && end.watch == 1);
         assert!(client.next_push(Duration::from_millis(20)).unwrap().is_none());
+    }
+
+    #[test]
+    fn what_has_arrived_is_returned_without_a_wait() {
+        let long = "1,".repeat(20_000);
+        let line = format!("{{\"watch\":1,\"commit\":2,\"created\":[{long}1]}}\n{{\"watch\":1,\"commit\":3}}\n");
+        let (mut server, mut client) = client_of("{\"watch\":1");
+        assert!(client.next_push(Duration::ZERO).unwrap().is_none());
+        server.write_all(&line.as_bytes()["{\"watch\":1".len()..]).unwrap();
+        let push = client.next_push(Duration::ZERO).unwrap().unwrap();
+        assert_eq!((push.commit, push.created.len()), (2, 20_001));
+        assert_eq!(client.next_push(Duration::ZERO).unwrap().unwrap().commit, 3);
+        assert!(client.next_push(Duration::ZERO).unwrap().is_none());
+        drop(server);
+        assert!(matches!(client.next_push(Duration::ZERO), Err(Error::Closed)));
     }
 
     #[test]
