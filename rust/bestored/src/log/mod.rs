@@ -13,7 +13,6 @@ mod state;
 
 pub use error::{Error, Refused};
 
-use crate::clients::Client;
 use crate::failure::Failure;
 use crate::kept::{Kept, Opening};
 use crate::options::Options;
@@ -155,12 +154,15 @@ impl Log {
         self.line.flush()
     }
 
-    /// Waits for a limited time until this server has the requested entry, and returns the server's status. The wait ends when the
-    /// client's connection is closed.
-    pub fn status(&self, wanted: &wire::OfLog, client: &Client) -> std::result::Result<wire::LogStatus, Failure> {
+    /// Waits for a limited time until this server has the requested entry, or until `is_over` returns `true`. Returns the server's
+    /// status.
+    pub fn status(
+        &self,
+        wanted: &wire::OfLog,
+        is_over: impl FnMut() -> bool,
+    ) -> std::result::Result<wire::LogStatus, Failure> {
         if let Some(entry) = wanted.entry {
-            let is_gone = || client.is_gone_within(Duration::ZERO);
-            let found = self.line.wait_for(entry, within(wanted.within)?, is_gone);
+            let found = self.line.wait_for(entry, within(wanted.within)?, is_over);
             if found < entry {
                 return Err(Failure::not_reached(entry, found));
             }
