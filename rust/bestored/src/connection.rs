@@ -117,6 +117,7 @@ impl<'a> Connection<'a> {
                     Some(turn) => return Ok(turn),
                 },
             };
+            self.client.asks();
             let line = self.lines.bytes(line);
             let request: Request<'_> = match serde_json::from_slice(line) {
                 Ok(request) => request,

@@ -1,6 +1,6 @@
 //! Tests `info`, `clients` and `kick`, and what a server reports on standard error.
 
-use crate::common::{check_gone, command, wait_until, Folder, Server};
+use crate::common::{check_gone, command, start, wait_until, Folder, Server};
 use bestore::Batch;
 use bestore_client::{Client, Error, ErrorName};
 use std::fs::{self, File};
@@ -64,6 +64,18 @@ fn what_is_written_is_counted() {
     assert_eq!(after.pages, before.pages);
     let files = after.files.unwrap();
     assert!(files.bytes > 0 && files.wal_bytes > 0 && after.log.is_none());
+}
+
+#[test]
+fn every_request_is_counted() {
+    let (_folder, server) = start(&[]);
+    let mut client = server.client();
+    let before = client.info().unwrap().requests;
+    client.pin().unwrap();
+    client.unpin().unwrap();
+    client.unpin().unwrap_err();
+    server.talk().check_parts("what", &["BadRequest"]);
+    assert_eq!(client.info().unwrap().requests, before + 5);
 }
 
 #[test]
