@@ -96,12 +96,12 @@ const TOUCH: &str = "
     WHERE term = $1 RETURNING bestore_log.*";
 
 /// Ends the session that holds the lock, if it has done nothing for `$1` seconds. A follower that has just taken the lock keeps
-/// it.
+/// it. So does a leader whose entries wait for a synchronous standby, since no other leader could add any without the standby.
 const END_LEADER: &str = "
     SELECT pg_terminate_backend(pid) FROM pg_locks JOIN pg_stat_activity USING (pid)
     WHERE locktype = 'advisory' AND datname = current_database() AND granted
         AND classid = 1650815860 AND objid = 'bestore_log'::regclass::oid
-        AND state_change < clock_timestamp() - $1::float8 * interval '1 second'";
+        AND wait_event IS DISTINCT FROM 'SyncRep' AND state_change < clock_timestamp() - $1::float8 * interval '1 second'";
 
 /// Removes the entries up to `$1`, except the last `$2` entries that have a token.
 const REMOVE: &str = "
