@@ -122,9 +122,16 @@ impl<'v, 'p> View<'v, 'p> {
     /// Reads the pinned snapshot, or the current one if none is pinned.
     pub fn read<T>(&mut self, read: impl FnOnce(&ShelfSnapshot<'_>) -> Result<T, Failure>) -> Result<T, Failure> {
         match self {
-            View::Current(pass) => read(&pass.pin()?),
-            View::Kept { snapshot, .. } => read(snapshot),
             View::Expired(_) => Err(Failure::expired()),
+            _ => self.on_snapshot(read),
+        }
+    }
+
+    /// Calls the closure with the pinned snapshot or, if none is pinned or the server has ended it, with the current one.
+    pub fn on_snapshot<T>(&mut self, call: impl FnOnce(&ShelfSnapshot<'_>) -> Result<T, Failure>) -> Result<T, Failure> {
+        match self {
+            View::Current(pass) | View::Expired(pass) => call(&pass.pin()?),
+            View::Kept { snapshot, .. } => call(snapshot),
         }
     }
 }

@@ -163,6 +163,18 @@ fn what_cant_be_in_volumes_is_refused() {
 }
 
 #[test]
+fn indices_are_made_although_the_snapshot_was_taken_back() {
+    let (_folder, server) = start(&["--volumes", "2", "--hold", "1"]);
+    let mut client = server.client();
+    client.pin().unwrap();
+    wait_until("the snapshot is taken back", || client.next_node().is_err());
+    client.apply(Batch::new().make_index("size", Kind::Int64)).unwrap();
+    assert!(client.next_node().unwrap_err().is(ErrorName::Expired));
+    client.unpin().unwrap();
+    assert_eq!(client.indices().unwrap().len(), 1);
+}
+
+#[test]
 fn one_volume_is_as_before() {
     let (_folder, server) = start(&["--volumes", "1", "--pages", "64"]);
     let mut talk = server.talk();
