@@ -67,6 +67,30 @@ fn a_state_that_cannot_be_written_keeps_no_client_waiting() {
     assert_eq!(database.sql("SELECT entries, count(*) FROM bestore_log, bestore_state GROUP BY entries"), "2|1");
 }
 
+#[test]
+fn a_follower_behind_a_slow_network_gets_all_entries() {
+    let database = present!(database());
+    let leader = Member::start(&database, "--log");
+    let mut client = leader.client();
+    client.apply(Batch::new().new_node()).unwrap();
+    let mut batch = Batch::new();
+    for name in 0..60 {
+        batch.set(1, &format!("text{name}"), "a".repeat(200));
+    }
+    for _ in 0..500 {
+        client.apply(&batch).unwrap();
+    }
+    // The entries take 7 MB, and at most 0.6 MB arrive in a second.
+    let proxy = Proxy::start_slow(database.postgres.port, Duration::from_millis(27));
+    let follower = Member::start_at(Folder::in_memory(), &database.url_at(proxy.port), "--follow");
+    wait_within(Duration::from_secs(60), "it listens or tries again", || {
+        follower.server.socket().exists() || follower.said().contains("trying again")
+    });
+    let reached = follower.client().wait_for_entry(501, SOON).unwrap();
+    assert_eq!(reached.entry, 501, "{}", follower.said());
+    assert!(!follower.said().contains("trying again"), "{}", follower.said());
+}
+
 /// Returns a listener that accepts no more connections, so that nothing replies to the next one.
 fn deaf() -> (TcpListener, Vec<TcpStream>) {
     let listener = TcpListener::bind("127.0.0.1:0").unwrap();

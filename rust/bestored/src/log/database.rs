@@ -23,11 +23,13 @@ pub const LIMIT: Duration = Duration::from_secs(6);
 /// How long a call may take that writes part of a state or removes old entries. PostgreSQL cancels the statement slightly sooner.
 const STATE_LIMIT: Duration = Duration::from_secs(60);
 
-/// The maximum number of entries to read at a time.
-pub const ENTRIES: usize = 500;
+/// The maximum number of entries or of the state's batches to read at a time, and how many bytes of batches may come before the last
+/// one: few enough that they arrive within `LIMIT` over a slow network.
+const ROWS: usize = 500;
+const BYTES: usize = 256 << 10;
 
-/// The maximum number of the state's batches to read at a time: few enough that they arrive within `LIMIT` over a slow network.
-const BATCHES: usize = 100;
+/// The maximum number of the state's batches to write at a time.
+const BATCHES: usize = 500;
 
 /// How many entries from before the state to leave in the log, for followers that lag slightly.
 const SPARE: u64 = 10_000;
@@ -363,20 +365,44 @@ impl Database {
         Ok(limited(self.client.query_opt(&statement, &parameters)).await?.is_some())
     }
 
-    /// Returns the next entries after this one, sorted by number. There may be more.
-    pub async fn entries(&self, after: u64) -> Result<Vec<Entry>> {
-        let sql = "SELECT number, batch, token FROM bestore_entry WHERE number > $1 ORDER BY number LIMIT $2";
-        let rows = limited(self.client.query(sql, &[&(after as i64), &(ENTRIES as i64)])).await?;
-        rows.iter().map(Entry::of).collect()
+    /// Returns the next entries after this one, and whether there may be more.
+    pub async fn entries(&self, after: u64) -> Result<(Vec<Entry>, bool)> {
+        self.entries_where("number > $1", &[&(after as i64)]).await
     }
 
-    /// Returns the next entries that have a token, after this one and up to `last`, sorted by number. There may be more.
-    pub async fn entries_with_token(&self, after: u64, last: u64) -> Result<Vec<Entry>> {
-        let sql = "SELECT number, batch, token FROM bestore_entry
-            WHERE token IS NOT NULL AND number > $1 AND number <= $2 ORDER BY number LIMIT $3";
-        let parameters: [&(dyn ToSql + Sync); 3] = [&(after as i64), &(last as i64), &(ENTRIES as i64)];
-        let rows = limited(self.client.query(sql, &parameters)).await?;
-        rows.iter().map(Entry::of).collect()
+    /// Returns the next entries that have a token, after this one and up to `last`, and whether there may be more.
+    pub async fn entries_with_token(&self, after: u64, last: u64) -> Result<(Vec<Entry>, bool)> {
+        let condition = "token IS NOT NULL AND number > $1 AND number <= $2";
+        self.entries_where(condition, &[&(after as i64), &(last as i64)]).await
+    }
+
+    /// Returns the first entries that fulfil the condition, sorted by number, and whether there may be more.
+    async fn entries_where(
+        &self,
+        condition: &str,
+        parameters: &[&(dyn ToSql + Sync)],
+    ) -> Result<(Vec<Entry>, bool)> {
+        let from = format!("SELECT number AS place, * FROM bestore_entry WHERE {condition}");
+        let (rows, is_more) = self.rows(&from, parameters).await?;
+        let entries = rows.iter().map(Entry::of).collect::<Result<_>>()?;
+        Ok((entries, is_more))
+    }
+
+    /// Returns the first rows of this query, sorted by `place`, and whether there may be more.
+    async fn rows(&self, from: &str, parameters: &[&(dyn ToSql + Sync)]) -> Result<(Vec<SqlRow>, bool)> {
+        let sql = format!(
+            "SELECT * FROM (
+                SELECT *, sum(octet_length(batch)) OVER (ORDER BY place) - octet_length(batch) AS before
+                FROM ({from} ORDER BY place LIMIT {ROWS}) AS next
+            ) AS sized WHERE before < {BYTES} ORDER BY place"
+        );
+        let rows = limited(self.client.query(&*sql, parameters)).await?;
+        let mut bytes = 0;
+        for row in &rows {
+            bytes += row.try_get::<_, &[u8]>("batch")?.len();
+        }
+        let is_full = rows.len() == ROWS || bytes >= BYTES;
+        Ok((rows, is_full))
     }
 
     /// Returns the head and the state, both read in one transaction.
@@ -384,17 +410,15 @@ impl Database {
         let begin = "BEGIN ISOLATION LEVEL REPEATABLE READ READ ONLY";
         limited(self.client.batch_execute(begin)).await?;
         let head = self.head().await?;
-        let (mut batches, mut last) = (Vec::new(), 0_i64);
-        loop {
-            let sql = "SELECT place, batch FROM bestore_state WHERE place > $1 ORDER BY place LIMIT $2";
-            let rows = limited(self.client.query(sql, &[&last, &(BATCHES as i64)])).await?;
+        let (mut batches, mut last, mut is_more) = (Vec::new(), 0_i64, true);
+        while is_more {
+            let from = "SELECT place, batch FROM bestore_state WHERE place > $1";
+            let (rows, may_be_more) = self.rows(from, &[&last]).await?;
             for row in &rows {
                 last = row.try_get("place")?;
                 batches.push(row.try_get("batch")?);
             }
-            if rows.len() < BATCHES {
-                break;
-            }
+            is_more = may_be_more;
         }
         limited(self.client.batch_execute("COMMIT")).await?;
         Ok((head, batches))
@@ -408,7 +432,7 @@ impl Database {
         limited_to(STATE_LIMIT, self.client.batch_execute(begin)).await?;
         let insert = "INSERT INTO bestore_state SELECT $1 + place, batch FROM unnest($2::bytea[]) WITH ORDINALITY AS row (batch, place)";
         let insert = limited(self.client.prepare(insert)).await?;
-        for (place, part) in (0_i64..).step_by(ENTRIES).zip(batches.chunks(ENTRIES)) {
+        for (place, part) in (0_i64..).step_by(BATCHES).zip(batches.chunks(BATCHES)) {
             limited_to(STATE_LIMIT, self.client.execute(&insert, &[&place, &part])).await?;
         }
         let spared = number.saturating_sub(SPARE) as i64;

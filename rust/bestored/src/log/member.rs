@@ -1,6 +1,6 @@
 //! The work of the log's thread: following and leading.
 
-use super::database::{Database, Entry, Head, ENTRIES};
+use super::database::{Database, Entry, Head};
 use super::error::{Error, Result};
 use super::line::{Line, Role};
 use super::{state, Access, FOR_LOCK, REST};
@@ -182,7 +182,7 @@ impl Member {
         while !self.line.is_closing() {
             self.let_go();
             self.tried = Instant::now();
-            if self.apply_some(Some(shared)).await? == ENTRIES {
+            if self.apply_some(Some(shared)).await? {
                 continue;
             }
             if looked.map_or(true, |looked: Instant| looked.elapsed() >= LOOK) {
@@ -249,14 +249,14 @@ impl Member {
 
     /// Applies all new entries in the log.
     async fn apply_new(&mut self, shared: Option<&Shared>) -> Result<()> {
-        while self.apply_some(shared).await? == ENTRIES {}
+        while self.apply_some(shared).await? {}
         Ok(())
     }
 
-    /// Applies the next entries in the log, and returns how many there were.
-    async fn apply_some(&mut self, shared: Option<&Shared>) -> Result<usize> {
+    /// Applies the next entries in the log, and returns whether there may be more.
+    async fn apply_some(&mut self, shared: Option<&Shared>) -> Result<bool> {
         let known = self.line.lock().saved;
-        let entries = self.database.entries(known).await?;
+        let (entries, is_more) = self.database.entries(known).await?;
         for (number, entry) in (known + 1..).zip(&entries) {
             self.apply(number, entry, shared.map(|shared| &shared.pressure))?;
             self.line.saved(number);
@@ -265,7 +265,7 @@ impl Member {
             shared.watcher.written();
             shared.carrying.written(&shared.kept);
         }
-        Ok(entries.len())
+        Ok(is_more)
     }
 
     /// Applies an entry, and compares the outcome with the leader's.

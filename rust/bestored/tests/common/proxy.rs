@@ -24,21 +24,47 @@ pub struct Proxy {
     hangs_at: Arc<Mutex<Option<&'static str>>>,
 }
 
+/// What one direction of a connection does to the bytes.
+#[derive(Clone, Debug)]
+struct Way {
+    what: Lost,
+    lost: Arc<AtomicU8>,
+    hangs_at: Arc<Mutex<Option<&'static str>>>,
+    /// The pause after each part of up to 16 KiB.
+    pause: Duration,
+}
+
 impl Proxy {
     /// Forwards connections to this port until the program ends.
     pub fn start(to: u16) -> Self {
+        Self::start_slow(to, Duration::ZERO)
+    }
+
+    /// Does the same, but pauses after each 16 KiB of replies.
+    pub fn start_slow(to: u16, pause: Duration) -> Self {
         let listener = TcpListener::bind("127.0.0.1:0").unwrap();
         let proxy = Self {
             port: listener.local_addr().unwrap().port(),
             lost: Arc::new(AtomicU8::new(Lost::Nothing as u8)),
             hangs_at: Arc::default(),
         };
-        let (lost, hangs_at) = (proxy.lost.clone(), proxy.hangs_at.clone());
+        let requests = Way {
+            what: Lost::Requests,
+            lost: proxy.lost.clone(),
+            hangs_at: proxy.hangs_at.clone(),
+            pause: Duration::ZERO,
+        };
+        let replies = Way {
+            what: Lost::Replies,
+            lost: proxy.lost.clone(),
+            hangs_at: Arc::default(),
+            pause,
+        };
         thread::spawn(move || {
             for client in listener.incoming().flatten() {
                 if let Ok(server) = TcpStream::connect(("127.0.0.1", to)) {
-                    forward(&client, &server, Lost::Requests, &lost, &hangs_at);
-                    forward(&server, &client, Lost::Replies, &lost, &Arc::default());
+                    forward(&client, &server, requests.clone());
+                    forward(&server, &client, replies.clone());
                 }
             }
         });
@@ -62,25 +88,19 @@ impl Proxy {
 }
 
 /// Starts a thread that forwards the bytes that one side sends to the other.
-fn forward(
-    from: &TcpStream,
-    to: &TcpStream,
-    what: Lost,
-    lost: &Arc<AtomicU8>,
-    hangs_at: &Arc<Mutex<Option<&'static str>>>,
-) {
+fn forward(from: &TcpStream, to: &TcpStream, way: Way) {
     let (mut from, mut to) = (from.try_clone().unwrap(), to.try_clone().unwrap());
-    let (lost, hangs_at) = (lost.clone(), hangs_at.clone());
     thread::spawn(move || {
         let mut bytes = [0; 1 << 14];
         while let Ok(count @ 1..) = from.read(&mut bytes) {
-            let text = *hangs_at.lock().unwrap();
+            let text = *way.hangs_at.lock().unwrap();
             let contains = |text: &str| bytes[..count].windows(text.len()).any(|part| part == text.as_bytes());
             if text.map_or(false, contains) {
                 // Both sides stay connected, and hear nothing more from each other.
                 thread::sleep(Duration::from_secs(3_600));
             }
-            let is_lost = lost.compare_exchange(what as u8, Lost::Nothing as u8, SeqCst, SeqCst);
+            thread::sleep(way.pause);
+            let is_lost = way.lost.compare_exchange(way.what as u8, Lost::Nothing as u8, SeqCst, SeqCst);
             if is_lost.is_ok() || to.write_all(&bytes[..count]).is_err() {
                 break;
             }
