@@ -1,4 +1,5 @@
-//! Tests servers that share a log when the database, or the way to it, hangs without breaking the connection.
+//! Tests servers that share a log when the database, or the way to it, is slow or hangs without breaking the connection, and servers
+//! that were away for so long that the log lacks what they need next.
 
 use crate::common::proxy::Proxy;
 use crate::common::{wait_until, wait_within, Folder};
@@ -89,6 +90,29 @@ fn a_follower_behind_a_slow_network_gets_all_entries() {
     let reached = follower.client().wait_for_entry(501, SOON).unwrap();
     assert_eq!(reached.entry, 501, "{}", follower.said());
     assert!(!follower.said().contains("trying again"), "{}", follower.said());
+}
+
+#[test]
+fn a_follower_that_was_away_for_too_long_says_so() {
+    let database = present!(database());
+    let leader = Member::start(&database, "--log");
+    let mut client = leader.client();
+    client.apply(Batch::new().new_node()).unwrap();
+    let follower = Member::start(&database, "--follow");
+    follower.client().wait_for_entry(1, SOON).unwrap();
+    follower.server.stop();
+    for _ in 0..4 {
+        client.apply(Batch::new().new_node()).unwrap();
+    }
+    compact(&mut client).unwrap();
+    client.apply(Batch::new().new_node()).unwrap();
+    // A real log keeps the last 10,000 entries before the state.
+    database.sql("DELETE FROM bestore_entry WHERE number <= 4");
+    follower.server.signal("CONT");
+    let said = follower.end();
+    assert!(said.contains("the log no longer has entry 2, but the state after entry 5;"), "{said}");
+    let again = Member::start(&database, "--follow");
+    assert_eq!(again.client().wait_for_entry(6, SOON).unwrap().entry, 6);
 }
 
 /// Returns a listener that accepts no more connections, so that nothing replies to the next one.

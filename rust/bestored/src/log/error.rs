@@ -60,6 +60,9 @@ pub enum Error {
     /// The log has fewer entries than before, or more than any server can have added.
     #[error("the log has {found} entries, but this server has {known}")]
     Length { known: u64, found: u64 },
+    /// The log's state has taken the place of an entry that this server needs next.
+    #[error("the log no longer has entry {entry}, but the state after entry {state}; start this server again, and it begins there")]
+    Removed { entry: u64, state: u64 },
     /// The log contains something that no store wrote.
     #[error("{place} of the log: it contains something that no store wrote: {why}")]
     Differs {

@@ -257,6 +257,13 @@ impl Member {
     async fn apply_some(&mut self, shared: Option<&Shared>) -> Result<bool> {
         let known = self.line.lock().saved;
         let (entries, is_more) = self.database.entries(known).await?;
+        if entries.first().map_or(false, |entry| entry.number > known + 1) {
+            let state = self.database.head().await?.entries;
+            if state > known {
+                let entry = known + 1;
+                return Err(Error::Removed { entry, state });
+            }
+        }
         for (number, entry) in (known + 1..).zip(&entries) {
             self.apply(number, entry, shared.map(|shared| &shared.pressure))?;
             self.line.saved(number);
