@@ -175,6 +175,28 @@ fn indices_are_made_although_the_snapshot_was_taken_back() {
 }
 
 #[test]
+fn an_index_of_all_volumes_waits_for_pages() {
+    let (_folder, server) = start(&["--volumes", "2", "--pages", "32"]);
+    let (mut reading, mut writing) = (server.client(), server.client());
+    reading.pin().unwrap();
+    let (mut batch, mut is_there) = (Batch::new(), false);
+    while writing.status().unwrap().volumes[1].free > 0 {
+        batch = Batch::new();
+        match is_there {
+            false => batch.make_index("a", Kind::Text),
+            true => batch.remove_index("a"),
+        };
+        writing.apply_in(1, &batch).unwrap();
+        is_there = !is_there;
+    }
+    assert!(reading.next_node().is_ok() && !batch.is_empty());
+    // The first volume has pages. Those of the second are free once the server has taken back the snapshot.
+    writing.apply(Batch::new().make_index("b", Kind::Text)).unwrap();
+    assert!(reading.next_node().unwrap_err().is(ErrorName::Expired));
+    assert_eq!(writing.indices().unwrap().into_keys().collect::<Vec<_>>(), ["b"]);
+}
+
+#[test]
 fn one_volume_is_as_before() {
     let (_folder, server) = start(&["--volumes", "1", "--pages", "64"]);
     let mut talk = server.talk();
