@@ -228,7 +228,7 @@ impl Client {
         let _ = self.stream.shutdown(Shutdown::Both);
     }
 
-    /// Receives the reply to the request with this number, which must be the oldest unanswered request.
+    /// Receives the reply to the request with this number. If replies to earlier requests haven't been received, they are lost.
     ///
     /// # Errors
     /// The same as [`call`](Self::call).
@@ -260,12 +260,17 @@ impl Client {
         }
     }
 
-    /// Decodes a received line. Returns `None` if it was a push.
+    /// Decodes a received line. Returns `None` if it was a push, or the reply to an earlier request, for which no call waits any more.
     fn reply<T: DeserializeOwned>(&mut self, id: u64, end: usize) -> Result<Option<Result<T>>> {
         let line: Line<'_> = serde_json::from_slice(&self.received[..end]).map_err(bad)?;
         if line.watch.is_some() {
             let push = serde_json::from_slice(&self.received[..end]).map_err(bad)?;
             self.pushes.add(end, push);
+            return Ok(None);
+        }
+        if let Some(earlier) = line.id.filter(|own| *own < id) {
+            self.waits.remove(&earlier);
+            self.queries.remove(&earlier);
             return Ok(None);
         }
         match (line.ok, line.error) {
@@ -604,25 +609,6 @@ impl Client {
         self.call::<Nothing>(command).map(drop)
     }
 
-    /// Returns the server's status in the log that machines share.
-    ///
-    /// # Errors
-    /// The same as `call`; `NoLog` if the server doesn't use one.
-    pub fn log(&mut self) -> Result<wire::LogStatus> {
-        self.call(Command::Log(wire::OfLog::default()))
-    }
-
-    /// Waits until the server has applied this entry of the log that machines share. Later reads see at least that entry.
-    ///
-    /// # Errors
-    /// The same as `call`; `NotReached` if the time is up first (at most a minute); `NoLog`; `Pinned`.
-    pub fn wait_for_entry(&mut self, entry: u64, within: Duration) -> Result<wire::LogStatus> {
-        self.call(Command::Log(wire::OfLog {
-            entry: Some(entry),
-            within: Some(u64::try_from(within.as_millis()).unwrap_or(u64::MAX)),
-        }))
-    }
-
     /// Returns one page of the journal, starting at the entry with this index.
     ///
     /// # Errors
@@ -764,6 +750,20 @@ mod tests {
             client.next_push(Duration::from_secs(9)),
             Err(Error::BadLine(_))
         ));
+    }
+
+    #[test]
+    fn replies_that_nobody_waits_for_are_passed_over() {
+        let error = r#""error":{"name":"Expired","message":""}"#;
+        let (_server, mut client) = client_of(&format!(
+            "{{\"id\":1,{error}}}\n{{\"id\":2,\"ok\":{{}}}}\n{{\"id\":3,\"ok\":{{}}}}\n{{\"id\":4,{error}}}\n"
+        ));
+        let query = "size>5".into();
+        client.send(Command::Explain(wire::QueryText { query })).unwrap();
+        client.send(Command::Unpin(Nothing {})).unwrap();
+        client.unpin().unwrap();
+        assert!(client.unpin().unwrap_err().is(ErrorName::Expired));
+        assert!(client.queries.is_empty());
     }
 
     #[test]
