@@ -128,7 +128,10 @@ impl<'v, 'p> View<'v, 'p> {
     }
 
     /// Calls the closure with the pinned snapshot or, if none is pinned or the server has ended it, with the current one.
-    pub fn on_snapshot<T>(&mut self, call: impl FnOnce(&ShelfSnapshot<'_>) -> Result<T, Failure>) -> Result<T, Failure> {
+    pub fn on_snapshot<T>(
+        &mut self,
+        call: impl FnOnce(&ShelfSnapshot<'_>) -> Result<T, Failure>,
+    ) -> Result<T, Failure> {
         match self {
             View::Current(pass) | View::Expired(pass) => call(&pass.pin()?),
             View::Kept { snapshot, .. } => call(snapshot),

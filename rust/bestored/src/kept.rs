@@ -325,11 +325,7 @@ impl Kept {
     }
 
     /// Returns the server's status in the log once the server has the requested entry, or once `is_over` returns `true`.
-    pub fn log_status(
-        &self,
-        wanted: &wire::OfLog,
-        is_over: impl FnMut() -> bool,
-    ) -> Result<wire::LogStatus, Failure> {
+    pub fn log_status(&self, wanted: &wire::OfLog, is_over: impl FnMut() -> bool) -> Result<wire::LogStatus, Failure> {
         match self {
             #[cfg(feature = "log")]
             Kept::Log(log) => log.status(wanted, is_over),

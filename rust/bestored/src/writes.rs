@@ -82,9 +82,9 @@ fn write_now(
     shared.kept.check_write()?;
     check_run(shared, write, view)?;
     let written = match write.is_for_all(view.volumes()) {
-        true => view.on_snapshot(|snapshot| {
-            volumes::write_indices(&shared.pressure, snapshot, &write.operations.batch)
-        }),
+        true => {
+            view.on_snapshot(|snapshot| volumes::write_indices(&shared.pressure, snapshot, &write.operations.batch))
+        }
         false => volumes::write(&shared.pressure, view, write, made),
     };
     // Even if a volume refused the batch, others may already have written it.

@@ -57,7 +57,9 @@ fn a_state_that_cannot_be_written_keeps_no_client_waiting() {
     thread::scope(|scope| {
         scope.spawn(|| database.sql("BEGIN; LOCK bestore_state IN SHARE MODE; SELECT pg_sleep(12); COMMIT"));
         wait_until("the table is locked", || {
-            database.sql("SELECT count(*) FROM pg_locks WHERE relation = 'bestore_state'::regclass AND mode = 'ShareLock'") != "0"
+            database
+                .sql("SELECT count(*) FROM pg_locks WHERE relation = 'bestore_state'::regclass AND mode = 'ShareLock'")
+                != "0"
         });
         let refused = compact(&mut patient).unwrap_err();
         assert!(refused.is(ErrorName::NotSaved), "{refused}");
@@ -65,7 +67,10 @@ fn a_state_that_cannot_be_written_keeps_no_client_waiting() {
         client.apply(Batch::new().new_node()).unwrap();
     });
     compact(&mut patient).unwrap();
-    assert_eq!(database.sql("SELECT entries, count(*) FROM bestore_log, bestore_state GROUP BY entries"), "2|1");
+    assert_eq!(
+        database.sql("SELECT entries, count(*) FROM bestore_log, bestore_state GROUP BY entries"),
+        "2|1"
+    );
 }
 
 #[test]
@@ -110,7 +115,10 @@ fn a_follower_that_was_away_for_too_long_says_so() {
     database.sql("DELETE FROM bestore_entry WHERE number <= 4");
     follower.server.signal("CONT");
     let said = follower.end();
-    assert!(said.contains("the log no longer has entry 2, but the state after entry 5;"), "{said}");
+    assert!(
+        said.contains("the log no longer has entry 2, but the state after entry 5;"),
+        "{said}"
+    );
     let again = Member::start(&database, "--follow");
     assert_eq!(again.client().wait_for_entry(6, SOON).unwrap().entry, 6);
 }
@@ -131,7 +139,9 @@ fn a_database_is_found_behind_a_machine_that_does_not_reply() {
     let port = deaf.local_addr().unwrap().port();
     let url = database.url_of_tcp().replace("@", &format!("@127.0.0.1:{port},"));
     let member = Member::start_at(Folder::in_memory(), &url, "--log");
-    wait_within(SOON, "it leads", || member.leads() || member.said().contains("trying again"));
+    wait_within(SOON, "it leads", || {
+        member.leads() || member.said().contains("trying again")
+    });
     assert!(member.leads(), "{}", member.said());
     assert_eq!(make(&mut member.client(), "a").unwrap().nodes, [1]);
 }

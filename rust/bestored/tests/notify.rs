@@ -97,7 +97,10 @@ fn a_server_whose_manager_hangs_goes_on() {
     // The manager reads nothing, so its socket takes no more messages after a while.
     thread::sleep(Duration::from_secs(3));
     let mut options = Options::new();
-    let mut client = options.timeout(Some(Duration::from_secs(20))).connect(server.socket()).unwrap();
+    let mut client = options
+        .timeout(Some(Duration::from_secs(20)))
+        .connect(server.socket())
+        .unwrap();
     client.hello().unwrap();
     drop(client);
     let begin = Instant::now();

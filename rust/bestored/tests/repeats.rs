@@ -153,8 +153,12 @@ fn a_client_that_repeats_makes_indices_in_all_volumes() {
     let server = Server::start(&folder, &["--volumes", "2"]);
     let mut client = Options::new().repeat(PATIENCE).connect(server.socket()).unwrap();
     client.apply(Batch::new().make_index("a", bestore::Kind::Text)).unwrap();
-    client.apply_in(1, Batch::new().make_index("b", bestore::Kind::Text)).unwrap();
-    let indices = client.call::<wire::Indices>(Command::Indices(wire::Nothing {})).unwrap();
+    client
+        .apply_in(1, Batch::new().make_index("b", bestore::Kind::Text))
+        .unwrap();
+    let indices = client
+        .call::<wire::Indices>(Command::Indices(wire::Nothing {}))
+        .unwrap();
     assert_eq!(indices.indices.keys().collect::<Vec<_>>(), ["a"]);
     assert_eq!(indices.partial["b"], [1]);
     client.apply(Batch::new().remove_index("a")).unwrap();

@@ -142,8 +142,7 @@ impl Write {
     /// indices and names no volume.
     #[must_use]
     pub fn is_for_all(&self, volumes: usize) -> bool {
-        let is_of_index =
-            |operation| matches!(operation, Operation::MakeIndex { .. } | Operation::RemoveIndex { .. });
+        let is_of_index = |operation| matches!(operation, Operation::MakeIndex { .. } | Operation::RemoveIndex { .. });
         let mut operations = self.operations.batch.operations();
         volumes > 1 && self.volume.is_none() && operations.len() > 0 && operations.all(is_of_index)
     }

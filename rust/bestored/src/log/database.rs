@@ -377,11 +377,7 @@ impl Database {
     }
 
     /// Returns the first entries that fulfil the condition, sorted by number, and whether there may be more.
-    async fn entries_where(
-        &self,
-        condition: &str,
-        parameters: &[&(dyn ToSql + Sync)],
-    ) -> Result<(Vec<Entry>, bool)> {
+    async fn entries_where(&self, condition: &str, parameters: &[&(dyn ToSql + Sync)]) -> Result<(Vec<Entry>, bool)> {
         let from = format!("SELECT number AS place, * FROM bestore_entry WHERE {condition}");
         let (rows, is_more) = self.rows(&from, parameters).await?;
         let entries = rows.iter().map(Entry::of).collect::<Result<_>>()?;

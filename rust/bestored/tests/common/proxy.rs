@@ -100,7 +100,9 @@ fn forward(from: &TcpStream, to: &TcpStream, way: Way) {
                 thread::sleep(Duration::from_secs(3_600));
             }
             thread::sleep(way.pause);
-            let is_lost = way.lost.compare_exchange(way.what as u8, Lost::Nothing as u8, SeqCst, SeqCst);
+            let is_lost = way
+                .lost
+                .compare_exchange(way.what as u8, Lost::Nothing as u8, SeqCst, SeqCst);
             if is_lost.is_ok() || to.write_all(&bytes[..count]).is_err() {
                 break;
             }
