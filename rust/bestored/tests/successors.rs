@@ -79,7 +79,14 @@ fn a_leader_whose_standby_is_away_stays_the_leader() {
         database.sql("SELECT pg_reload_conf()");
     };
     set("SET synchronous_standby_names = 'away'");
-    let refused = make(&mut leader.client(), "b").unwrap_err();
+    // Before PostgreSQL goes by the new setting, writes are still kept.
+    let (mut client, mut count) = (leader.client(), 1);
+    let refused = loop {
+        count += 1;
+        if let Err(refused) = make(&mut client, &count.to_string()) {
+            break refused;
+        }
+    };
     assert!(refused.is(ErrorName::NotSaved), "{refused}");
     // By now, the leader has been silent for longer than any other reason allows.
     thread::sleep(Duration::from_secs(2));
@@ -87,11 +94,11 @@ fn a_leader_whose_standby_is_away_stays_the_leader() {
     set("RESET synchronous_standby_names");
     let mut again = None;
     wait_within(SOON, "the leader writes again", || {
-        again = make(&mut leader.client(), "b").ok();
+        again = make(&mut leader.client(), &count.to_string()).ok();
         again.is_some()
     });
     let again = again.unwrap();
-    assert_eq!((again.nodes, again.repeated), (vec![2], true));
+    assert_eq!((again.nodes, again.repeated), (vec![count], true));
     assert!(leader.leads() && !following.leads());
 }
 

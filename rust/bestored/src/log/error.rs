@@ -8,8 +8,9 @@ use std::path::PathBuf;
 use std::sync::Arc;
 use std::time::Duration;
 
-/// PostgreSQL's error classes for a lost connection, for lack of resources, and for a database that is starting or stopping.
-const NOT_NOW: [&str; 3] = ["08", "53", "57"];
+/// PostgreSQL's error classes for a lost connection, for lack of resources, and for a database that is starting or stopping, and its
+/// error for a transaction whose next statement didn't arrive in time.
+const NOT_NOW: [&str; 4] = ["08", "53", "57", "25P03"];
 
 /// The result type of this module.
 pub type Result<T> = std::result::Result<T, Error>;

@@ -2,7 +2,7 @@
 
 use std::io::{Read, Write};
 use std::net::{Shutdown, TcpListener, TcpStream};
-use std::sync::atomic::{AtomicU8, Ordering::SeqCst};
+use std::sync::atomic::{AtomicBool, AtomicU8, Ordering::SeqCst};
 use std::sync::{Arc, Mutex};
 use std::thread;
 use std::time::Duration;
@@ -30,6 +30,8 @@ struct Way {
     what: Lost,
     lost: Arc<AtomicU8>,
     hangs_at: Arc<Mutex<Option<&'static str>>>,
+    /// Whether the connection hangs.
+    is_hanging: Arc<AtomicBool>,
     /// The pause after each part of up to 16 KiB.
     pause: Duration,
 }
@@ -52,19 +54,24 @@ impl Proxy {
             what: Lost::Requests,
             lost: proxy.lost.clone(),
             hangs_at: proxy.hangs_at.clone(),
+            is_hanging: Arc::default(),
             pause: Duration::ZERO,
-        };
-        let replies = Way {
-            what: Lost::Replies,
-            lost: proxy.lost.clone(),
-            hangs_at: Arc::default(),
-            pause,
         };
         thread::spawn(move || {
             for client in listener.incoming().flatten() {
                 if let Ok(server) = TcpStream::connect(("127.0.0.1", to)) {
-                    forward(&client, &server, requests.clone());
-                    forward(&server, &client, replies.clone());
+                    let requests = Way {
+                        is_hanging: Arc::default(),
+                        ..requests.clone()
+                    };
+                    let replies = Way {
+                        what: Lost::Replies,
+                        hangs_at: Arc::default(),
+                        pause,
+                        ..requests.clone()
+                    };
+                    forward(&client, &server, requests);
+                    forward(&server, &client, replies);
                 }
             }
         });
@@ -96,6 +103,9 @@ fn forward(from: &TcpStream, to: &TcpStream, way: Way) {
             let text = *way.hangs_at.lock().unwrap();
             let contains = |text: &str| bytes[..count].windows(text.len()).any(|part| part == text.as_bytes());
             if text.map_or(false, contains) {
+                way.is_hanging.store(true, SeqCst);
+            }
+            if way.is_hanging.load(SeqCst) {
                 // Both sides stay connected, and hear nothing more from each other.
                 thread::sleep(Duration::from_secs(3_600));
             }
