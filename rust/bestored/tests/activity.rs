@@ -145,7 +145,7 @@ fn who_keeps_a_snapshot_is_named_and_can_be_ended() {
     let [held, own] = [&clients[clients.len() - 2], &clients[clients.len() - 1]];
     assert_eq!(oldest.client, Some(held.client));
     assert_eq!(held.pinned.as_ref().unwrap().commit, pinned.commit);
-    assert_eq!((held.process, held.requests, held.own), (process::id(), 0, false));
+    assert_eq!((held.process, held.requests, held.own), (process::id(), 1, false));
     assert_eq!(
         (own.own, own.command.as_deref(), &own.pinned),
         (true, Some("clients"), &None)
