@@ -100,10 +100,12 @@ const TOUCH: &str = "
 /// Ends the session that holds the lock, if it has done nothing for `$1` seconds. A follower that has just taken the lock keeps
 /// it. So does a leader whose entries wait for a synchronous standby, since no other leader could add any without the standby.
 const END_LEADER: &str = "
-    SELECT pg_terminate_backend(pid) FROM pg_locks JOIN pg_stat_activity USING (pid)
+    SELECT CASE
+        WHEN state_change < clock_timestamp() - $1::float8 * interval '1 second' AND wait_event IS DISTINCT FROM 'SyncRep'
+        THEN pg_terminate_backend(pid) ELSE false
+    END FROM pg_locks JOIN pg_stat_activity USING (pid)
     WHERE locktype = 'advisory' AND datname = current_database() AND granted
-        AND classid = 1650815860 AND objid = 'bestore_log'::regclass::oid
-        AND wait_event IS DISTINCT FROM 'SyncRep' AND state_change < clock_timestamp() - $1::float8 * interval '1 second'";
+        AND classid = 1650815860 AND objid = 'bestore_log'::regclass::oid";
 
 /// Removes the entries up to `$1`, except the last `$2` entries that have a token.
 const REMOVE: &str = "
@@ -329,10 +331,11 @@ impl Database {
         touched.as_ref().map(Head::of).transpose()
     }
 
-    /// Ends the session of a leader that has done nothing for this many seconds. Returns whether there was such a session.
-    pub async fn end_leader(&self, silence: f64) -> Result<bool> {
-        let ended = limited(self.client.query(END_LEADER, &[&silence])).await?;
-        Ok(!ended.is_empty())
+    /// Ends the session of a leader that has done nothing for this many seconds. Returns whether it was ended, or `None` if there is no
+    /// leader's session.
+    pub async fn end_leader(&self, silence: f64) -> Result<Option<bool>> {
+        let ended = limited(self.client.query_opt(END_LEADER, &[&silence])).await?;
+        Ok(ended.map(|row| row.try_get(0)).transpose()?)
     }
 
     /// Takes the leader's lock if nobody holds it, and returns whether it did. The lock is released when the connection closes.

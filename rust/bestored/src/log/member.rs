@@ -28,7 +28,8 @@ const LEASE: f64 = 7.0;
 /// How long to wait for PostgreSQL to end a session and release its lock.
 const ENDING: Duration = Duration::from_millis(20);
 
-/// How long a follower waits for the leader to come back after the connection to the database has broken.
+/// How long a follower waits for the leader to come back after the connection to the database has broken, or after the leader's
+/// session has waited for a standby.
 const GRACE: Duration = Duration::from_secs(3);
 
 /// How long to retry an entry that finds no free page while clients' snapshots hold pages.
@@ -194,7 +195,8 @@ impl Member {
                     state.last = head.last;
                     state.trouble = None;
                 });
-                if Instant::now() >= self.may_lead && self.gets_lock(&head).await? {
+                self.end_silent_leader(&head).await?;
+                if Instant::now() >= self.may_lead && self.database.try_lock().await? {
                     self.take_over(shared).await?;
                     return Ok(Turn::Next);
                 }
@@ -204,17 +206,25 @@ impl Member {
         Ok(Turn::End)
     }
 
-    /// Takes the lock if nobody holds it, or if its owner has been silent for too long, for example because its machine is paused.
-    /// If such a leader tries to add entries later, its term is out of date, so they aren't added.
-    async fn gets_lock(&self, head: &Head) -> Result<bool> {
-        if head.silence.map_or(false, |silence| silence >= LEASE) && self.database.end_leader(LEASE).await? {
-            report!(
-                "bestored: {} leads, but has been silent for {LEASE} seconds; ending its session",
-                head.leader
-            );
-            tokio::time::sleep(ENDING).await;
+    /// Ends the session of a leader that has been silent for too long, for example because its machine is paused. If such a leader tries
+    /// to add entries later, its term is out of date, so they aren't added. If the leader's session may go on, gives the leader some time
+    /// to come back before this server takes the lock.
+    async fn end_silent_leader(&mut self, head: &Head) -> Result<()> {
+        if head.silence.map_or(true, |silence| silence < LEASE) {
+            return Ok(());
         }
-        self.database.try_lock().await
+        match self.database.end_leader(LEASE).await? {
+            Some(true) => {
+                report!(
+                    "bestored: {} leads, but has been silent for {LEASE} seconds; ending its session",
+                    head.leader
+                );
+                tokio::time::sleep(ENDING).await;
+            }
+            Some(false) => self.may_lead = Instant::now() + GRACE,
+            None => {}
+        }
+        Ok(())
     }
 
     /// Ends the last leader's term, applies every entry that it has added, and makes this server the leader.
