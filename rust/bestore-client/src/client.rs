@@ -3,7 +3,7 @@
 use crate::options::end_of;
 use crate::pushes::Pushes;
 use crate::wire::{self, Command, Json, Nothing, Numbers, Push, Refusal, Request};
-use crate::{Error, Options, Result, SocketPath};
+use crate::{os, Error, Options, Result, SocketPath};
 use bestore_types::{Batch, Value, Written};
 use serde::de::DeserializeOwned;
 use serde::Deserialize;
@@ -16,8 +16,9 @@ use std::os::unix::net::UnixStream;
 use std::path::Path;
 use std::time::{Duration, Instant};
 
-/// The maximum number of bytes in a line from the server.
+/// The maximum number of bytes in a line from the server, and in one read.
 const LINE: usize = 2 << 20;
+const CHUNK: usize = 1 << 14;
 
 /// How long a command may wait in the server: the default and the maximum.
 const WITHIN: Duration = Duration::from_secs(5);
@@ -31,6 +32,8 @@ pub struct Client {
     pub(crate) socket: Option<SocketPath>,
     /// The server's run, once the server has sent it.
     pub(crate) run: Option<String>,
+    /// The number of the server's volumes, or 0 until the server has sent it.
+    pub(crate) volumes: u32,
     /// Whether a snapshot is pinned, and whether there were live queries. A new connection starts without either.
     pub(crate) is_pinned: bool,
     pub(crate) has_watches: bool,
@@ -144,6 +147,7 @@ impl Client {
             stream,
             socket: None,
             run: None,
+            volumes: 0,
             is_pinned: false,
             has_watches: false,
             options,
@@ -224,7 +228,7 @@ impl Client {
         let _ = self.stream.shutdown(Shutdown::Both);
     }
 
-    /// Receives the reply to the request with this number, which must be the oldest unanswered request.
+    /// Receives the reply to the request with this number. If replies to earlier requests haven't been received, they are lost.
     ///
     /// # Errors
     /// The same as [`call`](Self::call).
@@ -256,12 +260,17 @@ impl Client {
         }
     }
 
-    /// Decodes a received line. Returns `None` if it was a push.
+    /// Decodes a received line. Returns `None` if it was a push, or the reply to an earlier request, for which no call waits any more.
     fn reply<T: DeserializeOwned>(&mut self, id: u64, end: usize) -> Result<Option<Result<T>>> {
         let line: Line<'_> = serde_json::from_slice(&self.received[..end]).map_err(bad)?;
         if line.watch.is_some() {
             let push = serde_json::from_slice(&self.received[..end]).map_err(bad)?;
             self.pushes.add(end, push);
+            return Ok(None);
+        }
+        if let Some(earlier) = line.id.filter(|own| *own < id) {
+            self.waits.remove(&earlier);
+            self.queries.remove(&earlier);
             return Ok(None);
         }
         match (line.ok, line.error) {
@@ -271,16 +280,25 @@ impl Client {
         }
     }
 
+    /// Returns the length of the first line that has been received, if its end has been received.
+    fn line_end(&mut self) -> Option<usize> {
+        let unseen = &self.received[self.searched..];
+        match unseen.iter().position(|byte| *byte == b'\n') {
+            Some(at) => Some(self.searched + at + 1),
+            None => {
+                self.searched = self.received.len();
+                None
+            }
+        }
+    }
+
     /// Waits for the next line and returns its length, or `None` if the time is up first.
     fn read_line(&mut self, until: Option<Instant>) -> Result<Option<usize>> {
         loop {
-            let unseen = &self.received[self.searched..];
-            if let Some(at) = unseen.iter().position(|byte| *byte == b'\n') {
-                let end = self.searched + at + 1;
+            if let Some(end) = self.line_end() {
                 self.searched = 0;
                 return Ok(Some(end));
             }
-            self.searched = self.received.len();
             if self.searched > LINE {
                 return Err(bad("the line is too long"));
             }
@@ -301,11 +319,16 @@ impl Client {
         if left.is_some() {
             self.stream.set_read_timeout(left)?;
         }
-        let mut bytes = [0; 1 << 14];
+        let mut bytes = [0; CHUNK];
         let read = self.stream.read(&mut bytes);
         if left.is_some() {
             self.stream.set_read_timeout(None)?;
         }
+        self.add_read(read, &bytes)
+    }
+
+    /// Adds what was read. Returns `false` if nothing had arrived in time.
+    fn add_read(&mut self, read: io::Result<usize>, bytes: &[u8]) -> Result<bool> {
         match read {
             Ok(0) => Err(Error::Closed),
             Ok(count) => {
@@ -319,7 +342,20 @@ impl Client {
         }
     }
 
-    /// Returns the next line pushed for a live query, or `None` if none arrives within this time. Lines that arrive while another call
+    /// Reads what has already arrived, up to the end of a line.
+    fn read_arrived(&mut self) -> Result<()> {
+        let mut bytes = [0; CHUNK];
+        while !self.is_over && self.searched <= LINE && self.line_end().is_none() {
+            let read = os::receive_now(&self.stream, &mut bytes);
+            if !self.add_read(read, &bytes)? {
+                break;
+            }
+        }
+        Ok(())
+    }
+
+    /// Returns the next line pushed for a live query, or `None` if none arrives within this time. If the time is zero, the call only returns
+    /// what has already arrived. Lines that arrive while another call
     /// waits for its reply are buffered, up to [`Options::most_pushed`]. A push with an `error` is the last one for its live query.
     ///
     /// # Errors
@@ -327,6 +363,9 @@ impl Client {
     pub fn next_push(&mut self, within: Duration) -> Result<Option<Push>> {
         if let Some(push) = self.pushes.take() {
             return Ok(Some(push));
+        }
+        if within.is_zero() {
+            self.read_arrived()?;
         }
         let until = end_of(within);
         while let Some(end) = self.read_line(Some(until))? {
@@ -570,59 +609,6 @@ impl Client {
         self.call::<Nothing>(command).map(drop)
     }
 
-    /// Returns how full the store is.
-    ///
-    /// # Errors
-    /// The same as `call`.
-    pub fn status(&mut self) -> Result<wire::Status> {
-        self.call(Command::Status(Nothing {}))
-    }
-
-    /// Returns what the server is doing.
-    ///
-    /// # Errors
-    /// The same as `call`.
-    pub fn info(&mut self) -> Result<wire::Info> {
-        self.call(Command::Info(Nothing {}))
-    }
-
-    /// Returns the connected clients.
-    ///
-    /// # Errors
-    /// The same as `call`.
-    pub fn clients(&mut self) -> Result<Vec<wire::ClientInfo>> {
-        let read: wire::Clients = self.call(Command::Clients(Nothing {}))?;
-        Ok(read.clients)
-    }
-
-    /// Disconnects the client with this number, as listed by [`clients`](Self::clients), and unpins its snapshot. A write that the client
-    /// has already sent may still take effect.
-    ///
-    /// # Errors
-    /// The same as `call`; `NoClient`.
-    pub fn kick(&mut self, client: u64) -> Result<()> {
-        self.call::<Nothing>(Command::Kick(wire::Kick { client })).map(drop)
-    }
-
-    /// Returns the server's status in the log that machines share.
-    ///
-    /// # Errors
-    /// The same as `call`; `NoLog` if the server doesn't use one.
-    pub fn log(&mut self) -> Result<wire::LogStatus> {
-        self.call(Command::Log(wire::OfLog::default()))
-    }
-
-    /// Waits until the server has applied this entry of the log that machines share. Later reads see at least that entry.
-    ///
-    /// # Errors
-    /// The same as `call`; `NotReached` if the time is up first (at most a minute); `NoLog`; `Pinned`.
-    pub fn wait_for_entry(&mut self, entry: u64, within: Duration) -> Result<wire::LogStatus> {
-        self.call(Command::Log(wire::OfLog {
-            entry: Some(entry),
-            within: Some(u64::try_from(within.as_millis()).unwrap_or(u64::MAX)),
-        }))
-    }
-
     /// Returns one page of the journal, starting at the entry with this index.
     ///
     /// # Errors
@@ -729,6 +715,21 @@ mod tests {
     }
 
     #[test]
+    fn what_has_arrived_is_returned_without_a_wait() {
+        let long = "1,".repeat(20_000);
+        let line = format!("{{\"watch\":1,\"commit\":2,\"created\":[{long}1]}}\n{{\"watch\":1,\"commit\":3}}\n");
+        let (mut server, mut client) = client_of("{\"watch\":1");
+        assert!(client.next_push(Duration::ZERO).unwrap().is_none());
+        server.write_all(&line.as_bytes()["{\"watch\":1".len()..]).unwrap();
+        let push = client.next_push(Duration::ZERO).unwrap().unwrap();
+        assert_eq!((push.commit, push.created.len()), (2, 20_001));
+        assert_eq!(client.next_push(Duration::ZERO).unwrap().unwrap().commit, 3);
+        assert!(client.next_push(Duration::ZERO).unwrap().is_none());
+        drop(server);
+        assert!(matches!(client.next_push(Duration::ZERO), Err(Error::Closed)));
+    }
+
+    #[test]
     fn why_the_server_closes_is_no_push() {
         let ending = "{\"id\":null,\"error\":{\"name\":\"Timeout\",\"message\":\"\"}}\n";
         let (server, mut client) = client_of(&format!("{{\"watch\":1,\"commit\":2}}\n{ending}"));
@@ -749,6 +750,20 @@ mod tests {
             client.next_push(Duration::from_secs(9)),
             Err(Error::BadLine(_))
         ));
+    }
+
+    #[test]
+    fn replies_that_nobody_waits_for_are_passed_over() {
+        let error = r#""error":{"name":"Expired","message":""}"#;
+        let (_server, mut client) = client_of(&format!(
+            "{{\"id\":1,{error}}}\n{{\"id\":2,\"ok\":{{}}}}\n{{\"id\":3,\"ok\":{{}}}}\n{{\"id\":4,{error}}}\n"
+        ));
+        let query = "size>5".into();
+        client.send(Command::Explain(wire::QueryText { query })).unwrap();
+        client.send(Command::Unpin(Nothing {})).unwrap();
+        client.unpin().unwrap();
+        assert!(client.unpin().unwrap_err().is(ErrorName::Expired));
+        assert!(client.queries.is_empty());
     }
 
     #[test]

@@ -21,6 +21,7 @@
 #![warn(missing_docs, missing_debug_implementations, rust_2018_idioms)]
 #![deny(unsafe_code)]
 
+mod activity;
 mod change;
 mod client;
 mod error;

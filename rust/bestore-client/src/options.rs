@@ -87,7 +87,8 @@ impl Options {
     /// only once and returns its first outcome. [`Client::change`] runs its closure again.
     ///
     /// A write isn't retried while a snapshot is pinned (except by `change`), or if there were live queries, because a new connection would
-    /// have neither. The number that you pass to [`Client::apply_if`] belongs to the run that [`Client::run`] returns.
+    /// have neither. A batch that creates or removes indices in several volumes isn't retried either, because it can't have a token. The
+    /// number that you pass to [`Client::apply_if`] belongs to the run that [`Client::run`] returns.
     pub fn repeat(&mut self, time: Duration) -> &mut Self {
         self.repeat = Some(time);
         self

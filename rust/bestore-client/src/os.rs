@@ -57,6 +57,16 @@ fn credentials(stream: &UnixStream) -> io::Result<libc::ucred> {
     Ok(credentials)
 }
 
+/// Receives bytes that have already arrived, without waiting for any.
+pub fn receive_now(stream: &UnixStream, bytes: &mut [u8]) -> io::Result<usize> {
+    // SAFETY: the pointer and the length are those of the slice.
+    let received = unsafe {
+        let flags = libc::MSG_DONTWAIT;
+        libc::recv(stream.as_raw_fd(), bytes.as_mut_ptr().cast(), bytes.len(), flags)
+    };
+    usize::try_from(received).map_err(|_| io::Error::last_os_error())
+}
+
 /// Connects to a socket. Connecting, and each later write, fails with `WouldBlock` if it takes longer than `within`.
 pub fn connect(path: &Path, within: Option<Duration>) -> io::Result<UnixStream> {
     let address = address(path)?;

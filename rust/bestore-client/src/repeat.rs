@@ -84,13 +84,14 @@ impl Client {
 
     pub(crate) fn greeted(&mut self, hello: Hello) -> Hello {
         self.run = Some(hello.run.clone());
+        self.volumes = hello.volumes;
         hello
     }
 
     /// Makes a write, and retries it until that time if there is one. A write that may be retried gets a token, so that it takes effect
-    /// only once.
+    /// only once. A batch for all volumes can't have a token.
     pub(crate) fn write_until(&mut self, mut write: wire::Write, until: Option<Instant>) -> Result<wire::Written> {
-        if until.is_none() {
+        if until.is_none() || write.is_for_all(self.volumes as usize) {
             return self.call(Command::Batch(write));
         }
         write.token = new_token();

@@ -18,7 +18,7 @@ use bestore_client::wire::{self, Command, ErrorName};
 use serde::Serialize;
 use std::io::{self, Write};
 use std::sync::Arc;
-use std::time::Instant;
+use std::time::{Duration, Instant};
 
 /// The maximum number of live queries per connection.
 pub const WATCHES: usize = 32;
@@ -62,14 +62,16 @@ impl<'v, 'p> View<'v, 'p> {
         }
     }
 
-    /// Releases the earlier memory of volumes that were carried on, unless a snapshot is pinned. Returns the passes if they have
-    /// changed.
-    pub fn follow(&mut self) -> Result<Option<&ShelfPass>, Error> {
+    /// Releases the earlier memory of volumes that were carried on, unless a snapshot is pinned. Records the client's new passes. If
+    /// this fails, the next call tries again, and the next read returns the error.
+    pub fn follow(&mut self, client: &Client) {
         let pass = match self {
             View::Current(pass) | View::Expired(pass) => pass,
-            View::Kept { .. } => return Ok(None),
+            View::Kept { .. } => return,
         };
-        Ok(pass.follow()?.then_some(&**pass))
+        if let Ok(true) = pass.follow() {
+            client.takes(pass.volumes().iter());
+        }
     }
 
     /// Returns the number of volumes.
@@ -120,9 +122,19 @@ impl<'v, 'p> View<'v, 'p> {
     /// Reads the pinned snapshot, or the current one if none is pinned.
     pub fn read<T>(&mut self, read: impl FnOnce(&ShelfSnapshot<'_>) -> Result<T, Failure>) -> Result<T, Failure> {
         match self {
-            View::Current(pass) => read(&pass.pin()?),
-            View::Kept { snapshot, .. } => read(snapshot),
             View::Expired(_) => Err(Failure::expired()),
+            _ => self.on_snapshot(read),
+        }
+    }
+
+    /// Calls the closure with the pinned snapshot or, if none is pinned or the server has ended it, with the current one.
+    pub fn on_snapshot<T>(
+        &mut self,
+        call: impl FnOnce(&ShelfSnapshot<'_>) -> Result<T, Failure>,
+    ) -> Result<T, Failure> {
+        match self {
+            View::Current(pass) | View::Expired(pass) => call(&pass.pin()?),
+            View::Kept { snapshot, .. } => call(snapshot),
         }
     }
 }
@@ -254,8 +266,12 @@ impl<'a> Desk<'a> {
             Command::Log(wanted) => {
                 // Earlier replies must not wait for the entry.
                 self.send(view.since())?;
-                let status = view.check_waits(&wanted);
-                let status = status.and_then(|()| self.shared.kept.log_status(&wanted, self.client));
+                let (checked, client) = (view.check_waits(&wanted), self.client);
+                let is_over = || {
+                    view.follow(client);
+                    client.is_gone_within(Duration::ZERO)
+                };
+                let status = checked.and_then(|()| self.shared.kept.log_status(&wanted, is_over));
                 status.map(|status| self.reply(id, &status))
             }
             Command::Compact(_) => self.shared.kept.compact().map(|()| self.reply(id, &wire::Nothing {})),

@@ -93,9 +93,13 @@ impl Client {
         lock(&self.doing).pinned = None;
     }
 
-    /// Records that the client has sent this command.
-    pub fn begins(&self, command: &'static str) {
+    /// Counts a request that the client has sent.
+    pub fn asks(&self) {
         self.requests.fetch_add(1, Ordering::Relaxed);
+    }
+
+    /// Records that this command of the client is being carried out.
+    pub fn begins(&self, command: &'static str) {
         lock(&self.doing).command = Some(command);
     }
 

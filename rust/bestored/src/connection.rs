@@ -109,10 +109,7 @@ impl<'a> Connection<'a> {
             {
                 return Ok(Turn::Expire);
             }
-            // If this fails, it is retried, and the next read returns the error.
-            if let Ok(Some(pass)) = view.follow() {
-                self.client.takes(pass.volumes().iter());
-            }
+            view.follow(self.client);
             let line = match self.lines.take() {
                 Some(line) => line,
                 None => match self.receive(view.since())? {
@@ -120,6 +117,7 @@ impl<'a> Connection<'a> {
                     Some(turn) => return Ok(turn),
                 },
             };
+            self.client.asks();
             let line = self.lines.bytes(line);
             let request: Request<'_> = match serde_json::from_slice(line) {
                 Ok(request) => request,

@@ -180,7 +180,7 @@ impl From<Refused> for Failure {
         let message = refused.to_string();
         match refused {
             Refused::NotLeader { leader } => Failure::new(ErrorName::NotLeader, message).with("leader", leader),
-            Refused::NotSaved(_) => Failure::new(ErrorName::NotSaved, message),
+            Refused::NotSaved(_) | Refused::StateNotWritten(_) => Failure::new(ErrorName::NotSaved, message),
             Refused::Stopped(_) => Failure::new(ErrorName::Stopped, message).of_class(Class::Retry),
         }
     }

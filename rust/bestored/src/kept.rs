@@ -1,6 +1,5 @@
 //! The server's volumes: in memory only, kept in files, or a single one in a log that several machines share.
 
-use crate::clients::Client;
 use crate::disk::Disk;
 use crate::failure::Failure;
 #[cfg(feature = "log")]
@@ -325,13 +324,13 @@ impl Kept {
         }
     }
 
-    /// Returns the server's status in the log once the server has the requested entry.
-    pub fn log_status(&self, wanted: &wire::OfLog, client: &Client) -> Result<wire::LogStatus, Failure> {
+    /// Returns the server's status in the log once the server has the requested entry, or once `is_over` returns `true`.
+    pub fn log_status(&self, wanted: &wire::OfLog, is_over: impl FnMut() -> bool) -> Result<wire::LogStatus, Failure> {
         match self {
             #[cfg(feature = "log")]
-            Kept::Log(log) => log.status(wanted, client),
+            Kept::Log(log) => log.status(wanted, is_over),
             _ => {
-                let _ = (wanted, client);
+                let _ = (wanted, is_over);
                 Err(Failure::named(ErrorName::NoLog))
             }
         }

@@ -8,6 +8,11 @@ use std::time::{Duration, Instant};
 /// How much more start-up time each message requests while the server is waiting for a database.
 const EXTENSION: Duration = Duration::from_secs(30);
 
+/// How long to wait until the service manager takes a message, and for one that says only that the server is alive. If the manager
+/// hangs, the server goes on without it.
+const FOR_MESSAGE: Duration = Duration::from_secs(10);
+const FOR_LIFE: Duration = Duration::from_millis(100);
+
 /// Sends messages to the service manager, if there is one.
 #[derive(Debug)]
 pub struct Notifier {
@@ -41,8 +46,12 @@ impl Notifier {
     }
 
     fn send(&self, text: &str) {
+        self.send_within(FOR_MESSAGE, text);
+    }
+
+    fn send_within(&self, time: Duration, text: &str) {
         if let Some(socket) = &self.socket {
-            if let Err(error) = os::send_datagram(socket, text.as_bytes()) {
+            if let Err(error) = os::send_datagram(socket, text.as_bytes(), time) {
                 report!("bestored: the service manager at NOTIFY_SOCKET can't be reached: {error}");
             }
         }
@@ -66,7 +75,7 @@ impl Notifier {
         let every = self.every?;
         if self.last.elapsed() >= every {
             self.last = Instant::now();
-            self.send("WATCHDOG=1");
+            self.send_within(FOR_LIFE, "WATCHDOG=1");
         }
         Some(every.saturating_sub(self.last.elapsed()))
     }

@@ -201,9 +201,11 @@ pub fn try_lock(file: &File) -> io::Result<()> {
     check(unsafe { libc::flock(file.as_raw_fd(), libc::LOCK_EX | libc::LOCK_NB) }).map(drop)
 }
 
-/// Sends a datagram to a Unix socket, given by its path or by an `@` and its abstract name.
-pub fn send_datagram(socket: &OsStr, bytes: &[u8]) -> io::Result<()> {
+/// Sends a datagram to a Unix socket, given by its path or by an `@` and its abstract name. Waits no longer than `time` until the
+/// socket has room for it.
+pub fn send_datagram(socket: &OsStr, bytes: &[u8], time: Duration) -> io::Result<()> {
     let from = UnixDatagram::unbound()?;
+    from.set_write_timeout(Some(time))?;
     if !socket.as_bytes().starts_with(b"@") {
         return from.send_to(bytes, socket).map(drop);
     }
@@ -311,11 +313,15 @@ mod tests {
     fn datagrams_reach_abstract_names() {
         let (socket, name) = abstract_socket();
         let at = [b"@", &name[..]].concat();
-        send_datagram(OsStr::from_bytes(&at), b"hello").unwrap();
+        let time = Duration::from_millis(10);
+        send_datagram(OsStr::from_bytes(&at), b"hello", time).unwrap();
         let mut bytes = [0; 9];
         assert_eq!(socket.recv(&mut bytes).unwrap(), 5);
         assert_eq!(&bytes[..5], b"hello");
-        send_datagram(OsStr::from_bytes(&[at, b"x".to_vec()].concat()), b"hello").unwrap_err();
-        send_datagram(OsStr::new(&format!("@{}", "a".repeat(108))), b"hello").unwrap_err();
+        send_datagram(OsStr::from_bytes(&[&at[..], &b"x"[..]].concat()), b"hello", time).unwrap_err();
+        send_datagram(OsStr::new(&format!("@{}", "a".repeat(108))), b"hello", time).unwrap_err();
+        // Nobody receives these datagrams, so in the end there is no room for another.
+        let mut sent = std::iter::repeat_with(|| send_datagram(OsStr::from_bytes(&at), b"hello", time));
+        assert!(sent.any(|sent| sent.is_err()));
     }
 }

@@ -17,7 +17,7 @@ const LOOK: Duration = Duration::from_millis(2);
 /// Waits until each volume has the entry with the number requested for it. Later reads of the current snapshot include these
 /// entries. If a snapshot is pinned, the wait ends when it has to be unpinned. It also ends when the client's connection is closed.
 pub fn reach(
-    view: &View<'_, '_>,
+    view: &mut View<'_, '_>,
     pressure: &Pressure,
     client: &Client,
     reach: &wire::Reach,
@@ -25,7 +25,8 @@ pub fn reach(
     let wanted = numbers(&reach.commit, view.volumes())?;
     let within = reach.within.map_or(WITHIN, Duration::from_millis).min(MOST);
     let until = Instant::now() + within;
-    let is_over = || Instant::now() >= until || view.since().map_or(false, |since| pressure.is_over(since));
+    let since = view.since();
+    let is_over = || Instant::now() >= until || since.map_or(false, |since| pressure.is_over(since));
     loop {
         let found: Vec<u64> = view.status()?.iter().map(|status| status.entries).collect();
         if wanted.iter().zip(&found).all(|(wanted, found)| wanted <= found) {
@@ -37,6 +38,7 @@ pub fn reach(
         if is_over() || client.is_gone_within(LOOK) {
             return Err(not_reached(&wanted, &found));
         }
+        view.follow(client);
     }
 }
 

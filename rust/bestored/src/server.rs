@@ -42,8 +42,24 @@ const AGAIN: Duration = Duration::from_millis(5);
 /// The maximum length, in bytes, of a first request that asks for the visitors' pass.
 const GREETING: usize = 256;
 
-/// The minimum time between reports that all places are taken.
+/// The minimum time between reports of the same kind, if the clients' number decides how often there would be one.
 const SAID: Duration = Duration::from_secs(10);
+
+/// Limits how often something is reported.
+#[derive(Debug, Default)]
+pub struct Seldom(Mutex<Option<Instant>>);
+
+impl Seldom {
+    /// Returns whether to report it now.
+    fn is_due(&self) -> bool {
+        let mut said = self.0.lock().unwrap_or_else(PoisonError::into_inner);
+        let is_due = said.map_or(true, |said| said.elapsed() >= SAID);
+        if is_due {
+            *said = Some(Instant::now());
+        }
+        is_due
+    }
+}
 
 /// The state that all connections share.
 #[derive(Debug)]
@@ -57,8 +73,9 @@ pub struct Shared {
     pub meter: Meter,
     pub copies: Copies,
     pub carrying: Carrying,
-    /// When the server last reported that all places are taken.
-    pub is_full: Mutex<Option<Instant>>,
+    /// For the reports that all places are taken, and that a client couldn't be accepted.
+    pub is_full: Seldom,
+    pub not_accepted: Seldom,
     /// The pass for clients that can't get another. Each of them may use it for a short time.
     pub visits: Mutex<ShelfPass>,
     /// A string that is different for each run.
@@ -137,7 +154,9 @@ fn take_client(listener: &UnixListener, shared: &Arc<Shared>) -> bool {
         Err(error) if error.kind() == ErrorKind::Interrupted => {}
         Err(error) if error.kind() == ErrorKind::WouldBlock => return false,
         Err(error) => {
-            report!("bestored: a client could not connect: {error}");
+            if shared.not_accepted.is_due() {
+                report!("bestored: a client could not connect: {error}");
+            }
             thread::sleep(Duration::from_millis(100));
             return false;
         }
@@ -179,13 +198,10 @@ fn welcome(shared: &Arc<Shared>, stream: Arc<UnixStream>) {
 /// Refuses a client because there is no place for it, and reports this from time to time.
 fn refuse_for_now(shared: &Shared, stream: &UnixStream) {
     let failure = no_pass(shared);
-    let mut said = shared.is_full.lock().unwrap_or_else(PoisonError::into_inner);
-    if said.map_or(true, |said| said.elapsed() >= SAID) {
-        *said = Some(Instant::now());
+    if shared.is_full.is_due() {
         let process = peer_process(stream).unwrap_or(0);
         report!("bestored: process {process} was refused: {}", failure.0.message);
     }
-    drop(said);
     refuse(stream, &failure);
 }
 

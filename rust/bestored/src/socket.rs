@@ -2,17 +2,20 @@
 
 use crate::os;
 use bestore_client::socket::{check_path, user};
-use bestore_client::SocketPath;
+use bestore_client::{Error, Options, SocketPath};
 use std::fs::{self, DirBuilder, File, Metadata, OpenOptions};
 use std::io::{self, ErrorKind};
 use std::os::unix::fs::{DirBuilderExt, FileTypeExt, MetadataExt, OpenOptionsExt};
-use std::os::unix::net::{UnixListener, UnixStream};
+use std::os::unix::net::UnixListener;
 use std::path::{Path, PathBuf};
 use std::thread;
 use std::time::Duration;
 
 /// How many times to retry, every 0.1 seconds, if another server that is starting holds the lock.
 const TRIES: u32 = 50;
+
+/// How long to wait until a server that may be listening accepts a connection.
+const FOR_ANSWER: Duration = Duration::from_secs(1);
 
 /// A listening socket. If this program created it, it is removed when dropped.
 #[derive(Debug)]
@@ -206,9 +209,15 @@ fn look(path: &Path) -> io::Result<Found> {
         }
         Ok(_) => {}
     }
-    match UnixStream::connect(path) {
-        Ok(_) => Err(wrong(path, "a server is listening there")),
-        Err(error) if error.kind() == ErrorKind::ConnectionRefused => Ok(Found::Dead),
+    // A server that accepts no one at the moment, for example because it is stopped, keeps this one waiting only for so long.
+    match Options::new().timeout(Some(FOR_ANSWER)).connect(path) {
+        Ok(_) | Err(Error::TimedOut(_)) => Err(wrong(path, "a server is listening there")),
+        Err(Error::Io(error)) => match error.kind() {
+            ErrorKind::ConnectionRefused => Ok(Found::Dead),
+            // The server has just ended, and has removed its socket.
+            ErrorKind::NotFound => Ok(Found::Nothing),
+            _ => Err(wrong(path, error)),
+        },
         Err(error) => Err(wrong(path, error)),
     }
 }

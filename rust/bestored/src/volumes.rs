@@ -4,19 +4,8 @@ use crate::answer::View;
 use crate::failure::Failure;
 use crate::page::commits;
 use crate::pressure::Pressure;
-use bestore::{Batch, Error, Node, Operation, ShelfSnapshot, Status, Written};
+use bestore::{Batch, Error, Node, Operation, ShelfSnapshot, Snapshot, Status, Written};
 use bestore_client::wire::{self, Numbers};
-
-fn is_of_indices(operation: &Operation<'_>) -> bool {
-    matches!(operation, Operation::MakeIndex { .. } | Operation::RemoveIndex { .. })
-}
-
-/// Returns whether the operations apply to every volume. They do if they only create and remove indices, and the request names no
-/// volume.
-pub fn is_for_all(write: &wire::Write, volumes: usize) -> bool {
-    let mut operations = write.operations.batch.operations();
-    volumes > 1 && write.volume.is_none() && operations.len() > 0 && operations.all(|one| is_of_indices(&one))
-}
 
 /// Writes the batch to one volume. Calls `made` with the reply once the batch is in memory.
 pub fn write(
@@ -84,13 +73,19 @@ fn expected(write: &wire::Write, volume: u32, volumes: usize) -> Result<Option<u
 }
 
 /// Creates and removes indices in every volume, one operation after another.
-pub fn write_indices(snapshot: &ShelfSnapshot<'_>, batch: &Batch) -> Result<wire::Written, Failure> {
+pub fn write_indices(
+    pressure: &Pressure,
+    snapshot: &ShelfSnapshot<'_>,
+    batch: &Batch,
+) -> Result<wire::Written, Failure> {
+    let pass_in = |volume| snapshot.volume(volume).map(Snapshot::pass);
     for (index, operation) in batch.operations().enumerate() {
-        let made = match operation {
+        // A retry passes over the volumes that were written before the error.
+        let made = pressure.with_pages(pass_in, || match operation {
             Operation::MakeIndex { name, kind } => snapshot.make_index(name, kind),
             Operation::RemoveIndex { name } => snapshot.remove_index(name),
             _ => Ok(()),
-        };
+        });
         made.map_err(|error| Failure::from(error).with("operation", index))?;
     }
     let numbers: Vec<u64> = snapshot.status()?.iter().map(|status| status.entries).collect();

@@ -10,19 +10,34 @@ use bestore_client::wire::{self, ErrorName, Numbers, Token};
 
 /// Writes a batch, unless a batch with the same token has already been written.
 pub fn write(shared: &Shared, mut write: wire::Write, view: &mut View<'_, '_>) -> Result<wire::Written, Failure> {
-    let wire::Operations { batch, count } = &mut write.operations;
+    let wire::Operations { batch, count } = &write.operations;
     if *count > batch.len() {
         return Err(Error::BadCount { count: *count }.into());
+    }
+    if write.is_for_all(view.volumes()) {
+        check_for_all(&write)?;
     }
     let mut written = match write.token.take() {
         None => write_now(shared, &write, view, |_| ())?,
         Some(token) => {
-            batch.set_token(token.as_str());
+            write.operations.batch.set_token(token.as_str());
             write_once(shared, &token, &write, view)?
         }
     };
     written.entry = shared.kept.entry(written.commit);
     Ok(written)
+}
+
+/// Returns an error if a batch that is written to every volume has a parameter that only a batch for one volume can have.
+fn check_for_all(write: &wire::Write) -> Result<(), Failure> {
+    let why = if write.token.is_some() {
+        "a batch that is written to every volume takes no token; it can be sent again without one"
+    } else if write.expected.is_some() {
+        "a batch that is written to every volume takes no `expected`; leave it out, or name a `volume`"
+    } else {
+        return Ok(());
+    };
+    Err(Failure::bad_request(why))
 }
 
 fn write_once(
@@ -31,10 +46,6 @@ fn write_once(
     write: &wire::Write,
     view: &mut View<'_, '_>,
 ) -> Result<wire::Written, Failure> {
-    if volumes::is_for_all(write, view.volumes()) {
-        let why = "a batch that is written to every volume takes no token; it can be sent again without one";
-        return Err(Failure::bad_request(why));
-    }
     match shared.tokens.begin(token.as_str()) {
         Begun::First(first) => match write_now(shared, write, view, |made| first.made(made)) {
             Err(failure) if failure.is_conflict() => {
@@ -70,8 +81,10 @@ fn write_now(
     let measured = shared.meter.begin();
     shared.kept.check_write()?;
     check_run(shared, write, view)?;
-    let written = match volumes::is_for_all(write, view.volumes()) {
-        true => view.read(|snapshot| volumes::write_indices(snapshot, &write.operations.batch)),
+    let written = match write.is_for_all(view.volumes()) {
+        true => {
+            view.on_snapshot(|snapshot| volumes::write_indices(&shared.pressure, snapshot, &write.operations.batch))
+        }
         false => volumes::write(&shared.pressure, view, write, made),
     };
     // Even if a volume refused the batch, others may already have written it.

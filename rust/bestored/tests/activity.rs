@@ -1,12 +1,14 @@
 //! Tests `info`, `clients` and `kick`, and what a server reports on standard error.
 
-use crate::common::{check_gone, command, wait_until, Folder, Server};
+use crate::common::{check_gone, command, start, wait_until, Folder, Server};
 use bestore::Batch;
 use bestore_client::{Client, Error, ErrorName};
 use std::fs::{self, File};
 use std::os::unix::fs::symlink;
 use std::path::PathBuf;
-use std::process;
+use std::process::{self, Command};
+use std::thread;
+use std::time::Duration;
 
 /// A server whose output is written to a file.
 struct Saying {
@@ -18,8 +20,13 @@ struct Saying {
 impl Saying {
     fn start(options: &[&str]) -> Self {
         let folder = Folder::new();
+        let command = command(&folder.join("socket"), options);
+        Self::run(folder, command)
+    }
+
+    /// Runs the command, which starts a server with its socket in this folder.
+    fn run(folder: Folder, mut command: Command) -> Self {
         let (socket, said) = (folder.join("socket"), folder.join("said"));
-        let mut command = command(&socket, options);
         command.stderr(File::create(&said).unwrap());
         let server = Server::run(command, &socket);
         assert!(server.answers());
@@ -67,6 +74,18 @@ fn what_is_written_is_counted() {
 }
 
 #[test]
+fn every_request_is_counted() {
+    let (_folder, server) = start(&[]);
+    let mut client = server.client();
+    let before = client.info().unwrap().requests;
+    client.pin().unwrap();
+    client.unpin().unwrap();
+    client.unpin().unwrap_err();
+    server.talk().check_parts("what", &["BadRequest"]);
+    assert_eq!(client.info().unwrap().requests, before + 5);
+}
+
+#[test]
 fn files_that_a_link_names_are_measured() {
     let folder = Folder::new();
     fs::create_dir(folder.join("elsewhere")).unwrap();
@@ -78,6 +97,23 @@ fn files_that_a_link_names_are_measured() {
     let length = |name: &str| folder.join("elsewhere").join(name).metadata().unwrap().len();
     assert_eq!((files.bytes, files.wal_bytes), (length("file"), length("file-wal")));
     assert!(files.wal_bytes > 0);
+}
+
+#[test]
+fn a_server_without_descriptors_says_so_once_and_goes_on() {
+    let folder = Folder::new();
+    let server = command(&folder.join("socket"), &[]);
+    let mut limited = Command::new("sh");
+    limited.args(["-c", "ulimit -n 24 && exec \"$@\"", "sh"]);
+    limited.arg(server.get_program()).args(server.get_args());
+    let saying = Saying::run(folder, limited);
+    let waiting: Vec<_> = (0..40).map(|_| saying.server.talk()).collect();
+    saying.says("a client could not connect");
+    thread::sleep(Duration::from_secs(1));
+    let said = fs::read_to_string(&saying.said).unwrap();
+    assert_eq!(said.matches("a client could not connect").count(), 1, "{said}");
+    drop(waiting);
+    assert!(saying.server.answers());
 }
 
 #[test]
@@ -109,7 +145,7 @@ fn who_keeps_a_snapshot_is_named_and_can_be_ended() {
     let [held, own] = [&clients[clients.len() - 2], &clients[clients.len() - 1]];
     assert_eq!(oldest.client, Some(held.client));
     assert_eq!(held.pinned.as_ref().unwrap().commit, pinned.commit);
-    assert_eq!((held.process, held.requests, held.own), (process::id(), 0, false));
+    assert_eq!((held.process, held.requests, held.own), (process::id(), 1, false));
     assert_eq!(
         (own.own, own.command.as_deref(), &own.pinned),
         (true, Some("clients"), &None)

@@ -9,6 +9,7 @@ use bestore::{Batch, Kind};
 use bestore_client::wire::{self, Command, Numbers, Write, Written};
 use bestore_client::{Client, Error, ErrorName};
 use std::process;
+use std::time::{Duration, Instant};
 
 /// Options for a small server, which carries its store on after 128 KiB of entries.
 const SMALL: [&str; 6] = ["--pages", "64", "--passes", "16", "--journal", "128"];
@@ -199,6 +200,47 @@ fn who_rests_keeps_no_memory() {
     for client in &mut resting {
         assert!(client.get(1, "text0").unwrap().is_some());
     }
+}
+
+/// Checks that the store is carried on again and again while a client waits on the server for something that doesn't come.
+fn check_waiting(server: &Server, command: &str, request: &[u8]) {
+    let mut writing = server.client();
+    writing.apply(Batch::new().new_node()).unwrap();
+    let mut waiting = server.talk();
+    waiting.send(request);
+    wait_until("it waits", || {
+        let clients = writing.clients().unwrap();
+        clients.iter().any(|client| client.command.as_deref() == Some(command))
+    });
+    let begin = Instant::now();
+    for _ in 0..4 {
+        write_on(&mut writing);
+    }
+    assert!(begin.elapsed() < Duration::from_secs(30), "{:?}", begin.elapsed());
+}
+
+#[test]
+fn who_waits_for_a_commit_keeps_no_memory() {
+    let folder = Folder::new();
+    let server = Server::start(&folder, &SMALL);
+    check_waiting(
+        &server,
+        "reach",
+        b"{\"id\":1,\"reach\":{\"commit\":1000000,\"within\":60000}}\n",
+    );
+}
+
+#[cfg(feature = "log")]
+#[test]
+fn who_waits_for_an_entry_keeps_no_memory() {
+    let database = present!(database());
+    let leader = Member::start_with(&database, "--log", &SMALL);
+    leader.client();
+    check_waiting(
+        &leader.server,
+        "log",
+        b"{\"id\":1,\"log\":{\"entry\":1000000,\"within\":60000}}\n",
+    );
 }
 
 #[test]

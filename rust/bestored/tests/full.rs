@@ -75,12 +75,8 @@ impl<'a> Kept<'a> {
     /// Lets the clients write until saving fails, in some runs while the state is being rewritten. Even on a full disk, the file
     /// can be opened.
     fn fill(&self, number: usize) {
-        let server = match (self.start(), self.disk) {
-            (Some(server), _) => server,
-            (None, Disk::Mounted { .. }) => panic!("run {number}: the file can't be opened on a full disk"),
-            // SQLite doesn't treat this limit as a full disk, so the file may fail to open.
-            (None, Disk::Limited { .. }) => return,
-        };
+        let server = self.start();
+        let server = server.unwrap_or_else(|| panic!("run {number}: the file can't be opened on a full disk"));
         let mut client = server.client();
         self.writers.go_on(&mut client);
         let errors = self.writers.write(server.socket(), || {
@@ -180,6 +176,28 @@ fn answered_writes_outlive_a_full_disk() {
 fn answered_writes_outlive_a_file_that_may_not_grow() {
     let disks = (0..DISKS).map(|_| Disk::limited()).collect();
     run_all("a file that may not grow", disks);
+}
+
+#[test]
+fn a_file_that_may_not_grow_can_be_read() {
+    let (disk, folder) = (Disk::limited(), Folder::new());
+    let server = start(&disk, &folder, &[]).unwrap();
+    let mut client = server.client();
+    client.apply(Batch::new().new_node().set(1, "count", 1_u64)).unwrap();
+    // The next server would like to rewrite the state, since an entry follows it.
+    server.kill();
+    disk.resize(4);
+    let server = start(&disk, &folder, &[]).expect("the file can be opened");
+    let mut client = server.client();
+    assert_eq!(count_of(&mut client), Some(1));
+    let refused = set_count(&mut client, 2).unwrap_err();
+    assert!(refused.is(ErrorName::NotSaved), "{refused}");
+    assert!(!server.wait_end().success());
+    disk.resize(LARGE);
+    let server = start(&disk, &folder, &[]).unwrap();
+    let mut client = server.client();
+    assert_eq!(count_of(&mut client), Some(1));
+    set_count(&mut client, 2).unwrap();
 }
 
 /// Returns a disk for a test that needs one, or prints that there is none.

@@ -33,7 +33,7 @@ pub const OF_LEADER: &str = "FROM pg_locks JOIN pg_database ON database = pg_dat
                          WHERE locktype = 'advisory' AND datname = current_database()";
 
 /// Returns a database, or prints that there is none.
-fn database_of(server: Option<Arc<Postgres>>) -> Option<Database> {
+pub fn database_of(server: Option<Arc<Postgres>>) -> Option<Database> {
     if server.is_none() {
         println!("a log in PostgreSQL: skipped, it isn't installed");
     }
@@ -65,7 +65,7 @@ impl Member {
         Self::start_at(folder, &database.url(), how)
     }
 
-    fn start_at(folder: Folder, url: &str, how: &str) -> Self {
+    pub fn start_at(folder: Folder, url: &str, how: &str) -> Self {
         Self::run(folder, &[how, url, "--pages", "512", "--passes", "16"])
     }
 

@@ -20,6 +20,8 @@ mod common;
 mod crowd;
 mod full;
 mod growth;
+#[cfg(feature = "log")]
+mod hanging;
 mod killed;
 mod live;
 #[cfg(feature = "log")]

@@ -1,10 +1,12 @@
 //! Tests the messages that a service manager receives. A socket of the test's own takes the manager's place.
 
 use crate::common::{command, Folder, Server, PATIENCE};
-use bestore_client::Client;
+use bestore_client::{Client, Options};
 use std::os::unix::net::UnixDatagram;
 use std::path::PathBuf;
-use std::process::Command;
+use std::process::{Command, Stdio};
+use std::thread;
+use std::time::{Duration, Instant};
 
 /// The socket of a service manager, and a server's folder.
 struct Manager {
@@ -83,4 +85,25 @@ fn a_server_that_cannot_start_says_nothing_and_one_whose_manager_is_gone_serves(
         server.kill();
         command = manager.command(&[]);
     }
+}
+
+#[test]
+fn a_server_whose_manager_hangs_goes_on() {
+    let manager = Manager::new();
+    let mut command = manager.command(&[]);
+    command.env("WATCHDOG_USEC", "3000").stderr(Stdio::null());
+    let server = Server::run(command, &manager.place());
+    assert!(server.answers());
+    // The manager reads nothing, so its socket takes no more messages after a while.
+    thread::sleep(Duration::from_secs(3));
+    let mut options = Options::new();
+    let mut client = options
+        .timeout(Some(Duration::from_secs(20)))
+        .connect(server.socket())
+        .unwrap();
+    client.hello().unwrap();
+    drop(client);
+    let begin = Instant::now();
+    assert!(server.end_by("TERM").success());
+    assert!(begin.elapsed() < Duration::from_secs(30));
 }

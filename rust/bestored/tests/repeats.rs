@@ -2,7 +2,7 @@
 
 use crate::common::{wait_until, Folder, Random, Server};
 use bestore::Batch;
-use bestore_client::wire::{Command, Token, Write, Written};
+use bestore_client::wire::{self, Command, Token, Write, Written};
 use bestore_client::{Client, Error, Options};
 use std::collections::BTreeSet;
 use std::path::Path;
@@ -145,6 +145,23 @@ fn tokens_are_of_the_whole_server_and_outlive_it() {
         assert!(client.status().unwrap().volumes[0].entries >= again.commit);
         server.kill();
     }
+}
+
+#[test]
+fn a_client_that_repeats_makes_indices_in_all_volumes() {
+    let folder = Folder::new();
+    let server = Server::start(&folder, &["--volumes", "2"]);
+    let mut client = Options::new().repeat(PATIENCE).connect(server.socket()).unwrap();
+    client.apply(Batch::new().make_index("a", bestore::Kind::Text)).unwrap();
+    client
+        .apply_in(1, Batch::new().make_index("b", bestore::Kind::Text))
+        .unwrap();
+    let indices = client
+        .call::<wire::Indices>(Command::Indices(wire::Nothing {}))
+        .unwrap();
+    assert_eq!(indices.indices.keys().collect::<Vec<_>>(), ["a"]);
+    assert_eq!(indices.partial["b"], [1]);
+    client.apply(Batch::new().remove_index("a")).unwrap();
 }
 
 /// Writes batches, and sends each one again until it gets a reply. Each batch creates a node with the writer's number and its own.

@@ -6,6 +6,7 @@ use bestore_client::ErrorName;
 use std::fs::{self, Permissions};
 use std::io::Read;
 use std::os::unix::fs::PermissionsExt;
+use std::os::unix::io::AsRawFd;
 use std::os::unix::net::{UnixListener, UnixStream};
 use std::path::Path;
 use std::process::{Command, Output, Stdio};
@@ -132,6 +133,17 @@ fn a_dead_server_is_replaced_and_a_living_one_isnt() {
     assert_eq!(server.client().apply(Batch::new().new_node()).unwrap().nodes, [1]);
     refused(command(server.socket(), &[]), "a server is listening there");
     assert_eq!(server.client().apply(Batch::new().new_node()).unwrap().nodes, [2]);
+}
+
+#[test]
+fn a_living_server_is_found_although_it_accepts_nobody() {
+    let folder = Folder::new();
+    let socket = folder.join("socket");
+    let listener = UnixListener::bind(&socket).unwrap();
+    // SAFETY: the call takes only numbers. From now on, only one connection can be pending.
+    assert_eq!(unsafe { libc::listen(listener.as_raw_fd(), 0) }, 0);
+    let _pending = UnixStream::connect(&socket).unwrap();
+    refused(command(&socket, &[]), "a server is listening there");
 }
 
 #[test]

@@ -1,8 +1,8 @@
 //! Tests what one leader of a log hands over to the next, and how a paused leader is replaced.
 
-use crate::common::postgres::Database;
+use crate::common::postgres::{Database, Postgres};
 use crate::common::{wait_until, wait_within};
-use crate::log::{database, Member, OF_LEADER, SOON};
+use crate::log::{database, database_of, Member, OF_LEADER, SOON};
 use crate::repeats::make;
 use bestore::Batch;
 use bestore_client::wire::{Command, Nothing, Numbers, Token, Write, Written};
@@ -68,6 +68,38 @@ fn a_leader_that_is_paused_is_replaced() {
     paused.server.signal("CONT");
     assert!(paused.end().contains("leads"));
     assert_eq!(make(&mut following.client(), "c").unwrap().nodes, [3]);
+}
+
+#[test]
+fn a_leader_whose_standby_is_away_stays_the_leader() {
+    let database = present!(database_of(Postgres::start()));
+    let (leader, _, following) = leader_and_follower(&database);
+    let set = |setting: &str| {
+        database.sql(&format!("ALTER SYSTEM {setting}"));
+        database.sql("SELECT pg_reload_conf()");
+    };
+    set("SET synchronous_standby_names = 'away'");
+    // Before PostgreSQL goes by the new setting, writes are still kept.
+    let (mut client, mut count) = (leader.client(), 1);
+    let refused = loop {
+        count += 1;
+        if let Err(refused) = make(&mut client, &count.to_string()) {
+            break refused;
+        }
+    };
+    assert!(refused.is(ErrorName::NotSaved), "{refused}");
+    // By now, the leader has been silent for longer than any other reason allows.
+    thread::sleep(Duration::from_secs(2));
+    assert!(!following.said().contains("ending its session"), "{}", following.said());
+    set("RESET synchronous_standby_names");
+    let mut again = None;
+    wait_within(SOON, "the leader writes again", || {
+        again = make(&mut leader.client(), &count.to_string()).ok();
+        again.is_some()
+    });
+    let again = again.unwrap();
+    assert_eq!((again.nodes, again.repeated), (vec![count], true));
+    assert!(leader.leads() && !following.leads());
 }
 
 /// Waits until a session in the database waits for this event, in a statement that contains this text.

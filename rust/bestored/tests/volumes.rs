@@ -122,6 +122,10 @@ fn what_cant_be_in_volumes_is_refused() {
             r#"{"name":"PartialIndex","#,
         ),
         (
+            r#""batch":{"operations":[["index","a","text"]],"expected":[1,1]}"#,
+            r#"{"name":"BadRequest","message":"a batch that is written to every volume takes no `expected`;"#,
+        ),
+        (
             r#""batch":{"operations":[["index","size","int64"]]}"#,
             r#"{"name":"IndexExists","number":5,"#,
         ),
@@ -156,6 +160,40 @@ fn what_cant_be_in_volumes_is_refused() {
     );
     let conflict = talk.ask(r#"{"id":1,"batch":{"operations":[["new"]],"expected":7,"volume":1}}"#);
     assert!(conflict.contains(r#""expected":7,"found":1,"volume":1"#), "{conflict}");
+}
+
+#[test]
+fn indices_are_made_although_the_snapshot_was_taken_back() {
+    let (_folder, server) = start(&["--volumes", "2", "--hold", "1"]);
+    let mut client = server.client();
+    client.pin().unwrap();
+    wait_until("the snapshot is taken back", || client.next_node().is_err());
+    client.apply(Batch::new().make_index("size", Kind::Int64)).unwrap();
+    assert!(client.next_node().unwrap_err().is(ErrorName::Expired));
+    client.unpin().unwrap();
+    assert_eq!(client.indices().unwrap().len(), 1);
+}
+
+#[test]
+fn an_index_of_all_volumes_waits_for_pages() {
+    let (_folder, server) = start(&["--volumes", "2", "--pages", "32"]);
+    let (mut reading, mut writing) = (server.client(), server.client());
+    reading.pin().unwrap();
+    let (mut batch, mut is_there) = (Batch::new(), false);
+    while writing.status().unwrap().volumes[1].free > 0 {
+        batch = Batch::new();
+        match is_there {
+            false => batch.make_index("a", Kind::Text),
+            true => batch.remove_index("a"),
+        };
+        writing.apply_in(1, &batch).unwrap();
+        is_there = !is_there;
+    }
+    assert!(reading.next_node().is_ok() && !batch.is_empty());
+    // The first volume has pages. Those of the second are free once the server has taken back the snapshot.
+    writing.apply(Batch::new().make_index("b", Kind::Text)).unwrap();
+    assert!(reading.next_node().unwrap_err().is(ErrorName::Expired));
+    assert_eq!(writing.indices().unwrap().into_keys().collect::<Vec<_>>(), ["b"]);
 }
 
 #[test]

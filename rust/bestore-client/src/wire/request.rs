@@ -2,6 +2,7 @@
 
 use super::operation::asked_operations;
 use super::{Operations, Token};
+use bestore_types::Operation;
 use serde::de::value::MapAccessDeserializer;
 use serde::de::{self, Deserialize, Deserializer, IgnoredAny, MapAccess, Visitor};
 use serde::ser::{Serialize, SerializeMap, Serializer};
@@ -133,6 +134,17 @@ parameters! {
         /// How long to wait, in milliseconds.
         #[serde(default, deserialize_with = "given", skip_serializing_if = "Option::is_none")]
         pub within: Option<u64>,
+    }
+}
+
+impl Write {
+    /// Returns whether a server with this many volumes writes the batch to all of them. It does so if the batch only creates and removes
+    /// indices and names no volume.
+    #[must_use]
+    pub fn is_for_all(&self, volumes: usize) -> bool {
+        let is_of_index = |operation| matches!(operation, Operation::MakeIndex { .. } | Operation::RemoveIndex { .. });
+        let mut operations = self.operations.batch.operations();
+        volumes > 1 && self.volume.is_none() && operations.len() > 0 && operations.all(is_of_index)
     }
 }
 

@@ -1,6 +1,6 @@
 //! Why a file can't be opened, or a write can't be saved.
 
-use rusqlite::ErrorCode;
+use rusqlite::{ffi, ErrorCode};
 use std::fmt;
 use std::path::{Path, PathBuf};
 use std::sync::Arc;
@@ -234,6 +234,20 @@ impl Error {
     pub fn folder(path: &Path, error: std::io::Error) -> Self {
         let path = path.to_owned();
         Error::Folder { path, error }
+    }
+
+    /// Returns `true` if the system let nothing more be written: the disk is full or broken, the user's quota is used up, or the file has
+    /// the greatest size that the process may give it. SQLite reports the last two like a broken disk.
+    #[must_use]
+    pub fn is_of_writing(&self) -> bool {
+        match self {
+            Error::DiskFull { .. } => true,
+            Error::Sqlite {
+                error: rusqlite::Error::SqliteFailure(failure, _),
+                ..
+            } => matches!(failure.extended_code, ffi::SQLITE_IOERR_WRITE | ffi::SQLITE_IOERR_FSYNC),
+            _ => false,
+        }
     }
 
     /// Attributes the error to this volume.

@@ -6,11 +6,14 @@ use super::{Error, Place, Result};
 use crate::{Batch, Limits};
 use rusqlite::config::DbConfig;
 use rusqlite::{ffi, Connection, OpenFlags, Transaction};
+use std::collections::hash_map::RandomState;
 use std::collections::VecDeque;
 use std::fs::OpenOptions;
+use std::hash::{BuildHasher, Hasher};
 use std::ops::RangeInclusive;
 use std::os::unix::fs::OpenOptionsExt;
 use std::path::{Path, PathBuf};
+use std::thread;
 use std::time::Duration;
 
 /// The WAL is reused from its start after 120 pages (0.5 MB), so the limit truncates it only after a large commit. SQLite's default of
@@ -24,6 +27,10 @@ const SETTINGS: &str = "
     BEGIN IMMEDIATE;
     COMMIT;
 ";
+
+/// How many more times to try to lock a file that is held, and the longest pause before each attempt, in µs.
+const TRIES: u32 = 6;
+const PAUSE: u64 = 40_000;
 
 /// The highest number that an entry can have: SQLite's largest integer.
 const LAST_NUMBER: u64 = i64::MAX as u64;
@@ -137,6 +144,11 @@ fn explained(opened: Result<File>, place: &Path, writes: bool) -> Result<File> {
     Err(Error::Sqlite { path, error })
 }
 
+/// Returns a number that is different in each process, thread and call.
+fn any_number() -> u64 {
+    RandomState::new().build_hasher().finish()
+}
+
 #[derive(Debug)]
 pub struct File {
     connection: Connection,
@@ -155,11 +167,29 @@ pub struct File {
 impl File {
     /// Opens or creates the file, for exclusive use by this process.
     pub fn open(path: &Path) -> Result<Self> {
+        for _ in 0..TRIES {
+            match Self::open_once(path) {
+                // Programs that open the file at the same moment can keep each other from locking it. After pauses of different
+                // lengths, one of them is the first.
+                Err(Error::Held { .. }) => thread::sleep(Duration::from_micros(any_number() % PAUSE)),
+                opened => return opened,
+            }
+        }
+        Self::open_once(path)
+    }
+
+    fn open_once(path: &Path) -> Result<Self> {
         let flags = OpenFlags::SQLITE_OPEN_READ_WRITE | OpenFlags::SQLITE_OPEN_CREATE | OpenFlags::SQLITE_OPEN_NO_MUTEX;
         // SQLite doesn't treat `:memory:` or an empty name as a file. After a folder's name, SQLite takes every name as that of a file.
         let within = Path::new(".").join(path);
         make_private(&within);
-        let opened = Self::connect(&within, path, flags).and_then(|mut file| file.take().map(|()| file));
+        let opened = Self::connect(&within, path, flags).and_then(|mut file| match file.take() {
+            Ok(()) => Ok(file),
+            Err(error) => {
+                file.leave();
+                Err(error)
+            }
+        });
         explained(opened, &within, true)
     }
 

@@ -219,14 +219,14 @@ fn read(place: Place, bytes: &[u8]) -> Result<Batch> {
     Batch::from_bytes(bytes).map_err(|error| Error::differs(place, error))
 }
 
-/// Rewrites the state if entries follow it, or if the file has no checksums. If the disk is full, the file isn't changed, and the next
-/// write reports the error.
+/// Rewrites the state if entries follow it, or if the file has no checksums. If nothing can be written, for example because the disk is
+/// full, the file isn't changed, and the next write reports the error.
 fn renew(file: &mut File, snapshot: &Snapshot<'_>, number: u64) -> Result<()> {
     if number == file.state()?.entries && !file.lacks_checksums() {
         return Ok(());
     }
     match file.write_state(number, snapshot.next_node()?, snapshot.state()) {
-        Err(Error::DiskFull { .. }) => Ok(()),
+        Err(error) if error.is_of_writing() => Ok(()),
         answer => answer,
     }
 }

@@ -1,7 +1,7 @@
 //! How to reach a log's database: its URL, and the password, which may come from a file in the format that PostgreSQL's own
 //! programs use.
 
-use super::database::Database;
+use super::database::{Database, LIMIT};
 use super::error::{Error, Result};
 use crate::options::{InLog, Options};
 use std::fs;
@@ -64,7 +64,17 @@ fn config(in_log: &InLog) -> Result<Config> {
         config.application_name("bestored");
     }
     config.keepalives_idle(Duration::from_secs(5));
+    limit_connecting(&mut config);
     Ok(config)
+}
+
+/// If the URL names several machines, limits the time for connecting to each, so that the last one is tried even if none of the
+/// others replies.
+fn limit_connecting(config: &mut Config) {
+    let machines = config.get_hosts().len() as u32;
+    if machines > 1 && config.get_connect_timeout().is_none() {
+        config.connect_timeout(LIMIT / (machines + 1));
+    }
 }
 
 /// Returns the value of `sslmode` in a URL or in a string such as `host=db sslmode=require`.

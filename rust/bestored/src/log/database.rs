@@ -18,10 +18,18 @@ use tokio_postgres::{AsyncMessage, Client, Config, NoTls, Row as SqlRow, Socket,
 const FORMAT: i32 = 1;
 
 /// How long a call may take. PostgreSQL cancels a statement slightly sooner.
-const LIMIT: Duration = Duration::from_secs(6);
+pub const LIMIT: Duration = Duration::from_secs(6);
 
-/// The maximum number of entries to read at a time.
-pub const ENTRIES: usize = 500;
+/// How long a call may take that writes part of a state or removes old entries. PostgreSQL cancels the statement slightly sooner.
+const STATE_LIMIT: Duration = Duration::from_secs(60);
+
+/// The maximum number of entries or of the state's batches to read at a time, and how many bytes of batches may come before the last
+/// one: few enough that they arrive within `LIMIT` over a slow network.
+const ROWS: usize = 500;
+const BYTES: usize = 256 << 10;
+
+/// The maximum number of the state's batches to write at a time.
+const BATCHES: usize = 500;
 
 /// How many entries from before the state to leave in the log, for followers that lag slightly.
 const SPARE: u64 = 10_000;
@@ -90,12 +98,14 @@ const TOUCH: &str = "
     WHERE term = $1 RETURNING bestore_log.*";
 
 /// Ends the session that holds the lock, if it has done nothing for `$1` seconds. A follower that has just taken the lock keeps
-/// it.
+/// it. So does a leader whose entries wait for a synchronous standby, since no other leader could add any without the standby.
 const END_LEADER: &str = "
-    SELECT pg_terminate_backend(pid) FROM pg_locks JOIN pg_stat_activity USING (pid)
+    SELECT CASE
+        WHEN state_change < clock_timestamp() - $1::float8 * interval '1 second' AND wait_event IS DISTINCT FROM 'SyncRep'
+        THEN pg_terminate_backend(pid) ELSE false
+    END FROM pg_locks JOIN pg_stat_activity USING (pid)
     WHERE locktype = 'advisory' AND datname = current_database() AND granted
-        AND classid = 1650815860 AND objid = 'bestore_log'::regclass::oid
-        AND state_change < clock_timestamp() - $1::float8 * interval '1 second'";
+        AND classid = 1650815860 AND objid = 'bestore_log'::regclass::oid";
 
 /// Removes the entries up to `$1`, except the last `$2` entries that have a token.
 const REMOVE: &str = "
@@ -180,9 +190,16 @@ impl Future for NextMessage<'_> {
 
 /// Waits for the call to finish, for a limited time.
 async fn limited<T>(call: impl Future<Output = std::result::Result<T, tokio_postgres::Error>>) -> Result<T> {
-    match tokio::time::timeout(LIMIT, call).await {
+    limited_to(LIMIT, call).await
+}
+
+async fn limited_to<T>(
+    limit: Duration,
+    call: impl Future<Output = std::result::Result<T, tokio_postgres::Error>>,
+) -> Result<T> {
+    match tokio::time::timeout(limit, call).await {
         Ok(answer) => Ok(answer?),
-        Err(_) => Err(Error::Slow(LIMIT)),
+        Err(_) => Err(Error::Slow(limit)),
     }
 }
 
@@ -314,10 +331,11 @@ impl Database {
         touched.as_ref().map(Head::of).transpose()
     }
 
-    /// Ends the session of a leader that has done nothing for this many seconds. Returns whether there was such a session.
-    pub async fn end_leader(&self, silence: f64) -> Result<bool> {
-        let ended = limited(self.client.query(END_LEADER, &[&silence])).await?;
-        Ok(!ended.is_empty())
+    /// Ends the session of a leader that has done nothing for this many seconds. Returns whether it was ended, or `None` if there is no
+    /// leader's session.
+    pub async fn end_leader(&self, silence: f64) -> Result<Option<bool>> {
+        let ended = limited(self.client.query_opt(END_LEADER, &[&silence])).await?;
+        Ok(ended.map(|row| row.try_get(0)).transpose()?)
     }
 
     /// Takes the leader's lock if nobody holds it, and returns whether it did. The lock is released when the connection closes.
@@ -350,55 +368,80 @@ impl Database {
         Ok(limited(self.client.query_opt(&statement, &parameters)).await?.is_some())
     }
 
-    /// Returns the next entries after this one, sorted by number. There may be more.
-    pub async fn entries(&self, after: u64) -> Result<Vec<Entry>> {
-        let sql = "SELECT number, batch, token FROM bestore_entry WHERE number > $1 ORDER BY number LIMIT $2";
-        let rows = limited(self.client.query(sql, &[&(after as i64), &(ENTRIES as i64)])).await?;
-        rows.iter().map(Entry::of).collect()
+    /// Returns the next entries after this one, and whether there may be more.
+    pub async fn entries(&self, after: u64) -> Result<(Vec<Entry>, bool)> {
+        self.entries_where("number > $1", &[&(after as i64)]).await
     }
 
-    /// Returns the next entries that have a token, after this one and up to `last`, sorted by number. There may be more.
-    pub async fn entries_with_token(&self, after: u64, last: u64) -> Result<Vec<Entry>> {
-        let sql = "SELECT number, batch, token FROM bestore_entry
-            WHERE token IS NOT NULL AND number > $1 AND number <= $2 ORDER BY number LIMIT $3";
-        let parameters: [&(dyn ToSql + Sync); 3] = [&(after as i64), &(last as i64), &(ENTRIES as i64)];
-        let rows = limited(self.client.query(sql, &parameters)).await?;
-        rows.iter().map(Entry::of).collect()
+    /// Returns the next entries that have a token, after this one and up to `last`, and whether there may be more.
+    pub async fn entries_with_token(&self, after: u64, last: u64) -> Result<(Vec<Entry>, bool)> {
+        let condition = "token IS NOT NULL AND number > $1 AND number <= $2";
+        self.entries_where(condition, &[&(after as i64), &(last as i64)]).await
+    }
+
+    /// Returns the first entries that fulfil the condition, sorted by number, and whether there may be more.
+    async fn entries_where(&self, condition: &str, parameters: &[&(dyn ToSql + Sync)]) -> Result<(Vec<Entry>, bool)> {
+        let from = format!("SELECT number AS place, * FROM bestore_entry WHERE {condition}");
+        let (rows, is_more) = self.rows(&from, parameters).await?;
+        let entries = rows.iter().map(Entry::of).collect::<Result<_>>()?;
+        Ok((entries, is_more))
+    }
+
+    /// Returns the first rows of this query, sorted by `place`, and whether there may be more.
+    async fn rows(&self, from: &str, parameters: &[&(dyn ToSql + Sync)]) -> Result<(Vec<SqlRow>, bool)> {
+        let sql = format!(
+            "SELECT * FROM (
+                SELECT *, sum(octet_length(batch)) OVER (ORDER BY place) - octet_length(batch) AS before
+                FROM ({from} ORDER BY place LIMIT {ROWS}) AS next
+            ) AS sized WHERE before < {BYTES} ORDER BY place"
+        );
+        let rows = limited(self.client.query(&*sql, parameters)).await?;
+        let mut bytes = 0;
+        for row in &rows {
+            bytes += row.try_get::<_, &[u8]>("batch")?.len();
+        }
+        let is_full = rows.len() == ROWS || bytes >= BYTES;
+        Ok((rows, is_full))
     }
 
     /// Returns the head and the state, both read in one transaction.
     pub async fn state(&mut self) -> Result<(Head, Vec<Vec<u8>>)> {
-        let begin = "BEGIN ISOLATION LEVEL REPEATABLE READ READ ONLY; SET LOCAL statement_timeout = 0";
-        self.client.batch_execute(begin).await?;
+        let begin = "BEGIN ISOLATION LEVEL REPEATABLE READ READ ONLY";
+        limited(self.client.batch_execute(begin)).await?;
         let head = self.head().await?;
-        let rows = self
-            .client
-            .query("SELECT batch FROM bestore_state ORDER BY place", &[])
-            .await?;
-        self.client.batch_execute("COMMIT").await?;
-        let batches: std::result::Result<_, _> = rows.iter().map(|row| row.try_get(0)).collect();
-        Ok((head, batches?))
+        let (mut batches, mut last, mut is_more) = (Vec::new(), 0_i64, true);
+        while is_more {
+            let from = "SELECT place, batch FROM bestore_state WHERE place > $1";
+            let (rows, may_be_more) = self.rows(from, &[&last]).await?;
+            for row in &rows {
+                last = row.try_get("place")?;
+                batches.push(row.try_get("batch")?);
+            }
+            is_more = may_be_more;
+        }
+        limited(self.client.batch_execute("COMMIT")).await?;
+        Ok((head, batches))
     }
 
     /// Replaces the log's state with this one, which contains the entries up to `number`, and removes much older entries. Returns
     /// `false` and changes nothing if the term is no longer the last one.
     pub async fn write_state(&self, term: u64, number: u64, next: u64, batches: &[Vec<u8>]) -> Result<bool> {
-        let begin =
-            "BEGIN; SET LOCAL statement_timeout = 0; LOCK bestore_state IN EXCLUSIVE MODE; DELETE FROM bestore_state";
-        self.client.batch_execute(begin).await?;
+        limited(self.client.batch_execute("BEGIN; LOCK bestore_state IN EXCLUSIVE MODE")).await?;
+        let begin = "SET LOCAL statement_timeout = '55s'; DELETE FROM bestore_state";
+        limited_to(STATE_LIMIT, self.client.batch_execute(begin)).await?;
         let insert = "INSERT INTO bestore_state SELECT $1 + place, batch FROM unnest($2::bytea[]) WITH ORDINALITY AS row (batch, place)";
-        let insert = self.client.prepare(insert).await?;
-        for (place, part) in (0_i64..).step_by(ENTRIES).zip(batches.chunks(ENTRIES)) {
-            self.client.execute(&insert, &[&place, &part]).await?;
+        let insert = limited(self.client.prepare(insert)).await?;
+        for (place, part) in (0_i64..).step_by(BATCHES).zip(batches.chunks(BATCHES)) {
+            limited_to(STATE_LIMIT, self.client.execute(&insert, &[&place, &part])).await?;
         }
         let spared = number.saturating_sub(SPARE) as i64;
-        self.client.execute(REMOVE, &[&spared, &(TOKENS as i64)]).await?;
+        limited_to(STATE_LIMIT, self.client.execute(REMOVE, &[&spared, &(TOKENS as i64)])).await?;
         // This statement comes last, because from here to the commit no entry can be added.
         let update = "UPDATE bestore_log SET entries = $1, next = $2 WHERE term = $3 AND entries <= $1 AND last >= $1";
         let parameters: [&(dyn ToSql + Sync); 3] = [&(number as i64), &(next as i64), &(term as i64)];
-        let is_leading = self.client.execute(update, &parameters).await? == 1;
+        let is_leading = limited(self.client.execute(update, &parameters)).await? == 1;
         let end = if is_leading { "COMMIT" } else { "ROLLBACK" };
-        self.client.batch_execute(end).await?;
+        limited_to(STATE_LIMIT, self.client.batch_execute(end)).await?;
         Ok(is_leading)
     }
 }

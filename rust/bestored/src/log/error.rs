@@ -8,8 +8,9 @@ use std::path::PathBuf;
 use std::sync::Arc;
 use std::time::Duration;
 
-/// PostgreSQL's error classes for a lost connection, for lack of resources, and for a database that is starting or stopping.
-const NOT_NOW: [&str; 3] = ["08", "53", "57"];
+/// PostgreSQL's error classes for a lost connection, for lack of resources, and for a database that is starting or stopping, and its
+/// error for a transaction whose next statement didn't arrive in time.
+const NOT_NOW: [&str; 4] = ["08", "53", "57", "25P03"];
 
 /// The result type of this module.
 pub type Result<T> = std::result::Result<T, Error>;
@@ -60,6 +61,9 @@ pub enum Error {
     /// The log has fewer entries than before, or more than any server can have added.
     #[error("the log has {found} entries, but this server has {known}")]
     Length { known: u64, found: u64 },
+    /// The log's state has taken the place of an entry that this server needs next.
+    #[error("the log no longer has entry {entry}, but the state after entry {state}; start this server again, and it begins there")]
+    Removed { entry: u64, state: u64 },
     /// The log contains something that no store wrote.
     #[error("{place} of the log: it contains something that no store wrote: {why}")]
     Differs {
@@ -142,6 +146,9 @@ pub enum Refused {
     /// Nothing was written, because the log can't be written to.
     #[error("nothing was written: {0}")]
     Stopped(Arc<Error>),
+    /// The state wasn't replaced. The log still has the state before it and the entries.
+    #[error("the state couldn't be written to the log: {0}")]
+    StateNotWritten(Arc<Error>),
 }
 
 impl From<Refused> for bestore::Error {

@@ -255,7 +255,7 @@ impl Line {
 
     /// Waits, but no longer than `within` and only until `is_over`, until this server has the entry with this number. Returns the
     /// number of the last entry that it has.
-    pub fn wait_for(&self, number: u64, within: Duration, is_over: impl Fn() -> bool) -> u64 {
+    pub fn wait_for(&self, number: u64, within: Duration, mut is_over: impl FnMut() -> bool) -> u64 {
         let until = Instant::now() + within;
         let mut state = self.lock();
         while state.saved < number && state.failed.is_none() && !state.is_closing {

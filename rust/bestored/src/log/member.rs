@@ -1,6 +1,6 @@
 //! The work of the log's thread: following and leading.
 
-use super::database::{Database, Entry, Head, ENTRIES};
+use super::database::{Database, Entry, Head};
 use super::error::{Error, Result};
 use super::line::{Line, Role};
 use super::{state, Access, FOR_LOCK, REST};
@@ -28,7 +28,8 @@ const LEASE: f64 = 7.0;
 /// How long to wait for PostgreSQL to end a session and release its lock.
 const ENDING: Duration = Duration::from_millis(20);
 
-/// How long a follower waits for the leader to come back after the connection to the database has broken.
+/// How long a follower waits for the leader to come back after the connection to the database has broken, or after the leader's
+/// session has waited for a standby.
 const GRACE: Duration = Duration::from_secs(3);
 
 /// How long to retry an entry that finds no free page while clients' snapshots hold pages.
@@ -182,7 +183,7 @@ impl Member {
         while !self.line.is_closing() {
             self.let_go();
             self.tried = Instant::now();
-            if self.apply_some(Some(shared)).await? == ENTRIES {
+            if self.apply_some(Some(shared)).await? {
                 continue;
             }
             if looked.map_or(true, |looked: Instant| looked.elapsed() >= LOOK) {
@@ -194,7 +195,8 @@ impl Member {
                     state.last = head.last;
                     state.trouble = None;
                 });
-                if Instant::now() >= self.may_lead && self.gets_lock(&head).await? {
+                self.end_silent_leader(&head).await?;
+                if Instant::now() >= self.may_lead && self.database.try_lock().await? {
                     self.take_over(shared).await?;
                     return Ok(Turn::Next);
                 }
@@ -204,17 +206,25 @@ impl Member {
         Ok(Turn::End)
     }
 
-    /// Takes the lock if nobody holds it, or if its owner has been silent for too long, for example because its machine is paused.
-    /// If such a leader tries to add entries later, its term is out of date, so they aren't added.
-    async fn gets_lock(&self, head: &Head) -> Result<bool> {
-        if head.silence.map_or(false, |silence| silence >= LEASE) && self.database.end_leader(LEASE).await? {
-            report!(
-                "bestored: {} leads, but has been silent for {LEASE} seconds; ending its session",
-                head.leader
-            );
-            tokio::time::sleep(ENDING).await;
+    /// Ends the session of a leader that has been silent for too long, for example because its machine is paused. If such a leader tries
+    /// to add entries later, its term is out of date, so they aren't added. If the leader's session may go on, gives the leader some time
+    /// to come back before this server takes the lock.
+    async fn end_silent_leader(&mut self, head: &Head) -> Result<()> {
+        if head.silence.map_or(true, |silence| silence < LEASE) {
+            return Ok(());
         }
-        self.database.try_lock().await
+        match self.database.end_leader(LEASE).await? {
+            Some(true) => {
+                report!(
+                    "bestored: {} leads, but has been silent for {LEASE} seconds; ending its session",
+                    head.leader
+                );
+                tokio::time::sleep(ENDING).await;
+            }
+            Some(false) => self.may_lead = Instant::now() + GRACE,
+            None => {}
+        }
+        Ok(())
     }
 
     /// Ends the last leader's term, applies every entry that it has added, and makes this server the leader.
@@ -249,14 +259,21 @@ impl Member {
 
     /// Applies all new entries in the log.
     async fn apply_new(&mut self, shared: Option<&Shared>) -> Result<()> {
-        while self.apply_some(shared).await? == ENTRIES {}
+        while self.apply_some(shared).await? {}
         Ok(())
     }
 
-    /// Applies the next entries in the log, and returns how many there were.
-    async fn apply_some(&mut self, shared: Option<&Shared>) -> Result<usize> {
+    /// Applies the next entries in the log, and returns whether there may be more.
+    async fn apply_some(&mut self, shared: Option<&Shared>) -> Result<bool> {
         let known = self.line.lock().saved;
-        let entries = self.database.entries(known).await?;
+        let (entries, is_more) = self.database.entries(known).await?;
+        if entries.first().map_or(false, |entry| entry.number > known + 1) {
+            let state = self.database.head().await?.entries;
+            if state > known {
+                let entry = known + 1;
+                return Err(Error::Removed { entry, state });
+            }
+        }
         for (number, entry) in (known + 1..).zip(&entries) {
             self.apply(number, entry, shared.map(|shared| &shared.pressure))?;
             self.line.saved(number);
@@ -265,7 +282,7 @@ impl Member {
             shared.watcher.written();
             shared.carrying.written(&shared.kept);
         }
-        Ok(entries.len())
+        Ok(is_more)
     }
 
     /// Applies an entry, and compares the outcome with the leader's.
@@ -445,10 +462,7 @@ impl Member {
         let shared = shared.clone();
         let writing = thread::Builder::new().name("log-state".into()).spawn(move || {
             if let Err(failure) = shared.kept.compact() {
-                report!(
-                    "bestored: the state of the log couldn't be written: {}",
-                    failure.0.message
-                );
+                report!("bestored: {}", failure.0.message);
             }
         });
         if let Err(error) = writing {

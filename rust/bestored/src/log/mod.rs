@@ -13,7 +13,6 @@ mod state;
 
 pub use error::{Error, Refused};
 
-use crate::clients::Client;
 use crate::failure::Failure;
 use crate::kept::{Kept, Opening};
 use crate::options::Options;
@@ -21,7 +20,7 @@ use crate::os;
 use crate::server::Shared;
 use crate::tokens::Tokens;
 use access::Access;
-use bestore::{Batch, Shelf, ShelfPass, Store};
+use bestore::{Batch, Shelf, ShelfPass, StateCopy, Store};
 use bestore_client::wire::{self, ErrorName};
 use error::Result;
 use line::{Line, Role};
@@ -155,12 +154,15 @@ impl Log {
         self.line.flush()
     }
 
-    /// Waits for a limited time until this server has the requested entry, and returns the server's status. The wait ends when the
-    /// client's connection is closed.
-    pub fn status(&self, wanted: &wire::OfLog, client: &Client) -> std::result::Result<wire::LogStatus, Failure> {
+    /// Waits for a limited time until this server has the requested entry, or until `is_over` returns `true`. Returns the server's
+    /// status.
+    pub fn status(
+        &self,
+        wanted: &wire::OfLog,
+        is_over: impl FnMut() -> bool,
+    ) -> std::result::Result<wire::LogStatus, Failure> {
         if let Some(entry) = wanted.entry {
-            let is_gone = || client.is_gone_within(Duration::ZERO);
-            let found = self.line.wait_for(entry, within(wanted.within)?, is_gone);
+            let found = self.line.wait_for(entry, within(wanted.within)?, is_over);
             if found < entry {
                 return Err(Failure::not_reached(entry, found));
             }
@@ -204,26 +206,34 @@ impl Log {
     /// Writes the current state into the log, if this server leads.
     pub fn compact(&self) -> std::result::Result<(), Refused> {
         let _one = lock(&self.writing_state);
-        let (role, leader) = {
-            let state = self.line.lock();
-            (state.role, state.leader.clone())
-        };
-        let term = match role {
-            Role::Leader { term } => term,
-            Role::Follower => return Err(Refused::NotLeader { leader }),
-        };
+        let mut term = self.term()?;
+        let not_written = |error| Refused::StateNotWritten(Arc::new(error));
+        let state = self.store.copy_state().map_err(|error| not_written(error.into()))?;
+        // The copy may contain writes that aren't in the log yet.
         self.flush()?;
-        let written = self.write_state(term);
-        written.map_err(|error| Refused::NotSaved(Arc::new(error)))
+        loop {
+            match self.write_state(term, &state) {
+                Err(Error::Deposed { .. }) if self.term()? != term => term = self.term()?,
+                written => return written.map_err(not_written),
+            }
+        }
     }
 
-    fn write_state(&self, term: u64) -> Result<()> {
-        let state = self.store.copy_state()?;
+    /// Returns the term in which this server leads. It begins a new one whenever it has had to connect again.
+    fn term(&self) -> std::result::Result<u64, Refused> {
+        let state = self.line.lock();
+        match state.role {
+            Role::Leader { term } => Ok(term),
+            Role::Follower => Err(Refused::NotLeader {
+                leader: state.leader.clone(),
+            }),
+        }
+    }
+
+    fn write_state(&self, term: u64, state: &StateCopy) -> Result<()> {
         let batches = state.batches.iter().map(Batch::to_bytes);
         let batches = batches.collect::<bestore::Result<Vec<_>>>()?;
         let number = self.line.entry(state.number);
-        // The snapshot may contain writes that aren't in the log yet.
-        self.line.wait_for(number, FOR_LOCK, || false);
         runtime()?.block_on(async {
             let database = self.access.connect().await?;
             match database.write_state(term, number, state.next, &batches).await? {

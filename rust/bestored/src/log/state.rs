@@ -1,6 +1,6 @@
 //! The log's state: batches that rebuild a store, so that a server doesn't have to apply every entry when it starts.
 
-use super::database::{Database, ENTRIES};
+use super::database::Database;
 use super::error::{Error, Result};
 use crate::tokens::Tokens;
 use crate::volumes;
@@ -30,7 +30,7 @@ pub async fn load(database: &mut Database, pass: &mut Pass) -> Result<u64> {
 pub async fn load_tokens(database: &Database, entries: u64, commit: u64, tokens: &Tokens) -> Result<()> {
     let mut after = 0;
     loop {
-        let found = database.entries_with_token(after, entries).await?;
+        let (found, is_more) = database.entries_with_token(after, entries).await?;
         for entry in &found {
             after = entry.number;
             let place = Place::Entry(entry.number);
@@ -46,7 +46,7 @@ pub async fn load_tokens(database: &Database, entries: u64, commit: u64, tokens:
             let token = entry.token.as_deref().unwrap_or_default();
             tokens.add(token.into(), volumes::shown(None, &written));
         }
-        if found.len() < ENTRIES {
+        if !is_more {
             return Ok(());
         }
     }
