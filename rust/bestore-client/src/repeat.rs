@@ -29,6 +29,11 @@ fn is_passing(error: &Error) -> bool {
     }
 }
 
+/// Returns whether a write may have taken effect although it failed with this error, after which it may be sent again.
+fn may_be_made(error: &Error) -> bool {
+    !error.is(ErrorName::Stopped) && !error.is(ErrorName::NoPass)
+}
+
 impl Client {
     /// Returns the run of the server that the client last connected to, provided that [`hello`](Self::hello) was called. Commit numbers
     /// start over with each run.
@@ -96,11 +101,52 @@ impl Client {
         }
         write.token = new_token();
         write.run = write.expected.as_ref().and(self.run.clone());
+        // An error after which the write may have taken effect. A later attempt's error doesn't replace it by saying that nothing was
+        // written.
+        let mut uncertain = None;
         loop {
-            match self.call(Command::Batch(write.clone())) {
-                Err(error) if self.may_repeat(&error, until) => {}
+            let error = match self.call(Command::Batch(write.clone())) {
+                Err(error) if is_passing(&error) => error,
                 answer => return answer,
+            };
+            let may_repeat = self.may_repeat(&error, until);
+            let error = match uncertain.take() {
+                Some(earlier) if !may_be_made(&error) => earlier,
+                _ => error,
+            };
+            if !may_repeat {
+                return Err(error);
             }
+            uncertain = Some(error).filter(may_be_made);
         }
+    }
+}
+
+#[cfg(test)]
+mod tests {
+    use super::*;
+    use crate::Options;
+    use bestore_types::Batch;
+    use std::io::Write;
+    use std::os::unix::net::UnixStream;
+
+    #[test]
+    fn no_error_denies_what_an_earlier_one_admits() {
+        let refused = |id: u32| {
+            let name = if id == 1 { "NotSaved" } else { "Stopped" };
+            format!("{{\"id\":{id},\"error\":{{\"name\":\"{name}\",\"message\":\"\"}}}}\n")
+        };
+        let (stream, mut server) = UnixStream::pair().unwrap();
+        server
+            .write_all((1..100).map(refused).collect::<String>().as_bytes())
+            .unwrap();
+        let mut options = Options::new();
+        options.repeat(3 * AGAIN);
+        let mut client = Client::over(stream, options);
+        let mut batch = Batch::new();
+        batch.new_node();
+        assert!(client.apply(&batch).unwrap_err().is(ErrorName::NotSaved));
+        // Nothing of this write can have been made.
+        assert!(client.apply(&batch).unwrap_err().is(ErrorName::Stopped));
     }
 }
