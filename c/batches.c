@@ -78,6 +78,8 @@ static uint32_t error_of(const char *part)
         return BES_BAD_COUNT;
     if (strcmp(part, "operation") == 0)
         return BES_NO_OPERATION;
+    if (strcmp(part, "name") == 0)
+        return BES_NAME_LENGTH;
     return strcmp(part, "kind") == 0 ? BES_NO_KIND : BES_BAD_PART;
 }
 

@@ -63,7 +63,7 @@ static void next_node(void)
 {
     bes_pass passes[3], closed = BES_PASS_INIT;
     uint64_t node = 7, number = 0, made[64];
-    CHECK(bes_next(&closed, &node) == BES_CLOSED);
+    CHECK(bes_next(&closed, &node) == BES_CLOSED && node == 0);
     open_three(passes, 64);
     CHECK(bes_next(&passes[0], &node) == BES_NOT_PINNED);
     CHECK(bes_pin(&passes[0], &number) == BES_OK && number == 2);
@@ -143,6 +143,7 @@ static uint64_t count_of(bes_pass *pass)
 
 static void changes(void)
 {
+    static const uint32_t own[] = {BES_BUSY, BES_CONFLICT, BES_FULL};
     bes_pass passes[3];
     uint64_t number = 7;
     counting it = {&passes[1], 0, 0, 0, BES_OK};
@@ -154,6 +155,10 @@ static void changes(void)
     CHECK(bes_change(&passes[0], 3, count_up, &it, &number) == BES_CONFLICT && number == 10 && it.runs == 3);
     it = (counting){&passes[1], 0, 0, 0, BES_NOT_UTF8};
     CHECK(bes_change(&passes[0], 3, count_up, &it, &number) == BES_NOT_UTF8 && number == 0 && it.runs == 1);
+    for (size_t i = 0; i < sizeof own / sizeof *own; i++) {
+        it = (counting){&passes[1], 0, 0, 0, own[i]};
+        CHECK(bes_change(&passes[0], 3, count_up, &it, &number) == own[i] && number == 0 && it.runs == 1);
+    }
     CHECK(bes_change(&passes[0], 0, do_nothing, NULL, &number) == BES_OK && number == 10);
     CHECK(count_of(&passes[2]) == 2);
     CHECK(bes_remove_index(&passes[1], "count") == BES_OK && bes_make_index(&passes[1], "count", BES_INT32_TYPE) == BES_OK);
@@ -241,7 +246,7 @@ static void any_batch(void)
         uint32_t code = codes[below(7)];
         uint64_t number = bes_is_number_code(code) ? below(1u << 30) << below(34) : 0;
         size_t length = bes_is_number_code(code) ? 0 : below(256);
-        fill(name, below(64));
+        fill(name, 1 + below(63));
         fill(value, length);
         switch (batch.count % 6) {
         case 0: CHECK(bes_batch_add(&batch, BES_SET, below(1u << 20), name, code, number, value, length) == BES_OK); break;
@@ -311,6 +316,8 @@ static void bytes_by_hand(void)
     CHECK(bes_batch_to_bytes(&batch, bytes, 64, &count) == BES_NO_OPERATION && count == 2);
     batch.operations[2].kind = BES_MAKE_INDEX, batch.operations[2].code = 1;
     CHECK(bes_batch_to_bytes(&batch, bytes, 64, &count) == BES_NO_KIND && count == 2);
+    batch.operations[2].code = BES_INT64_TYPE, batch.operations[2].name_length = 0;
+    CHECK(bes_batch_to_bytes(&batch, bytes, 64, &count) == BES_NAME_LENGTH && count == 2);
     batch.operations[1].name_at = 0xffffffffu;
     CHECK(bes_batch_to_bytes(&batch, bytes, 64, &count) == BES_BAD_PART && count == 1);
 }

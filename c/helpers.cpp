@@ -11,6 +11,23 @@
 using namespace bestore;
 using Nodes = std::vector<Node>;
 
+// How many requests for memory succeed before the one that is refused. If negative, none is refused. Valgrind puts its own operator in
+// the place of this one, which then counts no request.
+static long granted = -1, requests;
+
+void *operator new(std::size_t size)
+{
+    requests++;
+    void *memory = granted >= 0 && granted-- == 0 ? nullptr : std::malloc(size > 0 ? size : 1);
+    if (memory == nullptr)
+        throw std::bad_alloc();
+    return memory;
+}
+
+// If these were inlined, the compiler would warn that memory from new goes to free.
+[[gnu::noinline]] void operator delete(void *memory) noexcept { std::free(memory); }
+[[gnu::noinline]] void operator delete(void *memory, std::size_t) noexcept { std::free(memory); }
+
 static void change_writes_on_what_it_read()
 {
     Store store({256, 2, 1000});
@@ -177,7 +194,10 @@ static void reindexed()
         CHECK(store.reindex(name) == (has_other ? 299 : 300) && store.pin().pairs(name) == (has_other ? 299 : 300));
     }
     refused(BES_NO_INDEX, [&] { store.reindex("none"); });
+    // A name with a zero byte isn't taken for the name before it.
+    refused(BES_NO_INDEX, [&] { store.reindex(std::string_view("a\0", 2)); });
     auto pin = store.pin();
+    refused(BES_NO_INDEX, [&] { pin.pairs(std::string_view("a\0", 2)); });
     CHECK(pin.query("a<0").size() == 299 && pin.get<std::string>(7, "a") == "text");
     refused(BES_NO_INDEX, [&] { pin.pairs("none"); });
 }
@@ -230,6 +250,7 @@ static void batches_as_bytes()
     refused(BES_NO_OPERATION, at_byte(5), [&] { Batch::from_bytes(bytes); });
     refused(BES_BAD_COUNT, [] { Batch().to_bytes(); });
     refused(BES_NAME_LENGTH, at_operation(1), [] { Batch().new_node().unset(1, std::string(64, 'x')).to_bytes(); });
+    refused(BES_NAME_LENGTH, at_operation(1), [] { Batch().new_node().make_index("", Kind::int64).to_bytes(); });
     refused(BES_DATA_LENGTH, at_operation(0), [] { Batch().set(1, "k", std::string(256, 'x')).to_bytes(); });
 }
 
@@ -249,6 +270,8 @@ static void texts()
     refused(BES_NOT_UTF8, [] { escape("\xff"); });
     CHECK(caret("gr\xc3\xb6\xc3\x9f""e==[", 9) == "gr\xc3\xb6\xc3\x9f""e==[\n       ^" && caret("a\nb<", 4) == "b<\n  ^" && caret("", 3) == "\n^");
     CHECK(to_utf8("a\xff") == "a?" && to_utf8("\xc3\xa9\xc3\xa9", 3) == "\xc3\xa9" && to_utf8("").empty());
+    CHECK(to_utf8("a\xff", std::string::npos) == "a?" && to_utf8("ab", 0).empty() && to_utf8(std::string_view()).empty());
+    CHECK(to_utf8(std::string(300, 'x')).size() == 255 && to_utf8(std::string(300, 'x'), 299).size() == 299);
     CHECK(std::string(Refusal(BES_BUSY).name()) == "BES_BUSY");
     CHECK(Refusal(BES_BUSY).error_class() == ErrorClass::retry && Refusal(BES_CLOSED).error_class() == ErrorClass::gone);
     CHECK(Refusal(BES_FULL).error_class() == ErrorClass::full && Refusal(63).error_class() == ErrorClass::mine);
@@ -287,6 +310,7 @@ static void questions()
     refused(BES_NOT_COVERED, at_byte(12), [&] { pin.count("(size<2) || none==1"); });
     refused(BES_NOT_COVERED, at_byte(0), [&] { (void)pin.explain("none==1 && 'x'==2"); });
     refused(BES_SYNTAX, at_byte(5), [&] { pin.count("size<"); });
+    refused(BES_SYNTAX, [&] { pin.uncovered(std::string_view()); });
     CHECK(pin.uncovered("size<2 && x==1") == 10 && !pin.uncovered("size<2") && pin.pairs("size") == 5 && pin.pairs("name") == 0);
     Prepared nowhere("(size<2) || none==1");
     Live unseen("none==1");
@@ -296,6 +320,67 @@ static void questions()
     const auto never = pin.never_true(odd);
     CHECK(never.size() == 2 && never[0].name == "size" && never[0].value == "1.5" && never[0].op == B_GT && never[0].offset == 0);
     CHECK(never[1].value == "2024-01-01" && never[1].op == B_NE && pin.never_true(small).empty());
+}
+
+// If memory runs out while a refresh returns what has changed, the next refresh returns it.
+static void refused_memory_loses_no_change()
+{
+    Store store({256, 1, 10000});
+    store.make_index("n", Kind::int64);
+    store.new_nodes(4);
+    const auto answer_is = [&](const Nodes &nodes) {
+        for (Node node = 1; node <= 4; node++)
+            store.set(node, "n", Kind::int64, std::find(nodes.begin(), nodes.end(), node) == nodes.end() ? 0 : 1);
+    };
+    int refusals = 0;
+    for (long request = 0; request < 10; request++) {
+        Live live("n>0");
+        answer_is({1, 2});
+        auto pin = store.pin();
+        CHECK(live.refresh(pin).created == (Nodes{1, 2}));
+        pin.unpin();
+        answer_is({2, 3});
+        pin = store.pin();
+        bool is_refused = false;
+        granted = request;
+        try {
+            const auto updates = live.refresh(pin);
+            granted = -1;
+            CHECK(updates.created == Nodes{3} && updates.removed == Nodes{1});
+        } catch (const std::bad_alloc &) {
+            is_refused = true;
+        }
+        granted = -1;
+        pin.unpin();
+        answer_is({2, 4});
+        refused(BES_NOT_PINNED, [&] { live.refresh(pin); });
+        pin = store.pin();
+        const auto updates = live.refresh_changed(pin);
+        CHECK(updates.created == Nodes{4} && updates.removed == Nodes{is_refused ? Node{1} : Node{3}});
+        refusals += is_refused;
+    }
+    CHECK(refusals >= 2 || requests == 0);
+}
+
+// A string of 4 GiB or more is refused, and isn't cut off. It is refused before it is read.
+static void huge_strings_are_refused()
+{
+    const std::string_view huge("x", std::size_t{UINT32_MAX} + 2);
+    const auto is_refused = [](auto call) {
+        try {
+            call();
+        } catch (const std::length_error &) {
+            return true;
+        }
+        return false;
+    };
+    Store store({64, 1, 100});
+    store.change([&](Change &change) {
+        change.create();
+        CHECK(is_refused([&] { change.set(1, "n", huge); }) && is_refused([&] { change.set(1, huge, 5); }));
+        CHECK(is_refused([&] { Batch().set(1, "n", huge); }) && is_refused([&] { Predicate().PushString(huge); }));
+        CHECK(change.batch().size() == 1);
+    });
 }
 
 // After BES_FULL, a write waits for another pass to unpin, but not for its own.
@@ -373,6 +458,30 @@ static void forked()
     CHECK(store.join(witness) == 1);
 }
 
+// A child that is forked in the function of a change can't use the change.
+static void forked_in_a_change()
+{
+    Store store({64, 1, 100});
+    pid_t child = 0;
+    store.change([&](Change &change) {
+        change.create();
+        std::fflush(nullptr);
+        child = fork();
+        CHECK(child >= 0);
+        if (child > 0)
+            return;
+        refused(BES_CLOSED, [&] { change.create(); });
+        refused(BES_CLOSED, [&] { change.get(1, "a"); });
+        refused(BES_CLOSED, [&] { (void)change.batch(); });
+        refused(BES_CLOSED, [&] { change.any_kind(); });
+        execlp("true", "true", static_cast<char *>(nullptr)); // exits without a leak report
+        _exit(1);
+    });
+    int status = 0;
+    CHECK(waitpid(child, &status, 0) == child && WIFEXITED(status) && WEXITSTATUS(status) == 0);
+    CHECK(store.pin().nodes() == Nodes{1});
+}
+
 int main()
 {
     change_writes_on_what_it_read();
@@ -387,5 +496,8 @@ int main()
     any_case_finds();
     questions();
     full_store_waits();
+    refused_memory_loses_no_change();
+    huge_strings_are_refused();
     forked();
+    forked_in_a_change();
 }

@@ -64,6 +64,21 @@ marked_helpers() {
     echo "$folder"
 }
 
+# The headers compile without warnings under each standard and each compiler that a program is likely to use.
+strict=("${warn[@]}" -Wconversion -Wshadow -fsyntax-only -I../include)
+echo '#include "bestore.h"' >"$work/headers.c"
+echo '#include "bestore.hpp"' >"$work/headers.cpp"
+for compiler in cc gcc clang; do
+    for standard in c99 c11 c17; do
+        run_if_there "headers, $compiler, $standard" $compiler -std=$standard "${strict[@]}" "$work/headers.c"
+    done
+done
+for compiler in c++ g++ clang++; do
+    for standard in c++17 c++20; do
+        run_if_there "headers, $compiler, $standard" $compiler -std=$standard "${strict[@]}" "$work/headers.cpp"
+    done
+done
+
 # The tests, and the ones among them that start threads.
 tests=(test columns cursors ordered changes batches closing refreshes errors threads witness helpers texts query_texts bounds racing promises huge_pages)
 tests_cpp=(test helpers changes ordered racing)

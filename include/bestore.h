@@ -25,9 +25,9 @@
  *
  * ERRORS. Each call returns BES_OK or an error number. A function's comment lists its errors in the order in which it checks for them; if
  * two apply, it returns the first. After an error, the store, the handles and your memory are unchanged, unless the comment says otherwise.
- * The exceptions are the parameters number, count, seen and place: they are set to the value that the comment gives for the error, or to 0.
- * The pass may also have seen more of the journal. Pointers must be valid, and the memory areas that they point to must not overlap. A
- * pointer must not be null, even if its length is 0; in that case it may point to any variable.
+ * The exceptions are the parameters number, count, seen and place, and node in bes_next and bes_change_add: they are set to the value that
+ * the comment gives for the error, or to 0. The pass may also have seen more of the journal. Pointers must be valid, and the memory areas
+ * that they point to must not overlap. A pointer must not be null, even if its length is 0; in that case it may point to any variable.
  *
  * SNAPSHOTS. The journal is the commit log: all committed transactions, numbered from 1. Pin a pass before you read through it. A pinned
  * pass reads the snapshot that was current when it was pinned, whatever is written in the meantime. The snapshot's number is the commit

@@ -41,8 +41,9 @@ public:
 
     // Makes the change accept values of any kind from now on. Before this call, setting a value throws KindMismatch if its name has an
     // index of another kind.
-    Change &any_kind() noexcept
+    Change &any_kind()
     {
+        handle(); // throws in a forked child
         bes_change_any_kind(&draft_);
         return *this;
     }
@@ -50,6 +51,7 @@ public:
     // Returns the operations added so far. Call it again to see operations added later.
     const Batch &batch() const
     {
+        handle(); // throws in a forked child
         detail::check(batch_.read([&](auto... room) { return bes_change_batch(&draft_, room...); }));
         batch_.number_new_nodes(next_);
         return batch_;
@@ -77,10 +79,10 @@ private:
     {
         std::uint64_t made = 0;
         handle(); // throws in a forked child
-        parts_.assign(edit.name).append(edit.value);
-        const auto name_length = static_cast<std::uint32_t>(edit.name.size());
-        const bes_operation operation{edit.kind,   edit.code,   edit.node, edit.number, 0, name_length, name_length,
-                                      static_cast<std::uint32_t>(edit.value.size())};
+        parts_.clear();
+        const auto name_at = detail::append(parts_, edit.name), value_at = detail::append(parts_, edit.value);
+        const bes_operation operation{edit.kind, edit.code, edit.node, edit.number, name_at, static_cast<std::uint32_t>(edit.name.size()),
+                                      value_at, static_cast<std::uint32_t>(edit.value.size())};
         const auto error = bes_change_add(&draft_, &operation, detail::bytes_of(parts_), parts_.size(), &made);
         if (error == BES_WRONG_KIND)
             throw KindMismatch(edit.name, static_cast<Kind>(made), static_cast<Kind>(edit.code));
@@ -272,7 +274,7 @@ public:
     // attributes that were set before it was created. Returns how many attributes were set.
     std::uint64_t reindex(std::string_view name, std::uint32_t attempts = BES_TRIES)
     {
-        return detail::number_from(bes_reindex, handle(), std::string(name).c_str(), attempts);
+        return detail::number_from(bes_reindex, handle(), detail::index_name(name).c_str(), attempts);
     }
     template <class T> std::uint64_t reindex(const Attribute<T> &attribute, std::uint32_t attempts = BES_TRIES)
     {
@@ -405,13 +407,24 @@ inline Updates Live::refresh_changed(Snapshot &snapshot)
 inline Updates Live::refreshed(Snapshot &snapshot, decltype(bes_refresh) *call)
 {
     bes_updates counts{};
+    read_changes();
     detail::check(call(snapshot.handle(), handle(), &counts));
     store_ = snapshot.store_;
-    Updates updates{std::vector<Node>(counts.created + 1), std::vector<Node>(counts.removed + 1)};
-    detail::check(bes_changes(handle(), updates.created.data(), counts.created, updates.removed.data(), counts.removed));
-    updates.created.resize(counts.created);
-    updates.removed.resize(counts.removed);
-    return updates;
+    unread_ = counts;
+    read_changes();
+    return std::exchange(read_, {});
+}
+
+inline void Live::read_changes()
+{
+    if (!unread_)
+        return;
+    Updates updates{std::vector<Node>(unread_->created + 1), std::vector<Node>(unread_->removed + 1)};
+    detail::check(bes_changes(handle(), updates.created.data(), unread_->created, updates.removed.data(), unread_->removed));
+    updates.created.resize(unread_->created);
+    updates.removed.resize(unread_->removed);
+    read_ = detail::combined(read_, std::move(updates));
+    unread_.reset();
 }
 
 } // namespace bestore

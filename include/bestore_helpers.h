@@ -300,30 +300,34 @@ static inline uint32_t bes_batch_apply_if(bes_pass *pass, uint64_t expected, con
  * overwrite what the previous run stored in *with. The function returns BES_OK or an error; bes_change passes the error on. */
 typedef uint32_t bes_changer(bes_pass *pass, bes_batch *batch, uint64_t next, void *with);
 
-/* One attempt of bes_change. If the changer exits through a longjmp or an exception, only the pin remains. */
-static inline uint32_t bes_change_once_(bes_pass *pass, bes_changer *changer, void *with, uint64_t *number)
+/* One attempt of bes_change. *is_over says whether the change is over before anything is written. If the changer exits through a longjmp or
+ * an exception, only the pin remains. */
+static inline uint32_t bes_change_once_(bes_pass *pass, bes_changer *changer, void *with, uint64_t *number, bool *is_over)
 {
     bes_batch batch;
     uint64_t snapshot = 0, next = 0;
     uint32_t error = bes_pin(pass, &snapshot);
     *number = 0;
+    *is_over = true;
     if (error != BES_OK)
         return error;
     bes_batch_clear(&batch);
     error = bes_next(pass, &next);
     if (error == BES_OK)
         error = changer(pass, &batch, next, with);
-    if (error == BES_OK && batch.count == 0)
-        *number = snapshot;
-    else if (error == BES_OK)
+    *is_over = error != BES_OK || batch.count == 0;
+    if (!*is_over)
         error = bes_apply_change(pass, batch.operations, batch.count, batch.bytes, batch.used, number);
+    else if (error == BES_OK)
+        *number = snapshot;
     bes_unpin(pass);
     return error;
 }
 
 /* Reads and writes atomically: pins the current snapshot, runs the changer, applies its batch if no other transaction has been committed in
  * the meantime, and unpins. If another transaction has been committed, or if bes_again returns true, bes_change starts over. It makes up to
- * `attempts` attempts in all, and at least one. If the batch is empty, nothing is written.
+ * `attempts` attempts in all, and at least one. If the batch is empty, nothing is written. An error that the changer returns ends the
+ * change, even if it is one after which bes_change would start over.
  * [in] pass      a pass that isn't pinned
  * [out] number   the commit number; for an empty batch, the snapshot's number
  * BES_CONFLICT: another transaction committed first on the last attempt. BES_PINNED, the changer's errors, and the errors of
@@ -332,7 +336,10 @@ static inline uint32_t bes_change(bes_pass *pass, uint32_t attempts, bes_changer
 {
     bes_retry retry = {attempts > 0 ? attempts - 1 : 0, 1, 0};
     for (;;) {
-        uint32_t error = bes_change_once_(pass, changer, with, number);
+        bool is_over = false;
+        uint32_t error = bes_change_once_(pass, changer, with, number, &is_over);
+        if (is_over)
+            return error;
         if (error == BES_CONFLICT && retry.left > 0) {
             retry.left--;
             retry.turns = bes_stand_back(retry.turns);
@@ -373,7 +380,7 @@ static inline uint32_t bes_batch_entry(bes_pass *pass, uint64_t from, bes_batch 
 }
 
 /* Like bes_batch_to_bytes, but takes its operations in the same form as bes_apply. It also returns BES_BAD_COUNT if there are more than 64
- * operations, BES_NAME_LENGTH if a name has more than 63 bytes, and BES_DATA_LENGTH if a text or raw value has more than 255 bytes. */
+ * operations, and BES_DATA_LENGTH if a text or raw value has more than 255 bytes. */
 uint32_t bes_operations_to_bytes(const bes_operation *operations, size_t operations_count, const uint8_t *parts, size_t parts_count,
                                  uint8_t *bytes, size_t bytes_room, uint64_t *count);
 
@@ -389,7 +396,8 @@ uint32_t bes_operations_from_bytes(const uint8_t *bytes, size_t length, bes_coun
 /* Encodes a batch as bytes that can be stored or sent, in the format described in bestore's KEPT.md. bes_batch_from_bytes decodes them.
  * [out] bytes    the first bytes; at most bytes_room, and BES_BATCH_BYTES suffice
  * [out] count    how many bytes there are; after an error in an operation, its index
- * BES_BAD_COUNT: the batch is empty. BES_BAD_PART, BES_NO_OPERATION, BES_NO_KIND: the batch contains an operation that no call accepts. */
+ * BES_BAD_COUNT: the batch is empty. BES_BAD_PART, BES_NO_OPERATION, BES_NO_KIND, BES_NAME_LENGTH (empty, or more than 63 bytes): the batch
+ * contains an operation that no call accepts. */
 static inline uint32_t bes_batch_to_bytes(const bes_batch *batch, uint8_t *bytes, size_t bytes_room, uint64_t *count)
 {
     return bes_operations_to_bytes(batch->operations, batch->count, batch->bytes, batch->used, bytes, bytes_room, count);
@@ -399,8 +407,8 @@ static inline uint32_t bes_batch_to_bytes(const bes_batch *batch, uint8_t *bytes
  * [out] place    the byte offset of the error; otherwise 0
  * BES_BAD_PART: the bytes don't begin as an encoded batch does or are of another format version; a part is cut off (place is its first
  * byte); or more bytes follow the end of the batch.
- * BES_BAD_COUNT, BES_NO_OPERATION, BES_NAME_LENGTH (more than 63), BES_NO_KIND: place is the offset of the invalid number. All other errors
- * in an operation are reported when the batch is applied. */
+ * BES_BAD_COUNT, BES_NO_OPERATION, BES_NAME_LENGTH (0, or more than 63), BES_NO_KIND: place is the offset of the invalid number. All other
+ * errors in an operation are reported when the batch is applied. */
 static inline uint32_t bes_batch_from_bytes(bes_batch *batch, const uint8_t *bytes, size_t length, uint64_t *place)
 {
     bes_counts counts = {0, 0};

@@ -191,6 +191,33 @@ struct Updates {
     std::vector<Node> removed;
 };
 
+namespace detail {
+
+// Returns the sum of two successive changes. A node that came and then left, or that left and then came, is in neither list.
+inline Updates combined(const Updates &first, Updates then)
+{
+    using Nodes = std::vector<Node>;
+    if (first.created.empty() && first.removed.empty())
+        return then;
+    Nodes came, went, created, removed;
+    std::set_union(first.created.begin(), first.created.end(), then.created.begin(), then.created.end(), std::back_inserter(came));
+    std::set_union(first.removed.begin(), first.removed.end(), then.removed.begin(), then.removed.end(), std::back_inserter(went));
+    std::set_difference(came.begin(), came.end(), went.begin(), went.end(), std::back_inserter(created));
+    std::set_difference(went.begin(), went.end(), came.begin(), came.end(), std::back_inserter(removed));
+    return {std::move(created), std::move(removed)};
+}
+
+// Returns an index's name as a string that ends at its first zero byte. Throws BES_NO_INDEX for a name that contains one, because no index
+// has such a name.
+inline std::string index_name(std::string_view name)
+{
+    if (name.find('\0') != std::string_view::npos)
+        throw Refusal(BES_NO_INDEX);
+    return std::string(name);
+}
+
+} // namespace detail
+
 class Snapshot;
 
 // An order of nodes: by their values in an index, then by node number among equal values. Nodes without a value in the index are left out.
@@ -303,7 +330,12 @@ public:
 private:
     Updates refreshed(Snapshot &snapshot, decltype(bes_refresh) *call);
 
+    // Reads the changes that the library found in the last refresh, unless they have been read. If memory runs out, nothing is changed.
+    void read_changes();
+
     std::optional<std::uint64_t> store_; // the store of the last refresh
+    std::optional<bes_updates> unread_;  // how many nodes the last refresh added and removed, until they are read
+    Updates read_;                       // the changes that have been read but not returned, because an exception was thrown
 };
 
 // The operations that rebuild a snapshot in an empty store, as batches of 1 to 64 operations. Each batch is written in one transaction. The
@@ -435,7 +467,7 @@ public:
     std::optional<std::size_t> uncovered(std::string_view text)
     {
         std::size_t at = 0;
-        detail::check(bes_uncovered(handle(), text.data(), text.size(), &at));
+        detail::check(bes_uncovered(handle(), reinterpret_cast<const char *>(detail::bytes_of(text)), text.size(), &at));
         return at < text.size() ? std::optional<std::size_t>(at) : std::nullopt;
     }
 
@@ -536,7 +568,7 @@ public:
     // Returns how many nodes have an attribute of this name that the index holds.
     std::uint64_t pairs(std::string_view name)
     {
-        return detail::number_from(bes_pairs, handle(), std::string(name).c_str());
+        return detail::number_from(bes_pairs, handle(), detail::index_name(name).c_str());
     }
 
 protected:

@@ -126,7 +126,7 @@ uint32_t bes_reindex(bes_pass *pass, const char *name, uint32_t attempts, uint64
 /* Escapes a string so that a query reads it literally: as a name, as a value or as part of a pattern. Any string may be put in quotes, but
  * only an empty one needs them. For example, [draft].txt becomes \[draft].txt.
  * [out] out      the result and a zero byte, truncated to `room` bytes; twice the string's length plus 1 is enough
- * Returns how many bytes the whole result has, not counting the zero byte, or 0 if the string isn't valid UTF-8. */
+ * Returns how many bytes the whole result has, not counting the zero byte, or 0 if the string isn't valid UTF-8 or memory runs out. */
 size_t bes_escape(const char *text, char *out, size_t room);
 
 /* Like bes_escape, but each letter matches in either case, as in a BQuery: draft becomes [dD][rR][aA][fF][tT]. The result is a pattern for

@@ -80,7 +80,7 @@ inline std::string any_case(std::string_view text) { return detail::made_text(te
 // Turns arbitrary bytes, such as a file name, into text of at most `most` bytes that the library accepts, as bes_to_utf8 does.
 inline std::string to_utf8(std::string_view text, std::size_t most = 255)
 {
-    std::string valid(most + 1, '\0');
+    std::string valid(std::min(most, text.size()) + 1, '\0'); // no text becomes longer
     valid.resize(bes_to_utf8(text.data(), text.size(), valid.data(), valid.size()));
     return valid;
 }

@@ -235,7 +235,9 @@ inline std::uint32_t append(std::string &bytes, std::string_view text)
     return at;
 }
 
-template <class T> inline constexpr bool is_integer = std::is_integral_v<T> && !std::is_same_v<T, bool> && !std::is_same_v<T, char>;
+template <class T>
+inline constexpr bool is_integer =
+    std::is_integral_v<T> && sizeof(T) <= sizeof(std::uint64_t) && !std::is_same_v<T, bool> && !std::is_same_v<T, char>;
 
 template <class T> constexpr Kind kind_of_integer()
 {

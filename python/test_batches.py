@@ -103,7 +103,8 @@ class Bytes(unittest.TestCase):
     def test_refused(self):
         reasons = {
             "beginning": "don't begin with BEB", "version": "a version other than 1", "count": "a batch has 1 to 64 operations",
-            "operation": "no operation has the number", "kind": "no kind has the type code", "end": "more bytes",
+            "operation": "no operation has the number", "name": "a name has 1 to 63 bytes, and this one",
+            "kind": "no kind has the type code", "end": "more bytes",
         }
         rows = table("!")
         self.assertGreater(len(rows), 12)
@@ -155,6 +156,9 @@ class Bytes(unittest.TestCase):
         for batch, error in [
             (bestore.Batch(), bestore.BadCount), (bestore.Batch([bestore.NewNode()] * 65), bestore.BadCount),
             (bestore.Batch().new_node().unset(1, "x" * 64), bestore.NameLength),
+            (bestore.Batch().new_node().unset(1, ""), bestore.NameLength),
+            (bestore.Batch().new_node().set(1, "", 5), bestore.NameLength),
+            (bestore.Batch().new_node().make_index("", bestore.INT64), bestore.NameLength),
             (bestore.Batch().new_node().set(1, "x", bytes(256)), bestore.DataLength),
             (bestore.Batch().new_node().make_index("x", 1), bestore.NoKind),
         ]:

@@ -1,6 +1,7 @@
 """Tests of refreshes that examine only what was written, compared with refreshes that run the whole query."""
 
 import random
+import signal
 import threading
 import unittest
 
@@ -138,6 +139,40 @@ class Refreshes(unittest.TestCase):
             self.assertRaises(TypeError, version.refresh_changed, "size>=0")
             self.changed.close()
             self.assertRaises(bestore.Closed, version.refresh_changed, self.changed)
+
+
+class Ended(Exception):
+    """Raised by a signal's handler."""
+
+
+class Interrupted(unittest.TestCase):
+    def setUp(self):
+        def end(number, frame):
+            raise Ended
+        self.addCleanup(signal.signal, signal.SIGALRM, signal.signal(signal.SIGALRM, end))
+
+    def test_no_change_is_lost(self):
+        """If a signal ends a refresh, the next refresh returns what the first one found."""
+        slow, ended = "size>=0 && (" + " || ".join(f"name==*{digit}?{digit}*" for digit in range(10)) + ")", 0
+        with bestore.open() as store:
+            store.make_index("size", bestore.INT64)
+            for _ in range(100):
+                batch = bestore.Batch()
+                for node in store.new_nodes(30):
+                    batch.set(node, "size", node).set(node, "name", f"{node * 7919}")
+                store.apply(batch)
+            for call in ("refresh", "refresh_changed") * 5:
+                with bestore.prepare(slow) as query, store.pin() as version:
+                    came, nodes = [], version.query_prepared(query)
+                    signal.setitimer(signal.ITIMER_REAL, 0.002)
+                    try:
+                        came = getattr(version, call)(query)[0]
+                    except Ended:
+                        ended += 1
+                    signal.setitimer(signal.ITIMER_REAL, 0)
+                    self.assertEqual(came + getattr(version, call)(query)[0], nodes)
+                    self.assertEqual(getattr(version, call)(query), ([], []))
+        self.assertGreater(ended, 0)
 
 
 class OfServer(OverServer, Refreshes):

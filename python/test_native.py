@@ -357,6 +357,79 @@ with bestore.open(64, 1, 100) as store:
         said = subprocess.run([sys.executable, "-c", program], env=environment, stdout=subprocess.PIPE, text=True, check=True)
         self.assertEqual(said.stdout.split(), ["refused", "refused", "5"])
 
+    def test_parts_without_room(self):
+        """If there is too little memory for a part of an answer, the call fails instead of leaving nodes out."""
+        program = """
+import bestore, resource
+with bestore.open(4096, 1) as store, bestore.prepare("k > 0") as query:
+    store.make_index("k", bestore.INT64)
+    with store.pin() as version:
+        version.query_prepared(query)  # allocates a small buffer
+    for first in range(1, 2000, 20):
+        batch = bestore.Batch()
+        for node in range(first, first + 20):
+            batch.new_node().set(node, "k", node)
+        store.apply(batch)
+    for first in range(2001, 400000, 32):
+        batch = bestore.Batch()
+        for node in range(first, first + 32):
+            batch.new_node().remove_node(node)
+        store.apply(batch)
+    with store.pin() as version:
+        with open("/proc/self/statm") as file:
+            used = int(file.read().split()[0]) * resource.getpagesize()
+        resource.setrlimit(resource.RLIMIT_AS, (used + 1500000, resource.RLIM_INFINITY))
+        for call in (
+            lambda: version.query_prepared(query, start=1), lambda: version.query_prepared(query, limit=1500),
+            lambda: version.query_prepared(query, by="k", limit=1700), lambda: version.query_prepared(query, by="k"),
+            lambda: version.any(query, 1900), lambda: version.any(query, 10**6),
+        ):
+            try:
+                print(len(call()))
+            except MemoryError:
+                print("refused")
+"""
+        environment = dict(os.environ, PYTHONPATH=os.pathsep.join(sys.path))
+        said = subprocess.run([sys.executable, "-c", program], env=environment, stdout=subprocess.PIPE, text=True, check=True)
+        found = said.stdout.split()
+        self.assertEqual((found[1], len(found)), ("1500", 6))
+        for many, whole in zip(found, ["2000", "1500", "1700", "2000", "1900", "2000"]):
+            self.assertIn(many, (whole, "refused"))
+
+    @unittest.skipIf(_testcapi is None, "there is no _testcapi")
+    def test_refreshes_without_memory(self):
+        """A refresh that runs out of memory loses no change: the next one returns it."""
+        with bestore.open(1024, 1) as store:
+            filled(store, 400)
+            refused = 0
+            for request in range(1, 30):
+                for changed in False, True:
+                    with bestore.prepare("k > 0") as query:
+                        def refresh():
+                            with store.pin() as version:
+                                return version.refresh_changed(query) if changed else version.refresh(query)
+                        seen = set(refresh()[0])
+                        store.set(300, "k", -1)
+                        store.set(301, "k", -1)
+                        _testcapi.set_nomemory(request, request + 1)
+                        try:
+                            came, went = refresh()
+                        except MemoryError:
+                            came, went = [], []
+                            refused += 1
+                        finally:
+                            _testcapi.remove_mem_hooks()
+                        seen = (seen | set(came)) - set(went)
+                        store.set(300, "k", 300)
+                        store.set(302, "k", -1)
+                        came, went = refresh()
+                        self.assertEqual((seen | set(came)) - set(went), set(range(1, 401)) - {301, 302})
+                        self.assertEqual((seen & set(came), set(went) - seen), (set(), set()))
+                        for node in 301, 302:
+                            store.set(node, "k", node)
+                        self.assertEqual(refresh(), ([301, 302], []))
+            self.assertGreater(refused, 4)
+
     @unittest.skipIf(_testcapi is None, "there is no _testcapi")
     def test_each_request(self):
         """Each request for memory that fails raises MemoryError, and the next call works as before."""

@@ -35,6 +35,12 @@ static bool has_part(size_t count, uint32_t at, uint32_t length)
     return at <= count && length <= count - at;
 }
 
+/* Returns whether an operation of this kind has a name, and the name's length is one that no name has. */
+static bool has_wrong_length(uint32_t kind, uint32_t name_length)
+{
+    return kind >= BES_SET && (name_length < 1 || name_length > 63);
+}
+
 /* Returns BES_OK if the format can represent an operation, and the error otherwise. */
 static uint32_t unwritable(const bes_operation *it, size_t parts_count)
 {
@@ -44,7 +50,7 @@ static uint32_t unwritable(const bes_operation *it, size_t parts_count)
         return BES_NO_OPERATION;
     if (has_code(it->kind) && !is_code(it->code))
         return BES_NO_KIND;
-    if (it->kind >= BES_SET && it->name_length > 63)
+    if (has_wrong_length(it->kind, it->name_length))
         return BES_NAME_LENGTH;
     return it->kind == BES_SET && !bes_is_number_code(it->code) && it->value_length > 255 ? BES_DATA_LENGTH : BES_OK;
 }
@@ -164,7 +170,7 @@ static uint32_t take_operation(source *from, bes_operation *it, sink *parts)
     it->name_at = it->value_at = (uint32_t)parts->count;
     if (it->kind >= BES_SET && !take_part(from, parts, &it->name_at, &it->name_length))
         return BES_BAD_PART;
-    if (it->name_length > 63)
+    if (has_wrong_length(it->kind, it->name_length))
         return wrong_at(from, begin, BES_NAME_LENGTH);
     it->value_at = (uint32_t)parts->count;
     begin = from->at;

@@ -14,8 +14,9 @@ def refreshed(prepared: Prepared, nodes: Iterable[int], is_in_library: bool) -> 
     """Returns the nodes that joined the answer and those that left it since the query's last refresh. `nodes` is the current
     answer, and `is_in_library` says whether the library has these nodes."""
     found, seen = set(nodes), prepared._seen
+    came, went = sorted(found - seen), sorted(seen - found)
     prepared._seen, prepared._is_in_library = found, is_in_library
-    return sorted(found - seen), sorted(seen - found)
+    return came, went
 
 
 def refreshed_by_all(prepared: Prepared, version: Version) -> Tuple[List[int], List[int]]:

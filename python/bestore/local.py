@@ -142,12 +142,19 @@ class LocalVersion(_native.Reader, Version):
         """Returns what changed. `refresh` is one of the calls that refresh a query in the library."""
         prepared._check_process()
         with prepared._refreshing:
-            came, went = refresh(prepared)
+            # If a signal or a lack of memory ends this call before `_seen` has the answer, the next refresh compares whole answers.
+            is_in_library, refreshed_in = prepared._is_in_library, prepared._refreshed_in
+            prepared._is_in_library, prepared._refreshed_in = False, None
+            try:
+                came, went = refresh(prepared)
+            except Refusal:
+                prepared._is_in_library, prepared._refreshed_in = is_in_library, refreshed_in
+                raise
             prepared._refreshed_in = self._user._store
-            if not prepared._is_in_library:
+            if not is_in_library:
                 return refreshed(prepared, self.query_prepared(prepared), is_in_library=True)
-            prepared._seen.difference_update(went)
-            prepared._seen.update(came)
+            prepared._seen.symmetric_difference_update(came + went)
+            prepared._is_in_library = True
             return came, went
 
     def explain(self, text: str) -> str:

@@ -13,7 +13,9 @@ from .values import KIND_OF, RANGES, Kind, Value, decode_value, encode_value, pl
 NEW, REMOVE, SET, UNSET, MAKE_INDEX, REMOVE_INDEX = range(6)
 MOST_OPERATIONS = 64
 """The maximum number of operations in a write."""
-BYTES_OF_A_BATCH = MOST_OPERATIONS * (63 + 255)
+MOST_OF_A_NAME = 63
+"""The maximum number of bytes in a name, which has at least one."""
+BYTES_OF_A_BATCH = MOST_OPERATIONS * (MOST_OF_A_NAME + 255)
 """The maximum number of bytes in a write's names and values."""
 
 
@@ -202,7 +204,7 @@ class Batch:
             parts.append(_KIND_NODE.pack(kind, node) if kind in _WITH_NODE else _BYTES[kind])
             if kind == REMOVE:
                 continue
-            if name_length > 63:
+            if not 1 <= name_length <= MOST_OF_A_NAME:
                 raise NameLength(place, listed="operation")
             parts += _BYTES[name_length], texts[name_at:name_at + name_length]
             if kind not in _WITH_CODE:
@@ -298,6 +300,12 @@ class _Reader:
         """Reads a length, and returns that many bytes."""
         return self._take(self._number(1, f"the length of {what}"), what)
 
+    def _name(self) -> bytes:
+        name = self._counted("a name")
+        if not 1 <= len(name) <= MOST_OF_A_NAME:
+            raise BadBytes(self._at - len(name) - 1, f"a name has 1 to {MOST_OF_A_NAME} bytes, and this one {len(name)}")
+        return name
+
     def read_beginning(self) -> None:
         for at in range(3):
             if self._data[at:at + 1] != BEGINNING[at:at + 1]:
@@ -318,7 +326,7 @@ class _Reader:
         if kind > REMOVE_INDEX:
             raise BadBytes(self._at - 1, f"no operation has the number {kind}")
         node = self._number(8, "a node") if kind in _WITH_NODE else 0
-        name = self._counted("a name") if kind in _WITH_NAME else b""
+        name = self._name() if kind in _WITH_NAME else b""
         code = self._number(4, "a type code") if kind in _WITH_CODE else 0
         if kind in _WITH_CODE and code not in KIND_OF:
             raise BadBytes(self._at - 4, f"no kind has the type code {code:#x}")

@@ -127,12 +127,15 @@ static uint32_t ask_once(bes_pass *pass, const Asked *asked, Result *it)
     return is_long ? ask_long(pass, asked, it) : ask_short(pass, asked, it);
 }
 
-/* Takes the pass's buffer for found nodes, or allocates one. It has room for the maximum number of nodes, so that no query runs
- * twice; memory that is never written costs nothing. If that much memory isn't available, a query that finds more nodes than
- * fit runs again, but a prepared query keeps its result. */
-static bool take_room(Handle *user, uint64_t most, Result *it)
+/* Takes the pass's buffer for found nodes, or allocates one. It has room for the maximum number of nodes, or for all nodes of a
+ * part, so that no query runs twice; memory that is never written costs nothing. If that much memory isn't available, a query
+ * that finds more nodes than fit runs again, but a prepared query keeps its result. A part needs all of its room, because it
+ * doesn't say how many nodes it leaves out. */
+static bool take_room(Handle *user, uint64_t most, const Part *part, Result *it)
 {
     size_t wanted = (size_t)(most < MOST_NODES ? most : MOST_NODES);
+    if (part != NULL && part->limit < wanted)
+        wanted = part->limit;
     it->nodes = user->nodes;
     it->room = user->room;
     user->nodes = NULL;
@@ -140,7 +143,7 @@ static bool take_room(Handle *user, uint64_t most, Result *it)
     if (it->room < wanted || it->room == 0) {
         size_t room = wanted < 2 * it->room ? 2 * it->room : wanted < LEAST_ROOM ? LEAST_ROOM : wanted;
         uint64_t *nodes = malloc(room * sizeof *nodes);
-        if (nodes == NULL && it->nodes == NULL) {
+        if (nodes == NULL && (it->nodes == NULL || part != NULL)) {
             PyErr_NoMemory();
             return false;
         }
@@ -180,7 +183,7 @@ static void give_back(Handle *user, Result *it)
 static bool ask(Handle *user, uint64_t most, const Asked *asked, bool wants_nodes, Result *it, uint32_t *answer)
 {
     *it = (Result){ .nodes = NULL };
-    if (wants_nodes && !take_room(user, most, it))
+    if (wants_nodes && !take_room(user, most, asked->part, it))
         return false;
     *answer = ask_once(&user->held.pass, asked, it);
     while (wants_nodes && *answer == BES_OK && it->count > it->room) {

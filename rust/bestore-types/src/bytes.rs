@@ -10,8 +10,12 @@
 
 use crate::raw::{RawOperation, OPERATIONS};
 use crate::{sys, Batch, Error, Kind, Result};
+use std::ops::RangeInclusive;
 
 const BEGINNING: [u8; 4] = *b"BEB\x01";
+
+/// The number of bytes that a name can have.
+const LENGTHS_OF_A_NAME: RangeInclusive<u8> = 1..=63;
 
 impl Batch {
     /// Encodes the batch as bytes that can be stored or sent.
@@ -37,7 +41,9 @@ impl Batch {
         }
         if has_name(operation.kind) {
             let name = self.raw().name(operation);
-            let length = u8::try_from(name.len()).ok().filter(|length| *length <= 63);
+            let length = u8::try_from(name.len())
+                .ok()
+                .filter(|length| LENGTHS_OF_A_NAME.contains(length));
             to.push(length.ok_or(Error::NameLength {
                 operation: operation_index,
             })?);
@@ -156,6 +162,15 @@ impl<'a> Reader<'a> {
         }
     }
 
+    fn name(&mut self) -> Result<&'a str> {
+        let length = self.byte()?;
+        let name = self.text(length.into())?;
+        match LENGTHS_OF_A_NAME.contains(&length) {
+            true => Ok(name),
+            false => self.bad(name.len() + 1, "a name has 1 to 63 bytes"),
+        }
+    }
+
     fn operation(&mut self, batch: &mut Batch) -> Result<()> {
         let kind = u32::from(self.byte()?);
         if kind > sys::BES_REMOVE_INDEX {
@@ -166,12 +181,7 @@ impl<'a> Reader<'a> {
         } else {
             0
         };
-        let name = if has_name(kind) {
-            let length = self.byte()?;
-            self.text(length.into())?
-        } else {
-            ""
-        };
+        let name = if has_name(kind) { self.name()? } else { "" };
         let code = if has_code(kind) {
             u32::from_le_bytes(self.array()?)
         } else {
@@ -307,6 +317,7 @@ mod tests {
                 "version" => "the batch's format has another version; only version 1 can be read",
                 "count" => "a batch has 1 to 64 operations",
                 "operation" => "no operation has this number; operations are numbered 0 to 5",
+                "name" => "a name has 1 to 63 bytes",
                 "kind" => "no kind has this type code",
                 _ => "the batch ends here, and more bytes follow",
             };
@@ -346,7 +357,7 @@ mod tests {
                 let mut changed = bytes.clone();
                 changed[at] = value;
                 if let Ok(batch) = Batch::from_bytes(&changed) {
-                    assert_eq!(batch.to_bytes().ok().unwrap_or_else(|| changed.clone()), changed);
+                    assert_eq!(batch.to_bytes().unwrap(), changed);
                 }
             }
         }
@@ -355,10 +366,14 @@ mod tests {
     #[test]
     fn a_batch_that_no_store_accepts_has_no_bytes() {
         assert!(matches!(Batch::new().to_bytes(), Err(Error::BadCount { count: 0 })));
-        let mut long = Batch::new();
-        long.new_node().unset(1, &"x".repeat(64));
-        let operation = Some(1);
-        assert!(matches!(long.to_bytes(), Err(Error::NameLength { operation: o }) if o == operation));
+        for name in ["", &"x".repeat(64), &"x".repeat(300)] {
+            let mut named = Batch::new();
+            named.new_node().unset(1, name);
+            assert!(matches!(
+                named.to_bytes(),
+                Err(Error::NameLength { operation: Some(1) })
+            ));
+        }
         let mut large = Batch::new();
         large.set(1, "r", vec![0; 256]);
         assert!(matches!(large.to_bytes(), Err(Error::DataLength { .. })));

@@ -65,7 +65,7 @@ impl Snapshot<'_> {
                 Err(error) => error,
             },
             sys::BES_BAD_CURSOR => match (self.index(name), after.value()) {
-                (Ok(index), Some(value)) => Error::BadCursor(CursorFault::OtherKind {
+                (Ok(index), Some(value)) if index != value.kind() => Error::BadCursor(CursorFault::OtherKind {
                     name: name.into(),
                     cursor: value.kind(),
                     index,

@@ -386,7 +386,7 @@ impl Pass {
     /// Returns this pass's number, by which the journal and [`Error::Busy`] refer to it.
     ///
     /// # Errors
-    /// [`Error::Forked`].
+    /// [`Error::OutOfMemory`] after the store was carried on; [`Error::Forked`].
     pub fn number(&self) -> Result<u64> {
         Ok(self.on_newest(|seat| seat.raw().number())?)
     }
@@ -396,7 +396,7 @@ impl Pass {
     /// You can still write through [`Snapshot::pass`], but the snapshot doesn't change.
     ///
     /// # Errors
-    /// [`Error::Forked`].
+    /// [`Error::OutOfMemory`] after the store was carried on; [`Error::Forked`].
     pub fn pin(&mut self) -> Result<Snapshot<'_>> {
         Snapshot::pin(self)
     }
@@ -417,7 +417,7 @@ impl Pass {
     /// ```
     ///
     /// # Errors
-    /// [`Error::Forked`].
+    /// [`Error::OutOfMemory`] after the store was carried on; [`Error::Forked`].
     pub fn hold(&mut self) -> Result<u64> {
         let snapshot = self.pin()?;
         let number = snapshot.number();

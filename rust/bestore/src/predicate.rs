@@ -9,6 +9,9 @@ use sys::bes_item;
 
 /// A query built from comparisons with `&`, `|` and `!`. Strings need no quotes or backslashes.
 ///
+/// # Panics
+/// A call that makes or joins predicates panics if their names and strings take 4 GiB or more.
+///
 /// ```
 /// use bestore::attribute;
 /// let query = attribute("size").ge(1000) & !attribute("name").begins_with("[draft]");
@@ -119,10 +122,10 @@ impl Predicate {
     }
 
     fn joined(mut self, other: &Predicate, operator: u32) -> Self {
-        let shift = narrow(self.bytes.len());
+        let shift = self.bytes.len();
         self.bytes.extend_from_slice(&other.bytes);
         self.items.extend(other.items.iter().map(|item| bes_item {
-            at: item.at + shift,
+            at: narrow(shift + item.at as usize),
             ..*item
         }));
         self.with(operator)
@@ -145,7 +148,7 @@ impl Predicate {
     fn pattern_before(&self, item: u64) -> String {
         let index = usize::try_from(item).unwrap_or(usize::MAX).checked_sub(1);
         let value = index.and_then(|index| self.items.get(index));
-        let bytes = value.and_then(|value| self.bytes.get(value.at as usize..(value.at + value.length) as usize));
+        let bytes = value.and_then(|value| self.bytes.get(value.at as usize..)?.get(..value.length as usize));
         String::from_utf8_lossy(bytes.unwrap_or_default()).into_owned()
     }
 }
@@ -211,6 +214,14 @@ mod tests {
         assert_eq!(text(&literal), r#""a"=="*\**" || "a"=="*\"\[""#);
         let ordered = attribute("a").lt("b") & attribute("a").gt("") & attribute("b").ge(1);
         assert_eq!(text(&ordered), r#""a"<"b" && "a">"" && "b">="1""#);
+    }
+
+    #[test]
+    #[should_panic(expected = "less than 4 GiB")]
+    fn an_offset_beyond_4_gib_is_not_cut_off() {
+        let mut far = attribute("a").eq("b");
+        far.items[0].at = u32::MAX;
+        let _ = attribute("a").eq("b") & far;
     }
 
     #[test]

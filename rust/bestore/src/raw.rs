@@ -655,13 +655,15 @@ impl RawPlace {
     }
 }
 
-/// Converts the cursor to the form that the library takes.
+/// Converts the cursor to the form that the library takes. The library refuses a cursor whose key is longer than any in an index.
 pub(crate) fn cursor_of(cursor: &Cursor) -> bes_cursor {
     let mut raw = bes_cursor::BEGINNING;
     if let Some((kind, key)) = cursor.key() {
         raw.kind = kind.code();
-        raw.length = key.len() as u32;
-        raw.key[..key.len()].copy_from_slice(&key);
+        raw.length = length_of(&key);
+        if let Some(room) = raw.key.get_mut(..key.len()) {
+            room.copy_from_slice(&key);
+        }
     }
     raw
 }

@@ -206,7 +206,7 @@ impl<'a> Snapshot<'a> {
     /// which is faster than calling [`Snapshot::get`] for each.
     ///
     /// # Errors
-    /// [`Error::NameLength`], [`Error::HasNul`], [`Error::BadCount`] if there are more than 2^32 values, [`Error::Forked`].
+    /// [`Error::NameLength`], [`Error::HasNul`], [`Error::Forked`].
     pub fn columns(&self, nodes: &[u64], names: &[&str]) -> Result<Vec<Vec<Option<Value>>>> {
         let mut order: Vec<usize> = (0..names.len()).collect();
         order.sort_by_key(|&place| names[place]);
@@ -214,11 +214,14 @@ impl<'a> Snapshot<'a> {
             .iter()
             .map(|&place| checked_name(names[place]))
             .collect::<std::result::Result<Vec<_>, Refused>>()?;
-        let (cells, bytes) = self.pass.raw().columns(nodes, &checked)?;
+        self.pass.succession().check()?;
         let mut columns: Vec<Vec<Option<Value>>> = names.iter().map(|_| Vec::with_capacity(nodes.len())).collect();
-        for row in cells.chunks(names.len().max(1)) {
-            for (cell, &place) in row.iter().zip(&order) {
-                columns[place].push(value_of(cell, &bytes));
+        for part in nodes.chunks((VALUES / names.len().max(1)).max(1)) {
+            let (cells, bytes) = self.pass.raw().columns(part, &checked)?;
+            for row in cells.chunks(names.len().max(1)) {
+                for (cell, &place) in row.iter().zip(&order) {
+                    columns[place].push(value_of(cell, &bytes));
+                }
             }
         }
         Ok(columns)
@@ -306,6 +309,9 @@ fn value_of(cell: &sys::bes_cell, bytes: &[u8]) -> Option<Value> {
 
 /// The number of nodes to read at a time.
 const NODES: usize = 1024;
+
+/// The number of values to read at a time, unless there are more names.
+const VALUES: usize = 4096;
 
 /// An iterator over the nodes in a snapshot, returned by [`Snapshot::nodes`]. An error ends the iteration.
 #[derive(Debug)]

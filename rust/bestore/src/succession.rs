@@ -253,9 +253,10 @@ impl Succession {
         self.due_bytes.store(due, Ordering::Relaxed);
     }
 
-    /// Returns `true` if a pass still has a seat in an earlier generation.
+    /// Returns `true` if a pass still has a seat in an earlier generation. In a forked child, no pass does, and the thread that has the
+    /// lock may not exist.
     pub(crate) fn is_read_before(&self) -> bool {
-        lock(&self.before).strong_count() > 0
+        self.birthplace.is_here() && lock(&self.before).strong_count() > 0
     }
 }
 

@@ -2,7 +2,9 @@
 
 mod common;
 
-use bestore::{Error, Limits, Live, Prepared, Store};
+use bestore::{Error, Kind, Limits, Live, Prepared, Retry, Shelf, Store};
+use std::sync::atomic::{AtomicBool, Ordering};
+use std::thread;
 
 /// Runs the closure in a forked child, and returns the child's exit status.
 fn in_a_child(closure: impl FnOnce() -> bool) -> i32 {
@@ -26,6 +28,7 @@ fn is_dead<T: std::fmt::Debug>(answer: bestore::Result<T>) -> bool {
 #[test]
 fn handles_of_the_parent_are_dead_in_a_child() {
     plain_handles();
+    locks_of_other_threads();
     #[cfg(feature = "saved")]
     kept_store();
 }
@@ -51,6 +54,44 @@ fn kept_store() {
     assert_eq!(saved.pass().unwrap().pin().unwrap().nodes().count(), 2);
 }
 
+/// A lock that another thread had when the process was forked stays locked in the child, where no call may wait for it.
+fn locks_of_other_threads() {
+    let (store, shelf) = (common::store(), Shelf::open(2, Limits::default()).unwrap());
+    let pass = store.pass().unwrap();
+    for _ in 0..200 {
+        pass.new_node().unwrap();
+    }
+    drop(pass);
+    let (mut making, mut reading) = (shelf.pass().unwrap(), shelf.pass().unwrap());
+    making.set_retry(Retry::NEVER);
+    let snapshot = reading.pin().unwrap();
+    let is_over = AtomicBool::new(false);
+    thread::scope(|scope| {
+        scope.spawn(|| {
+            while !is_over.load(Ordering::Relaxed) {
+                store.carry_on().unwrap();
+            }
+        });
+        scope.spawn(|| {
+            while !is_over.load(Ordering::Relaxed) {
+                // The snapshot above keeps pages, so in the end these writes find none.
+                let _ = making.make_index("a", Kind::Text);
+                let _ = making.remove_index("a");
+            }
+        });
+        let child = |_| {
+            in_a_child(|| {
+                // SAFETY: the call takes a number. Its signal ends a child that waits.
+                unsafe { libc::alarm(20) };
+                !store.is_read_before() && is_dead(snapshot.remove_index("b")) && is_dead(store.carry_on())
+            })
+        };
+        let failed = (0..40).map(child).find(|status| *status != 0);
+        is_over.store(true, Ordering::Relaxed);
+        assert_eq!(failed, None);
+    });
+}
+
 fn plain_handles() {
     let store = common::store();
     let mut pass = store.pass().unwrap();
@@ -62,6 +103,7 @@ fn plain_handles() {
     let status = in_a_child(|| {
         let are_dead = is_dead(store.pass())
             && is_dead(snapshot.get(1, "a"))
+            && is_dead(snapshot.columns(&[], &["a"]))
             && is_dead(snapshot.pass().new_node())
             && is_dead(prepared.text())
             && is_dead(snapshot.pass().witness())

@@ -269,6 +269,15 @@ fn what_has_no_page_is_refused() {
         assert!(said(snapshot.page(&Prepared::new("none==1").unwrap(), &order, None, 1)).contains("\"none\" has none"));
         let long = snapshot.page(&query, &Order::by(&"n".repeat(64)), None, 1);
         assert!(long.is_err());
+        // A program can move a cursor to a value that no attribute has.
+        let mut moved = snapshot.page(&query, &other, None, 1).unwrap().cursor;
+        for value in ["x".repeat(256).into(), "x".repeat(5000).into(), vec![7; 300].into()] {
+            moved.move_to(value, 1);
+            let refused = snapshot.page(&query, &other, Some(&moved), 1).unwrap_err();
+            assert!(matches!(refused.without_volume(), Error::BadCursor(_)));
+        }
+        moved.move_to("x".repeat(255).into(), 1);
+        assert!(snapshot.page(&query, &other, Some(&moved), 1).is_ok());
     }
 }
 

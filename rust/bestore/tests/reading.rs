@@ -294,6 +294,24 @@ fn the_journal_has_each_write_with_its_outcomes() {
     assert!(text.lines().nth(1).unwrap().ends_with("new -> node 1"), "{text}");
 }
 
+/// Values are read in parts, which begin and end at a node.
+#[test]
+fn many_values_are_read() {
+    let mut pass = ten();
+    let snapshot = pass.pin().unwrap();
+    let nodes: Vec<u64> = (0..5000).map(|number| number % 13).collect();
+    let sizes: Vec<_> = nodes.iter().map(|node| snapshot.get(*node, "size").unwrap()).collect();
+    for width in [1, 2, 3, 5, 1365, 5000] {
+        let (nodes, sizes) = (&nodes[..5000 / width], &sizes[..5000 / width]);
+        let columns = snapshot.columns(nodes, &vec!["size"; width]).unwrap();
+        assert_eq!(columns.len(), width);
+        assert!(columns.iter().all(|column| column == sizes));
+    }
+    assert!(snapshot.columns(&nodes, &[]).unwrap().is_empty());
+    let empty = snapshot.columns(&[], &["size", "none"]).unwrap();
+    assert!(empty.len() == 2 && empty.iter().all(Vec::is_empty));
+}
+
 #[test]
 fn names_that_no_attribute_has_are_refused() {
     let mut pass = ten();

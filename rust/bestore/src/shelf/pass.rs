@@ -82,7 +82,7 @@ impl ShelfPass {
     /// Pins the current snapshot of each volume, one volume after another. The snapshots can be read until they are dropped.
     ///
     /// # Errors
-    /// [`Error::Forked`].
+    /// [`Error::OutOfMemory`] after the store was carried on; [`Error::Forked`].
     pub fn pin(&mut self) -> Result<ShelfSnapshot<'_>> {
         ShelfSnapshot::pin(&mut self.volumes, &self.indexing)
     }
@@ -92,7 +92,7 @@ impl ShelfPass {
     /// [numbers]: ShelfSnapshot::numbers
     ///
     /// # Errors
-    /// [`Error::Forked`].
+    /// [`Error::OutOfMemory`] after the store was carried on; [`Error::Forked`].
     pub fn hold(&mut self) -> Result<Vec<u64>> {
         self.volumes.iter_mut().map(Pass::hold).collect()
     }

@@ -271,6 +271,8 @@ impl<'a> ShelfSnapshot<'a> {
     /// Writes the batch to each volume, and ignores errors for which `is_done` returns `true`. If every volume fails with such an error,
     /// returns `all`.
     fn write_each(&self, batch: &Batch, all: Error, is_done: impl Fn(&Error) -> bool) -> Result<()> {
+        // In a forked child, the thread that has the lock may not exist.
+        self.volumes[0].pass().succession().check()?;
         let _turn = self.indexing.lock().unwrap_or_else(PoisonError::into_inner);
         let mut outcome = Err(all);
         for (volume, snapshot) in self.each() {
