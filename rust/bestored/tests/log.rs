@@ -311,6 +311,8 @@ fn a_wrong_outcome_is_named_with_its_entry() {
     let follower = Member::start(&database, "--follow");
     follower.client().wait_for_entry(8, Duration::from_secs(60)).unwrap();
     follower.server.stop();
+    // PostgreSQL answers a query that the follower has already sent before the log changes.
+    thread::sleep(Duration::from_millis(500));
     for _ in 0..3 {
         client.apply(Batch::new().new_node()).unwrap();
     }
