@@ -74,6 +74,22 @@ class Refused(Files):
             os.seteuid(own)
         self.assertTrue(str(refused).endswith("unable to open database file: Permission denied"), refused)
 
+    def test_held_for_a_moment(self):
+        """A held file is tried again after a pause. Each try closes what it opened."""
+        three(self.path)
+        holder, pauses = saved.open(self.path, 64), []
+
+        def pause(seconds):
+            pauses.append(seconds)
+            if len(pauses) == 6:
+                holder.close()
+        with mock.patch("time.sleep", pause), saved.open(self.path, 64) as store:
+            self.assertIsInstance(self.refusal(), saved.Held)
+            self.assertEqual(len(pauses), 12)
+            self.assertTrue(0 <= min(pauses) <= max(pauses) <= 0.04, pauses)
+            store.new_node()
+        saved.open(self.path, 64).close()
+
     def test_names(self):
         """SQLite doesn't treat these names as plain file names."""
         before = os.getcwd()
