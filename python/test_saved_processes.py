@@ -3,6 +3,7 @@
 import glob
 import os
 import random
+import resource
 import signal
 import subprocess
 import sys
@@ -67,6 +68,20 @@ def open_when_told():
         if store is not None:
             store.close()
         say("closed")
+
+
+def write_within(path, size):
+    """Opens the file, prints its nodes, and writes, while files may have only this many bytes."""
+    signal.signal(signal.SIGXFSZ, signal.SIG_IGN)
+    resource.setrlimit(resource.RLIMIT_FSIZE, (int(size), resource.getrlimit(resource.RLIMIT_FSIZE)[1]))
+    with suppress(saved.NotSaved), saved.open(path, 64) as store:
+        with store.pin() as version:
+            say(str(version.nodes()))
+        try:
+            store.new_node()
+        except saved.NotSaved as error:
+            say(error.reason)
+            raise
 
 
 def end_without_close(path):
