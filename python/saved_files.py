@@ -20,11 +20,11 @@ def say(line):
     os.write(1, line.encode() + b"\n")
 
 
-def run(work, *arguments):
-    """Runs one of the functions of test_saved_processes in its own process."""
+def run(work, *arguments, **options):
+    """Runs one of the functions of test_saved_processes in its own process. The options are those of Popen."""
     code = f"import sys, test_saved_processes; test_saved_processes.{work}(*sys.argv[1:])"
     return subprocess.Popen(
-        [sys.executable, "-c", code, *map(str, arguments)], cwd=HERE, stdout=subprocess.PIPE, universal_newlines=True)
+        [sys.executable, "-c", code, *map(str, arguments)], cwd=HERE, stdout=subprocess.PIPE, universal_newlines=True, **options)
 
 
 def sql(path, *statements):

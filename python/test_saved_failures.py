@@ -6,6 +6,7 @@ import shutil
 import signal
 import sqlite3
 import subprocess
+import sys
 import threading
 import time
 import unittest
@@ -14,10 +15,10 @@ from unittest import mock
 
 import bestore
 from bestore import saved
-from bestore._saved_errors import of_sqlite
+from bestore._saved_errors import is_of_writing, of_sqlite
 from bestore._saved_file import File
 from bestore._saved_line import Line, Turn
-from saved_files import Files, remove_checksums, sql, three
+from saved_files import Files, remove_checksums, run, sql, three
 
 
 def four_writers(store):
@@ -73,6 +74,22 @@ class Refused(Files):
         finally:
             os.seteuid(own)
         self.assertTrue(str(refused).endswith("unable to open database file: Permission denied"), refused)
+
+    def test_held_for_a_moment(self):
+        """A held file is tried again after a pause. Each try closes what it opened."""
+        three(self.path)
+        holder, pauses = saved.open(self.path, 64), []
+
+        def pause(seconds):
+            pauses.append(seconds)
+            if len(pauses) == 6:
+                holder.close()
+        with mock.patch("time.sleep", pause), saved.open(self.path, 64) as store:
+            self.assertIsInstance(self.refusal(), saved.Held)
+            self.assertEqual(len(pauses), 12)
+            self.assertTrue(0 <= min(pauses) <= max(pauses) <= 0.04, pauses)
+            store.new_node()
+        saved.open(self.path, 64).close()
 
     def test_names(self):
         """SQLite doesn't treat these names as plain file names."""
@@ -360,6 +377,25 @@ class Failures(Files):
         with saved.open(self.path, 64) as store, store.pin() as version:
             self.assertEqual(version.get(node, "count"), kept)
             store.new_node()
+
+    @unittest.skipIf(sys.version_info < (3, 11), "an SQLite error has no code")
+    def test_file_that_may_not_grow(self):
+        """SQLite reports it like a broken disk. The file can be opened, and the next write reports the error."""
+        three(self.path)
+        self.assertEqual(self.ended(run("write_within", self.path, 4096)), (0, ["[1, 2, 3]", "disk I/O error"]))
+        with saved.open(self.path, 64) as store, store.pin() as version:
+            self.assertEqual(version.nodes(), [1, 2, 3])
+            store.new_node()
+
+    def test_of_writing(self):
+        for code, expected in [(778, True), (1034, True), (266, False), (10, False), (None, False)]:
+            error = sqlite3.OperationalError("disk I/O error")
+            if code is not None:
+                error.sqlite_errorcode = code
+            refused = of_sqlite("path", error)
+            refused.__cause__ = error
+            self.assertIs(is_of_writing(refused), expected)
+        self.assertIs(is_of_writing(saved.DiskFull("path")), True)
 
 
 if __name__ == "__main__":

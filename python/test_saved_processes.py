@@ -3,6 +3,7 @@
 import glob
 import os
 import random
+import resource
 import signal
 import subprocess
 import sys
@@ -10,6 +11,7 @@ import threading
 import time
 import unittest
 import warnings
+from contextlib import suppress
 
 import bestore
 from bestore import saved
@@ -17,6 +19,8 @@ from bestore._library import _path
 from saved_files import HERE, Files, run, say, three
 
 WRITERS, ROUNDS = 3, 6  # for the processes that are killed
+OPENERS, OPENINGS = 4, 40  # for the processes that open a file at the same moment
+SOON = 0.005  # seconds until that moment
 
 
 def write_for_ever(path, round_number):
@@ -47,6 +51,37 @@ def hold(path):
     store.new_node()
     say("flushed")
     time.sleep(60)
+
+
+def open_when_told():
+    """Each line gives a moment and a file. Opens the file at that moment, prints whether that succeeded, and closes the file at the
+    next line."""
+    for line in iter(sys.stdin.readline, ""):
+        moment, path = line.rstrip("\n").split(" ", 1)
+        store = None
+        while time.monotonic() < float(moment):
+            pass  # a process that sleeps would wake too late
+        with suppress(saved.Held):
+            store = saved.open(path, 64)
+        say("held" if store is None else "open")
+        sys.stdin.readline()
+        if store is not None:
+            store.close()
+        say("closed")
+
+
+def write_within(path, size):
+    """Opens the file, prints its nodes, and writes, while files may have only this many bytes."""
+    signal.signal(signal.SIGXFSZ, signal.SIG_IGN)
+    resource.setrlimit(resource.RLIMIT_FSIZE, (int(size), resource.getrlimit(resource.RLIMIT_FSIZE)[1]))
+    with suppress(saved.NotSaved), saved.open(path, 64) as store:
+        with store.pin() as version:
+            say(str(version.nodes()))
+        try:
+            store.new_node()
+        except saved.NotSaved as error:
+            say(error.reason)
+            raise
 
 
 def end_without_close(path):
@@ -109,6 +144,26 @@ class Processes(Files):
         self.assertEqual(self.ended(child), (-signal.SIGKILL, []))
         with saved.open(self.path, 64) as store, store.pin() as version:
             self.assertEqual(version.nodes(), list(range(1, 11)))
+
+    def test_at_the_same_moment(self):
+        """One of the processes that open a closed file at the same moment gets it, whether the file is new or not."""
+        three(self.path)
+        children = [run("open_when_told", stdin=subprocess.PIPE) for _ in range(OPENERS)]
+
+        def tell(line):
+            for child in children:
+                child.stdin.write(f"{line}\n")
+                child.stdin.flush()
+            return sorted(child.stdout.readline().strip() for child in children)
+        found = []
+        for opening in range(OPENINGS):
+            path = self.path if opening % 2 else f"{self.path}{opening}"
+            found.append(tell(f"{time.monotonic() + SOON} {path}"))
+            self.assertEqual(tell("close"), ["closed"] * OPENERS)
+        for child in children:
+            child.stdin.close()
+            self.assertEqual(self.ended(child), (0, []))
+        self.assertEqual(found, [["held"] * (OPENERS - 1) + ["open"]] * OPENINGS)
 
     def test_rust(self):
         """The Rust crate's test program opens a file that Python created, and then Python opens it again."""

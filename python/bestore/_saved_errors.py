@@ -18,6 +18,7 @@ _CODES = {
     "file is not a database": _NO_DATABASE, "database disk image is malformed": _CORRUPT, "disk I/O error": _IO,
     "attempt to write a readonly database": _READ_ONLY, "unable to open database file": _CANT_OPEN, "out of memory": _NO_MEMORY,
 }
+_IO_WRITE, _IO_FSYNC = 778, 1034  # extended codes, which say which part of _IO failed
 _OF_THE_SYSTEM = {_BUSY, _LOCKED, _NO_MEMORY, _READ_ONLY, _IO, _FULL, _CANT_OPEN, _NO_DATABASE}  # not caused by the file's contents
 
 
@@ -213,6 +214,13 @@ def of_sqlite(path: str, error: sqlite3.Error) -> SavedError:
     if code == _CORRUPT:
         return Damaged(path, str(error))
     return Foreign(path) if code == _NO_DATABASE else SqliteError(path, str(error))
+
+
+def is_of_writing(error: SavedError) -> bool:
+    """Returns whether the system let nothing more be written: the disk is full or broken, the user's quota is used up, or the file
+    has the greatest size that the process may give it. SQLite reports the last two like a broken disk. Before Python 3.11, only a
+    full disk is recognised."""
+    return isinstance(error, DiskFull) or getattr(error.__cause__, "sqlite_errorcode", None) in (_IO_WRITE, _IO_FSYNC)
 
 
 def of_reading(path: str, error: sqlite3.Error, entry: Optional[int] = None, batch: Optional[int] = None,

@@ -7,13 +7,15 @@ import ctypes
 import errno
 import os
 import sqlite3
+import time
 import weakref
 from contextlib import contextmanager, suppress
 from itertools import chain
+from random import SystemRandom
 from typing import Any, Callable, ClassVar, Dict, Iterable, Iterator, List, NamedTuple, Optional, Sequence, Tuple
 
 from ._saved_checks import LastEntry, of_about, of_entry, of_state, of_token
-from ._saved_errors import CutOff, Damaged, Differs, Foreign, Newer, of_reading, of_sqlite
+from ._saved_errors import CutOff, Damaged, Differs, Foreign, Held, Newer, of_reading, of_sqlite
 
 APPLICATION = 0x62657374
 """"best" in ASCII: the number in SQLite's header that identifies the file."""
@@ -21,6 +23,8 @@ FORMAT = 2
 """The version of the format."""
 _WITHOUT_CHECKSUMS = 1  # the previous version, whose rows have no checksums
 
+_TRIES = 6  # how many more times a held file is tried
+_PAUSE = 0.04  # the longest pause before each of these tries, in seconds
 _LAST_NUMBER = 2**63 - 1  # the highest entry number: SQLite's integers end there
 
 # After 1,000 pages (4.1 MB), the WAL is overwritten from its start, so the limit truncates only what a large commit added. The
@@ -76,9 +80,20 @@ class File:
         self._last: Optional[LastEntry] = None
         self.has_checksums = True
         """Whether the file's rows have checksums. Rows in the earlier format have none."""
+        for _ in range(_TRIES):
+            # Programs that open the file at the same moment can keep each other from locking it. After pauses of different
+            # lengths, one of them is the first.
+            with suppress(Held):
+                self._open_once()
+                return
+            time.sleep(SystemRandom().uniform(0, _PAUSE))
+        self._open_once()
+
+    def _open_once(self) -> None:
+        """Opens the file, unless it is held now."""
         with self._translated():
             # SQLite doesn't treat ":memory:" or an empty name as a file unless a folder precedes the name.
-            within = os.path.join(os.curdir, path)
+            within = os.path.join(os.curdir, self.path)
             _make_private(within)
             self._connection = sqlite3.connect(within, timeout=0, isolation_level=None, check_same_thread=False)
         File._open.add(self)

@@ -48,7 +48,7 @@ from .errors import (
     Pinned, TooLong, encoded, encoded_query)
 from .change import Change
 from .handles import LockOwner
-from .nodes import node_number, within
+from .nodes import indices_in, node_number, within
 from .operations import MOST_OPERATIONS, NEW, Batch
 from .queries import Prepared
 from .store import ATTEMPTS, TRIES, Entry, Held, Status, ThreadPass, Witness, numbers_of_volumes
@@ -531,7 +531,10 @@ class ConnectedPass(LockOwner, ThreadPass):
         parameters: JSON = {"operations": operations_of(batch), **_in_volume(volume)}
         if expected is not None:
             parameters["expected"] = expected if expected in RANGES[Kind.UINT64] else 2**64 - 1  # a number that no journal has
-        if self._repeat is not None:
+        # The server writes such a batch to all volumes, and refuses a token for it.
+        is_for_all = volume is None and self.volumes > 1 and len(indices_in(batch)) == len(batch)
+        has_token = self._repeat is not None and not is_for_all
+        if has_token:
             parameters["token"] = uuid4().hex
             if expected is not None:
                 parameters["run"] = self.server.run
@@ -540,7 +543,7 @@ class ConnectedPass(LockOwner, ThreadPass):
             nodes = read_nodes(ok["nodes"])[::-1]
             return int(ok["commit"]), [nodes.pop() if kind == NEW else 0 for kind, *_ in batch._parts()]
         try:
-            return self._until_answered(lambda: self._ask("batch", parameters, read, is_write=True), has_token=True)
+            return self._until_answered(lambda: self._ask("batch", parameters, read, is_write=True), has_token)
         except LineTooLong:
             batch.to_bytes()  # raises an error if the batch isn't valid
             raise
@@ -650,8 +653,8 @@ def connect(path: Union[str, bytes, "os.PathLike[Any]", None] = None, timeout: O
     `repeat` lets writes survive a restart of the server. If a write's reply doesn't arrive, or if the server temporarily can't
     save the write, the write is sent again for up to `repeat` seconds, on a new connection if necessary. The write is applied
     only once. `change` runs its function again. A write isn't repeated while the pass is pinned or has watches, because a new
-    connection would have neither the pin nor the watches. Numbers for `apply_if` are valid only in the server run that
-    `server.run` names.
+    connection would have neither the pin nor the watches. A batch that creates or removes indices in several volumes is repeated
+    only if nothing was written. Numbers for `apply_if` are valid only in the server run that `server.run` names.
 
     Raises `NoServer`; `OtherUser` if the socket wasn't named explicitly and the server runs neither as the effective user nor as root;
     `NoPass` if the server has reached its maximum number of clients; `NotAllowed` if the server refuses this user;

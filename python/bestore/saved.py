@@ -36,8 +36,8 @@ from . import local as _local
 from . import shelf as _shelf
 from ._library import check
 from ._saved_errors import (
-    CutOff, Damaged, Differs, DiskFull, Fewer, Foreign, Held, Newer, NoFile, NotSaved, SavedError, SqliteError, Stopped, TooLarge, refused,
-    said)
+    CutOff, Damaged, Differs, DiskFull, Fewer, Foreign, Held, Newer, NoFile, NotSaved, SavedError, SqliteError, Stopped, TooLarge,
+    is_of_writing, refused, said)
 from ._saved_file import File, Row
 from ._saved_line import Line, Turn
 from ._saved_rows import Repeater
@@ -337,7 +337,8 @@ def open(path: Union[str, bytes, "os.PathLike[Any]"], pages: int = 4096, passes:
 
     With `every`, a write returns immediately and is saved `every` seconds later, or earlier by `flush` or `close`.
 
-    If the file has entries that are newer than its state, the state is rewritten; if the disk is full, the file is left unchanged.
+    If the file has entries that are newer than its state, the state is rewritten. The file is left unchanged if the disk is full
+    or, since Python 3.11, if the user's quota is used up or the file may not grow.
 
     Raises `Foreign`, `Newer` or `Held`; `Damaged` or `CutOff` if part of the file was changed or lost; `Differs` or `TooLarge`,
     with the position in the file; `DiskFull` or `SqliteError`; the errors of `bestore.open`; and a ValueError if `every` is
@@ -360,12 +361,21 @@ def open(path: Union[str, bytes, "os.PathLike[Any]"], pages: int = 4096, passes:
         saver = _Saver(file, own, last, every)
         opened.callback(saver.close)
         if has_entries or not file.has_checksums:
-            with suppress(DiskFull):
-                saver.compact()
+            _renew(saver)
         file.keep_last(last)
         store = Saved(saver)
         opened.pop_all()
     return store
+
+
+def _renew(saver: _Saver) -> None:
+    """Rewrites the file's state. If the system lets nothing be written, the file is unchanged, and the next write reports the
+    error."""
+    try:
+        saver.compact()
+    except SavedError as error:
+        if not is_of_writing(error):
+            raise
 
 
 def _few_commits(file: File, pages: int, passes: int, commits: int) -> _local.LocalPass:
