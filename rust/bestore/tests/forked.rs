@@ -3,6 +3,8 @@
 mod common;
 
 use bestore::{Error, Kind, Limits, Live, Prepared, Retry, Shelf, Store};
+use std::os::unix::process::CommandExt;
+use std::process::Command;
 use std::sync::atomic::{AtomicBool, Ordering};
 use std::thread;
 
@@ -83,7 +85,12 @@ fn locks_of_other_threads() {
             in_a_child(|| {
                 // SAFETY: the call takes a number. Its signal ends a child that waits.
                 unsafe { libc::alarm(20) };
-                !store.is_read_before() && is_dead(snapshot.remove_index("b")) && is_dead(store.carry_on())
+                let are_dead = !store.is_read_before() && is_dead(snapshot.remove_index("b"));
+                if are_dead && is_dead(store.carry_on()) {
+                    // Ends without a report of leaks: the child has lost what the other threads of the parent had.
+                    let _ = Command::new("true").exec();
+                }
+                false
             })
         };
         let failed = (0..40).map(child).find(|status| *status != 0);
