@@ -1,3 +1,0 @@
-pub mod LiteralRuns
-pub mod Bytes
-pub mod CanonicalStarts

@@ -1,4 +1,0 @@
-pub mod Comparing
-pub mod Left
-pub mod Outcomes
-pub mod Written

@@ -1,5 +1,0 @@
-use Rattle.be_store.specs.Passes.{IsPassOf}
-use Rattle.be_change_tests.proofs.tests.moves.move_at_last.Given as goal
-
-abbrev pub invariant-loop : goal.invariant-loop
-invariant-loop l = IsPassOf l.store l.pass

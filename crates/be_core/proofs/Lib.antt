@@ -1,9 +1,0 @@
-pub mod Places
-pub mod Readers
-pub mod Writers
-pub mod Scans
-pub mod Schedules
-pub mod Decided
-pub mod Shows
-pub mod WholeScans
-pub mod Steps

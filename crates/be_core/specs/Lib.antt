@@ -1,4 +1,0 @@
-pub mod Machine
-pub mod Laws
-pub mod Shown
-pub mod Lowest

@@ -1,5 +1,0 @@
-pub mod Entries
-pub mod Lengths
-pub mod Loops
-pub mod Numbers
-pub mod Values

@@ -1,4 +1,0 @@
-pub mod Blocks
-pub mod Journal
-pub mod Room
-pub mod Text

@@ -1,4 +1,0 @@
-pub mod Dump
-pub mod Finding
-pub mod History
-pub mod Parts

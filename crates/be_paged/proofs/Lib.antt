@@ -1,5 +1,0 @@
-pub mod StayingVersion
-pub mod Stored
-pub mod IndexEntries
-pub mod Applying
-pub mod Sizes

@@ -1,3 +1,0 @@
--- A version as its page stores it, and what that page says.
-pub mod EmptyVolume
-pub mod OneVolume

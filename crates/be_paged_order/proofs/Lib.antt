@@ -1,3 +1,0 @@
-mod Orders
-mod WalkedKeys
-mod WayKeys

@@ -1,2 +1,0 @@
-pub mod Imports
-pub mod Ways

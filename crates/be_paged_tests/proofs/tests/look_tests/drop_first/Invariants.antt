@@ -1,4 +1,0 @@
-use Rattle.be_paged_tests.proofs.tests.look_tests.drop_first.Given as goal
-
-abbrev pub ghost-apply_pages : goal.ghost-apply_pages
-ghost-apply_pages a = a._plain.now

@@ -1,4 +1,0 @@
-mod PageSets
-mod FreePages
-mod Pools
-mod Rooms

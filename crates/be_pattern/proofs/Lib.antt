@@ -1,7 +1,0 @@
-pub mod Scan
-pub mod Tokens
-pub mod Texts
-pub mod Back
-pub mod Drawn
-pub mod Fronts
-pub mod Literal

@@ -1,4 +1,0 @@
-//! Scripts that run concurrently, each on its own thread.
-
-mod gates;
-mod races;

@@ -1,4 +1,0 @@
-use Rattle.be_store.proofs.changed.ask_each.Goals as goal
-
-pub source-source-requires : goal.source-source-requires
-source-source-requires g c = record { version = (g.volume, c.requires.1.0) }

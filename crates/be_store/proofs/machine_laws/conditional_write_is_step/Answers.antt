@@ -1,5 +1,0 @@
-use Rattle.be_store.proofs.Views.{write_if_step}
-use Rattle.be_store.proofs.machine_laws.conditional_write_is_step.Goals as goal
-
-pub returns : goal.returns
-returns g = write_if_step

@@ -1,6 +1,0 @@
-use Rattle.std.proofs.Common.{sym}
-use Rattle.be_store.proofs.Retries.{no_busy}
-use Rattle.be_store.proofs.tries.is_busy.Goals as goal
-
-pub returns-in_default : goal.returns-in_default
-returns-in_default c = sym (no_busy c.args.refusal.now c.in_default.not-Busy)

@@ -1,7 +1,0 @@
-//! Threads whose writes depend on what they have read, tested through the store's public calls.
-//!
-//! The tests are in a separate crate, so that checking them doesn't prove be_store a second time.
-#![tactic(auto)]
-
-#[cfg(test)]
-mod tests;

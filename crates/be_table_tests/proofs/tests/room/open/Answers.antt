@@ -1,7 +1,0 @@
-use Rattle.std.proofs.Common.{[], ◌∷◌, slice_index, refl}
-use Rattle.be_core.specs.Machine.{has}
-use Rattle.be_table.specs.Versions.{at_start}
-use Rattle.be_table_tests.proofs.tests.room.open.Goals as goal
-
-pub open-requires : goal.open-requires
-open-requires c = c.first_page.ensures (λ q. at_start (has (0 ∷ []) q)) (λ q i. slice_index c.first_page.result i) 0 refl (λ i lt. refl)

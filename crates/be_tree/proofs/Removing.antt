@@ -1,4 +1,0 @@
--- Removing a key from a tree, and giving up a tree.
-pub mod Removes
-pub mod Rests
-pub mod Clears

@@ -1,6 +1,0 @@
-pub mod Slot
-pub mod Writing
-pub mod Splicing
-pub mod Path
-pub mod Settling
-pub mod Counting

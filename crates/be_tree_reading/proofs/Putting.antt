@@ -1,2 +1,0 @@
--- Putting a pair into a tree.
-pub mod Puts

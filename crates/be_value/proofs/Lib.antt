@@ -1,3 +1,0 @@
-pub mod KeyOrder
-pub mod KeyPairs
-pub mod Digits

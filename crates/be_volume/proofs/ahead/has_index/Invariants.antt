@@ -1,9 +1,0 @@
-use Rattle.std.proofs.Common.{◌≡◌, take}
-use Rattle.std.specs.FinMap as map
-use Rattle.be_volume.specs.Ahead.{state_after}
-use Rattle.be_volume.proofs.ahead.has_index.Given as goal
-
-abbrev pub invariant-loop-op : goal.invariant-loop-op
-invariant-loop-op g l = record {
-  there : l.there ≡ map.contains_key (state_after g.volume (take l.op-index l.before)).indices l.name;
-}

@@ -1,8 +1,0 @@
-use Rattle.std.proofs.Common.{sym, ◌∙◌}
-use Rattle.be_volume.specs.Ahead.{state_after}
-use Rattle.be_volume.proofs.RefusalLemmas.{unset_found}
-use Rattle.be_volume.proofs.ahead.unset_refusal.Goals as goal
-
-pub returns-then-has_attribute-clause-answer : goal.returns-then-has_attribute-clause-answer
-returns-then-has_attribute-clause-answer g c =
-    unset_found (state_after g.volume c.args.before.now) c.args.node c.args.name.now (sym c.has_attribute.ensures.answer ∙ c.if-has_attribute.true)

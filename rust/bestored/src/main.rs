@@ -1,7 +1,0 @@
-//! The program bestored.
-
-use std::process::ExitCode;
-
-fn main() -> ExitCode {
-    bestored::main()
-}
