@@ -383,7 +383,7 @@ inline std::atomic<std::uint64_t> stores{0};
 // A store's limits.
 struct Limits {
     std::uint64_t pages = 4096;         // 8 to 16,384 pages of 4 KiB, all allocated at the start
-    std::uint64_t passes = 63;          // 1 to 64. Each takes about 90 bytes, and adds 13 instructions to the 12,000 or so of a write
+    std::uint64_t passes = 63;          // 1 to 64. Each takes about 90 bytes, and adds 13 instructions to a write
     std::uint64_t commits = UINT32_MAX; // 1 to 2^32 - 1 transactions
 };
 

@@ -8,7 +8,8 @@ prepared queries just like those of `bestore.open`.
 
 **What differs.** A call takes a round trip. The server itself retries on `Busy` and `Full`, so `tries` has no effect. The
 server revokes a snapshot that is kept too long; reading that snapshot then raises `Expired`. `another` may be called in any
-thread. `meet` raises `Unavailable`. There are two more calls, `flush` and `compact`. `watch` waits for other clients' writes.
+thread. `finish`, `meet`, `witness` and `join` raise `Unavailable`. There are two more calls, `flush` and `compact`. `watch` waits
+for other clients' writes.
 
 **Errors** are the library's. Connection errors are subclasses of `ServerError`. Once a connection is broken, all later calls on
 its pass raise `Disconnected`, and you have to connect again. If the call that broke the connection was a write, `may_be_done`

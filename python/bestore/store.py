@@ -341,7 +341,7 @@ class Pass(Owner, ABC):
         number and, for each operation, the new node's number or 0. For a write that depends on reads, use `change`.
 
         While another pass is writing, the call is tried up to `tries` times. With more than one try, it also waits up to about
-        five seconds on `Full` while another pass has the oldest snapshot. Uses memory for the operations, and new pages on the
+        two seconds on `Full` while another pass has the oldest snapshot. Uses memory for the operations, and new pages on the
         path to each change in a tree.
 
         With several volumes the batch is written to one of them: `volume` if it is given, otherwise the volume of the nodes

@@ -15,7 +15,7 @@ use std::time::Duration;
 /// The maximum number of operations in a batch.
 const OPERATIONS: usize = 64;
 
-/// The maximum number of connections shared by the volumes. A server allows up to 62.
+/// The maximum number of connections shared by the volumes. A server allows up to 61, or 59 with a log.
 const CONNECTIONS: u32 = 8;
 
 /// How many batches to write before asking again how full the volume is.
