@@ -21,7 +21,7 @@ only=${1:-}
 case $only in
     "" | --build | --compile) ;;
     --dependencies) exec >/dev/null 2>&1 ;;
-    *) echo "rust/test.sh: $only is no option; it takes --build, --compile, --dependencies or nothing" >&2; exit 2 ;;
+    *) echo "rust/test.sh: $only isn't an option; it takes --build, --compile, --dependencies or nothing" >&2; exit 2 ;;
 esac
 
 command -v cargo >/dev/null || skip "there is no cargo"
