@@ -41,7 +41,7 @@ replies! {
         pub trouble?: String,
     }
 
-    /// How long writes took, in µs. The first two are the median and the 99th percentile, accurate to within a fifth.
+    /// How long writes took, in µs. The first two are the median and the 99th percentile, accurate to within a quarter.
     Latency {
         /// The median: half of the writes took at most this long.
         pub p50: u64,
