@@ -27,7 +27,7 @@ _Result = TypeVar("_Result")
 
 PASSES = 63
 """The default number of passes in a store. Each pass takes about 90 bytes and adds 13 instructions to a write, so 55 passes add
-700 instructions to about 20,000. The cost of a pin doesn't depend on the number of passes."""
+700 instructions to about 21,000. The cost of a pin doesn't depend on the number of passes."""
 TRIES = 10_000
 """The default number of tries for a call while another pass is writing. Making all of them takes at least a few seconds."""
 PAUSES = 50
