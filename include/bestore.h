@@ -628,7 +628,8 @@ uint32_t bes_first(bes_pass *pass, bes_prepared *prepared, uint64_t from, uint64
  * handle keeps these nodes for bes_found. Different calls may return different nodes.
  * [out] nodes    the nodes; nodes_room of them, or all of them if there are fewer
  * [out] count    how many nodes were written
- * Errors and cost are as for bes_first. */
+ * Returns the same errors as bes_first.
+ * Cost: if the range of one index decides the query, a walk over as many keys as nodes are written. Otherwise, that of bes_first. */
 uint32_t bes_any(bes_pass *pass, bes_prepared *prepared, uint64_t *nodes, size_t nodes_room, uint64_t *count);
 
 /* Refreshes a prepared query: runs it in the pinned snapshot, and compares the result with that of the previous refresh, or with an empty
