@@ -607,10 +607,9 @@ uint32_t bes_found(bes_prepared *prepared, uint64_t from, uint64_t *nodes, size_
  * (the snapshot has no index with this name), BES_BAD_CURSOR (the cursor's kind isn't the index's, or its key doesn't have 8 to 264
  * bytes), BES_NOT_COVERED, BES_NO_MEMORY. After an error, count is 0, and nodes, more and cursor are unchanged. After any error except
  * BES_CLOSED, the handle has no result.
- * Cost: if comparisons on this attribute decide the whole query, a tree descent and a walk over the page's keys. Otherwise, the call walks
- * the index from the cursor and tests each node against the query, which costs one descent per node. Once fewer than about one node in 32
- * has matched, the call runs the whole query instead. This costs two descents for each node in the result, a sort, and memory for
- * the keys. */
+ * Cost: if comparisons on this attribute decide the whole query, a tree descent and a walk over the page's keys. Otherwise, that of the
+ * cheaper of two ways, or up to about twice as much: a walk over the index from the cursor, which tests the query at each node until the
+ * page is full; or the cost of bes_query_prepared, two descents for each node in the result, a sort, and memory for the keys. */
 uint32_t bes_ordered(bes_pass *pass, bes_prepared *prepared, const bes_name *by, uint32_t descending, bes_cursor *cursor,
                      uint64_t *nodes, size_t nodes_room, uint64_t *count, uint32_t *more);
 
