@@ -400,6 +400,34 @@ class Closing(unittest.TestCase):
         self.assertTrue(self.closes(lambda store, watch: watch.close()))
         self.assertFalse(self.closes(lambda store, watch: store.close()))
 
+    def test_beside_a_wait_for_another_watch(self):
+        """Closing a watch doesn't wait until another thread's wait for another watch of the pass ends, and that wait goes on."""
+        other = [line(3, {"watch": 2, "commit": 1, "nodes": []})]
+        with Fake(self.watched, other, [line(4, {}) + push(2, [2], [])]) as fake, fake.connect() as store:
+            watch, closed, found = store.watch("k==1"), store.watch("k==2"), []
+            waiting = threading.Thread(target=lambda: found.append(watch.wait(PATIENCE)))
+            closing = threading.Thread(target=closed.close)
+            waiting.start()
+            while not store._is_asking:
+                time.sleep(0.001)
+            closing.start()
+            closing.join(5)
+            was_closed = not closing.is_alive()
+            if not was_closed:
+                store._connection._socket.shutdown(socket.SHUT_RDWR)
+            for thread in (closing, waiting):
+                thread.join()
+            self.assertEqual((was_closed, found, fake.asked[-1]), (True, [([2], [])], {"id": 4, "unwatch": {"watch": 2}}))
+
+    def test_watch_closed_by_a_signal(self):
+        """A signal handler can close the watch for which its thread waits."""
+        with Fake(self.watched, [line(3, {})]) as fake, fake.connect() as store:
+            watch = store.watch("k==1")
+            self.addCleanup(signal.signal, signal.SIGALRM, signal.signal(signal.SIGALRM, lambda *_: watch.close()))
+            signal.setitimer(signal.ITIMER_REAL, 0.05)
+            self.assertRaises(bestore.Closed, watch.wait, PATIENCE)
+            self.assertEqual((store._is_open, fake.asked[-1]), (True, {"id": 3, "unwatch": {"watch": 1}}))
+
     def test_other_waits_go_on(self):
         """If another thread ends a wait for a watch that is still open, it goes on, and nothing that was pushed is missed."""
         with Fake([*self.watched, 0.4, push(2, [2], []), 0.05, push(3, [3], [])], [line(3, {})]) as fake, fake.connect() as store:

@@ -67,6 +67,7 @@ _Result = TypeVar("_Result")
 TIMEOUT = 60.0
 """The default timeout for connecting, and for each reply, in seconds."""
 _AGAIN = 0.05  # seconds after which a write is repeated
+_PAUSE = 0.01  # seconds between looks at whether another thread has ended a watch that is closed here
 _MOST_WAITED = 30.0  # seconds that the server waits per request
 _MOST_NODES = 1 << 14  # nodes in a request for columns, so that its line isn't too long
 
@@ -633,8 +634,21 @@ class ConnectedPass(LockOwner, ThreadPass):
             self._is_asking = False
             self._unpin_left()
 
+    def _end_closed(self, number: int) -> None:
+        """Ends a watch that has been closed here. If a thread is waiting for a push, that thread keeps the lock, and ends the watch
+        instead. It may be this thread, which a signal handler has interrupted."""
+        while number in self._ended:
+            self._ring()
+            if self._lock.acquire(timeout=_PAUSE):
+                try:
+                    if self._is_open and not self._is_asking:
+                        self._end_watches()
+                    return
+                finally:
+                    self._lock.release()
+
     def _end_watches(self) -> None:
-        """Ends the watches that are no longer referenced."""
+        """Ends the watches that are closed or no longer referenced."""
         while self._ended:
             number = self._ended[-1]
             with suppress(NoWatch):
