@@ -211,6 +211,21 @@ class Writes(Indexed):
         self.assertRaises(bestore.PartialIndex, store.apply, mixed)
         self.assertRaises(bestore.PartialIndex, store.change, lambda change: change.make_index("a", bestore.STRING))
 
+    def test_changes_of_volumes_that_are_not_there(self):
+        store, name = self.indexed(2), "size"
+        for missing in bestore.node_in(2, 1), bestore.node_in(10**4, 1), -1:
+            for change in (lambda change: change.set(missing, name, 1), lambda change: change.unset(missing, name),
+                           lambda change: change.remove(missing)):
+                with self.assertRaises(bestore.NoNode) as fault:
+                    store.change(change)
+                self.assertEqual(fault.exception.node, missing)
+        for volume in 2, -1:
+            self.assertRaises(bestore.NoVolume, store.change, lambda change: change.make_index("a", bestore.INT64), volume=volume)
+        alone = self.shelf(1)
+        node = alone.new_node()
+        self.assertRaises(bestore.NoVolume, alone.change, lambda change: change.set(node, "a", 1), volume=1)
+        self.assertEqual((store.status().entries, alone.status().entries), (2, 1))
+
     def test_index_of_the_only_volume(self):
         store = self.indexed(1)
         store.change(lambda change: change.make_index("name", bestore.STRING))

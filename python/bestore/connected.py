@@ -500,6 +500,8 @@ class ConnectedPass(LockOwner, ThreadPass):
         return self._until_answered(run, has_token=False)
 
     def _begin_change(self, check_kinds: bool, volume: Optional[int]) -> Change:
+        if volume is not None and not 0 <= volume < self.volumes:
+            raise NoVolume(volume, self.volumes)
         return ConnectedChange(self.pin(), check_kinds, volume, self.volumes > 1)
 
     def _change_on(self, version: Version, check_kinds: bool) -> Change:
