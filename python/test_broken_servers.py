@@ -486,6 +486,17 @@ class Repeated(unittest.TestCase):
                 store.change(watch)
         self.assertEqual((len(runs), fault.exception.may_be_done), (1, True))
 
+    def test_change_whose_watch_would_be_lost(self):
+        """A change whose function began a watch doesn't run again on a new connection, which wouldn't have the watch."""
+        watches = []
+
+        def watch(change):
+            watches.append(store.watch("k==1"))
+            change.new()
+        with Fake([line(2, {"commit": 0, "next": 1})], [line(3, {"watch": 1, "commit": 0, "nodes": []})], [None]) as fake:
+            with bestore.connect(fake.path, repeat=1) as store, self.assertRaises(bestore.Disconnected) as fault:
+                store.change(watch)
+        self.assertEqual((len(watches), fault.exception.may_be_done), (1, False))
 
     def test_attempt_that_may_be_made(self):
         """If one attempt may have made a write, no later attempt's error says that nothing was written."""

@@ -346,7 +346,6 @@ class ConnectedPass(LockOwner, ThreadPass):
         """Makes a call. If the program asked for repeats, retries the call when the connection fails or the server temporarily
         can't save writes. Doesn't retry if the pass would lose a pin or a watch with the old connection, or if something may
         have been written, unless the call has a token by which the server recognises its repeats."""
-        repeats = self._repeat is not None and not self._has_pin and not self._watches
         until = time.monotonic() + (self._repeat or 0)
         uncertain: Optional[Error] = None  # says that an attempt may have written something
         while True:
@@ -355,10 +354,15 @@ class ConnectedPass(LockOwner, ThreadPass):
             except (BrokenConnection, NoPass, NotSaved, Stopped) as error:
                 if isinstance(error, NotSaved) or isinstance(error, BrokenConnection) and error.may_be_done:
                     uncertain = error
-                if not repeats or uncertain is not None and not has_token or not self._may_repeat(until):
+                if not self._repeats or uncertain is not None and not has_token or not self._may_repeat(until):
                     if uncertain is None or uncertain is error:
                         raise
                     raise uncertain from error
+
+    @property
+    def _repeats(self) -> bool:
+        """Whether writes are repeated, and the pass would lose neither a pin nor a watch with its connection."""
+        return self._repeat is not None and not self._has_pin and not self._watches
 
     def _may_repeat(self, until: float) -> bool:
         """Waits a moment, and connects if necessary. Returns whether the pass is connected before time runs out."""
