@@ -457,6 +457,19 @@ class Closing(unittest.TestCase):
                     self.assertEqual(str(fault.exception), f"{fake.path}: the connection is closed")
                 self.assertRaises(bestore.Closed, watch.wait, 0)
 
+    def test_closed_just_before_it_waits(self):
+        """A signal handler closes the pass after the call has looked at the connection."""
+        can_receive = _connection._can_receive
+
+        def closed(*given):
+            store.close()
+            return can_receive(*given)
+        with Fake(self.watched) as fake, fake.connect() as store:
+            watch = store.watch("k==1")
+            with mock.patch.object(_connection, "_can_receive", closed), self.assertRaises(bestore.Disconnected) as fault:
+                watch.wait(PATIENCE)
+            self.assertEqual(str(fault.exception), f"{fake.path}: the connection is closed")
+
     def test_closed_while_it_repeats(self):
         """A pass that is closed while another thread repeats a write on it stays closed."""
         with Fake([None]) as fake, bestore.connect(fake.path, repeat=1) as store:
