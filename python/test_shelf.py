@@ -120,8 +120,12 @@ class Unions(Indexed):
                 self.assertRaises(KeyError, lambda: version[other]["size"])
             self.assertRaises(bestore.NoNode, store.set, other, "size", 1)
         for volume in 2, 10**6, -1:
-            self.assertRaises(bestore.NoVolume, store.apply, bestore.Batch().new_node(), volume=volume)
-            self.assertRaises(bestore.NoVolume, store.change, lambda change: change.new(), volume=volume)
+            for refused in (lambda: store.apply(bestore.Batch().new_node(), volume=volume),
+                            lambda: store.change(lambda change: change.new(), volume=volume),
+                            lambda: list(store.journal_from(volume=volume))):
+                with self.assertRaises(bestore.NoVolume) as fault:
+                    refused()
+                self.assertEqual(str(fault.exception), f"there is no volume {volume}; there are 2, counted from 0")
         for read in lambda: list(store.journal_from()), lambda: store.change(lambda change: list(change.state())):
             self.assertRaises(bestore.NoVolume, read)
         self.assertRaises(bestore.NoVolume, lambda: list(store.journal_from(volume=2)))

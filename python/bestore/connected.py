@@ -179,7 +179,7 @@ class ConnectedVersion(QueriedVersion):
     def state(self, volume: Optional[int] = None) -> Iterator[Batch]:
         more: Optional[int] = 0
         while more is not None:
-            batches, more = self._ask("state", {"from": more, **_in_volume(volume)}, _read_state)
+            batches, more = self._ask("state", {"from": more, **_in_volume(volume, len(self._numbers))}, _read_state)
             for batch in batches:
                 if not self._is_pinned:
                     raise NotPinned()
@@ -274,10 +274,11 @@ def _read_attributes(ok: JSON) -> Dict[str, Typed]:
     return {name: read_value(value) for name, value in ok["attributes"].items()}
 
 
-def _in_volume(volume: Optional[int]) -> JSON:
-    """Returns the volume parameter, if a volume is given. Raises `NoVolume` if its value can't be a volume."""
+def _in_volume(volume: Optional[int], volumes: int) -> JSON:
+    """Returns the volume parameter, if a volume is given. Raises `NoVolume` if its value can't be a volume. `volumes` is the number of
+    volumes."""
     if volume is not None and operator.index(volume) not in RANGES[Kind.UINT32]:
-        raise NoVolume(volume, 0)
+        raise NoVolume(volume, volumes)
     return {} if volume is None else {"volume": volume}
 
 
@@ -535,7 +536,7 @@ class ConnectedPass(LockOwner, ThreadPass):
     def _write_batch(self, batch: Batch, expected: Optional[int], volume: Optional[int] = None) -> Tuple[int, List[int]]:
         if not 1 <= len(batch) <= MOST_OPERATIONS:
             raise BadCount()
-        parameters: JSON = {"operations": operations_of(batch), **_in_volume(volume)}
+        parameters: JSON = {"operations": operations_of(batch), **_in_volume(volume, self.volumes)}
         if expected is not None:
             parameters["expected"] = expected if expected in RANGES[Kind.UINT64] else 2**64 - 1  # a number that no journal has
         # The server writes such a batch to all volumes, and refuses a token for it.
@@ -564,7 +565,7 @@ class ConnectedPass(LockOwner, ThreadPass):
         a few thousand entries."""
         more: Optional[int] = max(operator.index(number), 0)
         while more is not None and more < 2**64:
-            entries, more = self._ask("journal", {"from": more, **_in_volume(volume)}, _read_journal)
+            entries, more = self._ask("journal", {"from": more, **_in_volume(volume, self.volumes)}, _read_journal)
             yield from entries
 
     def status(self, tries: int = TRIES) -> Status:
