@@ -400,6 +400,34 @@ class Closing(unittest.TestCase):
         self.assertTrue(self.closes(lambda store, watch: watch.close()))
         self.assertFalse(self.closes(lambda store, watch: store.close()))
 
+    def test_beside_a_wait_for_another_watch(self):
+        """Closing a watch doesn't wait until another thread's wait for another watch of the pass ends, and that wait goes on."""
+        other = [line(3, {"watch": 2, "commit": 1, "nodes": []})]
+        with Fake(self.watched, other, [line(4, {}) + push(2, [2], [])]) as fake, fake.connect() as store:
+            watch, closed, found = store.watch("k==1"), store.watch("k==2"), []
+            waiting = threading.Thread(target=lambda: found.append(watch.wait(PATIENCE)))
+            closing = threading.Thread(target=closed.close)
+            waiting.start()
+            while not store._is_asking:
+                time.sleep(0.001)
+            closing.start()
+            closing.join(5)
+            was_closed = not closing.is_alive()
+            if not was_closed:
+                store._connection._socket.shutdown(socket.SHUT_RDWR)
+            for thread in (closing, waiting):
+                thread.join()
+            self.assertEqual((was_closed, found, fake.asked[-1]), (True, [([2], [])], {"id": 4, "unwatch": {"watch": 2}}))
+
+    def test_watch_closed_by_a_signal(self):
+        """A signal handler can close the watch for which its thread waits."""
+        with Fake(self.watched, [line(3, {})]) as fake, fake.connect() as store:
+            watch = store.watch("k==1")
+            self.addCleanup(signal.signal, signal.SIGALRM, signal.signal(signal.SIGALRM, lambda *_: watch.close()))
+            signal.setitimer(signal.ITIMER_REAL, 0.05)
+            self.assertRaises(bestore.Closed, watch.wait, PATIENCE)
+            self.assertEqual((store._is_open, fake.asked[-1]), (True, {"id": 3, "unwatch": {"watch": 1}}))
+
     def test_other_waits_go_on(self):
         """If another thread ends a wait for a watch that is still open, it goes on, and nothing that was pushed is missed."""
         with Fake([*self.watched, 0.4, push(2, [2], []), 0.05, push(3, [3], [])], [line(3, {})]) as fake, fake.connect() as store:
@@ -428,6 +456,19 @@ class Closing(unittest.TestCase):
                 if isinstance(fault.exception, bestore.Disconnected):  # the call had begun before the signal came
                     self.assertEqual(str(fault.exception), f"{fake.path}: the connection is closed")
                 self.assertRaises(bestore.Closed, watch.wait, 0)
+
+    def test_closed_just_before_it_waits(self):
+        """A signal handler closes the pass after the call has looked at the connection."""
+        can_receive = _connection._can_receive
+
+        def closed(*given):
+            store.close()
+            return can_receive(*given)
+        with Fake(self.watched) as fake, fake.connect() as store:
+            watch = store.watch("k==1")
+            with mock.patch.object(_connection, "_can_receive", closed), self.assertRaises(bestore.Disconnected) as fault:
+                watch.wait(PATIENCE)
+            self.assertEqual(str(fault.exception), f"{fake.path}: the connection is closed")
 
     def test_closed_while_it_repeats(self):
         """A pass that is closed while another thread repeats a write on it stays closed."""
@@ -458,6 +499,17 @@ class Repeated(unittest.TestCase):
                 store.change(watch)
         self.assertEqual((len(runs), fault.exception.may_be_done), (1, True))
 
+    def test_change_whose_watch_would_be_lost(self):
+        """A change whose function began a watch doesn't run again on a new connection, which wouldn't have the watch."""
+        watches = []
+
+        def watch(change):
+            watches.append(store.watch("k==1"))
+            change.new()
+        with Fake([line(2, {"commit": 0, "next": 1})], [line(3, {"watch": 1, "commit": 0, "nodes": []})], [None]) as fake:
+            with bestore.connect(fake.path, repeat=1) as store, self.assertRaises(bestore.Disconnected) as fault:
+                store.change(watch)
+        self.assertEqual((len(watches), fault.exception.may_be_done), (1, False))
 
     def test_attempt_that_may_be_made(self):
         """If one attempt may have made a write, no later attempt's error says that nothing was written."""

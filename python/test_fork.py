@@ -1,5 +1,6 @@
 """Tests of handles in a forked child."""
 
+import contextlib
 import gc
 import os
 import threading
@@ -98,6 +99,31 @@ class Forks(unittest.TestCase):
                 store.close()
             with used_by_a_thread(store):
                 self.in_child(work)
+
+    def test_lock_of_threads_that_wait(self):
+        """If one of the parent's threads begins or ends a wait for commits during the fork, the child doesn't wait for it."""
+        is_held, is_over = threading.Event(), threading.Event()
+        with bestore.open(64, 1, 100) as store, store.watch() as watch:
+            def hold():
+                with contextlib.ExitStack() as locks:
+                    for commits in store._commits:
+                        locks.enter_context(commits._lock)
+                    is_held.set()
+                    is_over.wait(20)
+
+            def work():
+                for wait in lambda: store.reach(1, 5), lambda: watch.wait(5):
+                    with self.assertRaises(bestore.Forked):
+                        wait()
+            holding = threading.Thread(target=hold)
+            holding.start()
+            is_held.wait(20)
+            try:
+                self.in_child(work)
+            finally:
+                is_over.set()
+                holding.join()
+            self.assertIsNone(watch.wait(0))
 
     def test_store_of_the_child(self):
         with bestore.open(64, 1, 100) as store:

@@ -16,7 +16,7 @@ from contextlib import suppress
 import bestore
 from bestore import saved
 from bestore._library import _path
-from saved_files import HERE, Files, run, say, three
+from saved_files import HERE, PATIENCE, Files, run, say, three
 
 WRITERS, ROUNDS = 3, 6  # for the processes that are killed
 OPENERS, OPENINGS = 4, 40  # for the processes that open a file at the same moment
@@ -84,6 +84,35 @@ def write_within(path, size):
             raise
 
 
+def write_in_writes(folder):
+    """Writes at each place of a write that is saved later, one place after another, and prints how many there were."""
+    place, is_reached = -1, True
+    while is_reached:
+        place += 1
+        with saved.open(os.path.join(folder, str(place)), 64, every=3600) as store, store.another() as other:
+            is_reached = writes_in(other, store, place)
+    say(str(place))
+
+
+def writes_in(other, store, place):
+    """Writes through `store`, and through `other` when that write reaches a place in these files, as a signal handler may. Returns
+    whether it did."""
+    left, files = [place], {saved.__file__, threading.__file__}
+
+    def trace(frame, *_):
+        if frame.f_code.co_filename in files:
+            left[0] -= 1
+            if left[0] == -1:
+                other.new_node()
+        return trace
+    sys.settrace(trace)
+    try:
+        store.new_node()
+    finally:
+        sys.settrace(None)
+    return left[0] < 0
+
+
 def end_without_close(path):
     """Ends with an exception while a store is open."""
     store = saved.open(path, every=3600)
@@ -144,6 +173,16 @@ class Processes(Files):
         self.assertEqual(self.ended(child), (-signal.SIGKILL, []))
         with saved.open(self.path, 64) as store, store.pin() as version:
             self.assertEqual(version.nodes(), list(range(1, 11)))
+
+    def test_writes_of_signal_handlers(self):
+        """A signal handler may write at any moment of a write that is saved later."""
+        child = run("write_in_writes", self.folder)
+        late = threading.Timer(PATIENCE, child.kill)
+        late.start()
+        code, said = self.ended(child)
+        late.cancel()
+        self.assertEqual((code, len(said)), (0, 1))
+        self.assertGreater(int(said[0]), 0)
 
     def test_at_the_same_moment(self):
         """One of the processes that open a closed file at the same moment gets it, whether the file is new or not."""

@@ -120,8 +120,12 @@ class Unions(Indexed):
                 self.assertRaises(KeyError, lambda: version[other]["size"])
             self.assertRaises(bestore.NoNode, store.set, other, "size", 1)
         for volume in 2, 10**6, -1:
-            self.assertRaises(bestore.NoVolume, store.apply, bestore.Batch().new_node(), volume=volume)
-            self.assertRaises(bestore.NoVolume, store.change, lambda change: change.new(), volume=volume)
+            for refused in (lambda: store.apply(bestore.Batch().new_node(), volume=volume),
+                            lambda: store.change(lambda change: change.new(), volume=volume),
+                            lambda: list(store.journal_from(volume=volume))):
+                with self.assertRaises(bestore.NoVolume) as fault:
+                    refused()
+                self.assertEqual(str(fault.exception), f"there is no volume {volume}; there are 2, counted from 0")
         for read in lambda: list(store.journal_from()), lambda: store.change(lambda change: list(change.state())):
             self.assertRaises(bestore.NoVolume, read)
         self.assertRaises(bestore.NoVolume, lambda: list(store.journal_from(volume=2)))
@@ -210,6 +214,21 @@ class Writes(Indexed):
         mixed = bestore.Batch().new_node().make_index("a", bestore.STRING)
         self.assertRaises(bestore.PartialIndex, store.apply, mixed)
         self.assertRaises(bestore.PartialIndex, store.change, lambda change: change.make_index("a", bestore.STRING))
+
+    def test_changes_of_volumes_that_are_not_there(self):
+        store, name = self.indexed(2), "size"
+        for missing in bestore.node_in(2, 1), bestore.node_in(10**4, 1), -1:
+            for change in (lambda change: change.set(missing, name, 1), lambda change: change.unset(missing, name),
+                           lambda change: change.remove(missing)):
+                with self.assertRaises(bestore.NoNode) as fault:
+                    store.change(change)
+                self.assertEqual(fault.exception.node, missing)
+        for volume in 2, -1:
+            self.assertRaises(bestore.NoVolume, store.change, lambda change: change.make_index("a", bestore.INT64), volume=volume)
+        alone = self.shelf(1)
+        node = alone.new_node()
+        self.assertRaises(bestore.NoVolume, alone.change, lambda change: change.set(node, "a", 1), volume=1)
+        self.assertEqual((store.status().entries, alone.status().entries), (2, 1))
 
     def test_index_of_the_only_volume(self):
         store = self.indexed(1)

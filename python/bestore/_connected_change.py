@@ -34,14 +34,16 @@ class ConnectedChange(Change):
         return self._batch
 
     def _collecting(self, node: Optional[int] = None) -> Batch:
-        """Returns the batch, ready for one more operation. If `node` is given, the operation is on this node. Raises
-        `OtherVolume` if the node isn't in the same volume as the earlier operations' nodes."""
+        """Returns the batch, ready for one more operation. If `node` is given, the operation is on this node. Raises `NoNode` if
+        there is no such volume, and `OtherVolume` if the node isn't in the same volume as the earlier operations' nodes."""
         if not self._snapshot._is_pinned:
             raise NotPinned()
         if len(self._batch) >= MOST_OPERATIONS:
             raise BadCount()
         if self._has_volumes and node is not None:
             volume = volume_of(node_number(node))
+            if not 0 <= volume < len(self.numbers):
+                raise NoNode(node)
             if self._volume is not None and volume != self._volume:
                 raise OtherVolume(self._volume, len(self._batch))
         return self._batch

@@ -141,16 +141,16 @@ class ConnectedWatch(Watch):
                 left = None if until is None else max(until - time.monotonic(), 0)
                 if not user._receive(left) and until is not None and time.monotonic() >= until:
                     return None
+                user._end_watches()  # those that other threads close meanwhile
             if self._error is not None and not self._created and not self._removed:
                 self._check()
             return self._returned()
 
     def close(self) -> None:
-        """Ends the watch, unless it has already ended. If another thread is waiting for it, that wait ends with `Closed`."""
+        """Ends the watch, unless it has already ended. If another thread is waiting for it, that wait ends with `Closed`. A wait
+        for another watch of the pass goes on."""
         user, number = self._user, self._forget()
         if number is not None and not user._is_dead:
-            user._ring()
-            with suppress(BrokenConnection, Closed), user._lock:
-                user._ended.append(number)
-                if user._is_open:
-                    user._end_watches()
+            user._ended.append(number)
+            with suppress(BrokenConnection, Closed):
+                user._end_closed(number)

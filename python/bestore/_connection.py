@@ -162,7 +162,7 @@ class Connection:
             reason = str(error)
         elif isinstance(error, (BrokenPipeError, ConnectionResetError)):
             reason = _CLOSED
-        elif isinstance(error, OSError) and self._socket is None:
+        elif isinstance(error, (OSError, ValueError)) and self._socket is None:
             reason = self._reason  # a signal handler has closed the connection during the call
         elif isinstance(error, OSError):
             reason = f"the connection failed: {error}"

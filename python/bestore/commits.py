@@ -2,9 +2,11 @@
 
 from __future__ import annotations
 
+import os
 import threading
 from contextlib import contextmanager, suppress
 from typing import Iterator, Optional, Sequence, Tuple
+from weakref import WeakSet
 
 PAUSE = 0.002
 """The number of seconds between checks of a store whose commits wake no threads."""
@@ -40,6 +42,7 @@ class Commits:
     def __init__(self) -> None:
         self._lock = threading.RLock()
         self._waiting: Tuple[Waiter, ...] = ()  # replaced as a whole, so that a writer reads it without the lock
+        _all.add(self)
 
     def wake(self) -> None:
         """Wakes all waiting threads."""
@@ -53,6 +56,18 @@ class Commits:
     def _remove(self, waiter: Waiter) -> None:
         with self._lock:
             self._waiting = tuple(it for it in self._waiting if it is not waiter)
+
+
+_all: "WeakSet[Commits]" = WeakSet()
+
+
+def _unlock_in_child() -> None:
+    """In a forked child, replaces the locks, because a thread that isn't in the child may hold them."""
+    for store in list(_all):
+        store._lock = threading.RLock()
+
+
+os.register_at_fork(after_in_child=_unlock_in_child)
 
 
 @contextmanager

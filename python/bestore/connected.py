@@ -68,6 +68,7 @@ _Result = TypeVar("_Result")
 TIMEOUT = 60.0
 """The default timeout for connecting, and for each reply, in seconds."""
 _AGAIN = 0.05  # seconds after which a write is repeated
+_PAUSE = 0.01  # seconds between looks at whether another thread has ended a watch that is closed here
 _MOST_WAITED = 30.0  # seconds that the server waits per request
 _MOST_NODES = 1 << 14  # nodes in a request for columns, so that its line isn't too long
 
@@ -179,7 +180,7 @@ class ConnectedVersion(QueriedVersion):
     def state(self, volume: Optional[int] = None) -> Iterator[Batch]:
         more: Optional[int] = 0
         while more is not None:
-            batches, more = self._ask("state", {"from": more, **_in_volume(volume)}, _read_state)
+            batches, more = self._ask("state", {"from": more, **_in_volume(volume, len(self._numbers))}, _read_state)
             for batch in batches:
                 if not self._is_pinned:
                     raise NotPinned()
@@ -274,10 +275,11 @@ def _read_attributes(ok: JSON) -> Dict[str, Typed]:
     return {name: read_value(value) for name, value in ok["attributes"].items()}
 
 
-def _in_volume(volume: Optional[int]) -> JSON:
-    """Returns the volume parameter, if a volume is given. Raises `NoVolume` if its value can't be a volume."""
+def _in_volume(volume: Optional[int], volumes: int) -> JSON:
+    """Returns the volume parameter, if a volume is given. Raises `NoVolume` if its value can't be a volume. `volumes` is the number of
+    volumes."""
     if volume is not None and operator.index(volume) not in RANGES[Kind.UINT32]:
-        raise NoVolume(volume, 0)
+        raise NoVolume(volume, volumes)
     return {} if volume is None else {"volume": volume}
 
 
@@ -346,7 +348,6 @@ class ConnectedPass(LockOwner, ThreadPass):
         """Makes a call. If the program asked for repeats, retries the call when the connection fails or the server temporarily
         can't save writes. Doesn't retry if the pass would lose a pin or a watch with the old connection, or if something may
         have been written, unless the call has a token by which the server recognises its repeats."""
-        repeats = self._repeat is not None and not self._has_pin and not self._watches
         until = time.monotonic() + (self._repeat or 0)
         uncertain: Optional[Error] = None  # says that an attempt may have written something
         while True:
@@ -355,10 +356,15 @@ class ConnectedPass(LockOwner, ThreadPass):
             except (BrokenConnection, NoPass, NotSaved, Stopped) as error:
                 if isinstance(error, NotSaved) or isinstance(error, BrokenConnection) and error.may_be_done:
                     uncertain = error
-                if not repeats or uncertain is not None and not has_token or not self._may_repeat(until):
+                if not self._repeats or uncertain is not None and not has_token or not self._may_repeat(until):
                     if uncertain is None or uncertain is error:
                         raise
                     raise uncertain from error
+
+    @property
+    def _repeats(self) -> bool:
+        """Whether writes are repeated, and the pass would lose neither a pin nor a watch with its connection."""
+        return self._repeat is not None and not self._has_pin and not self._watches
 
     def _may_repeat(self, until: float) -> bool:
         """Waits a moment, and connects if necessary. Returns whether the pass is connected before time runs out."""
@@ -500,6 +506,8 @@ class ConnectedPass(LockOwner, ThreadPass):
         return self._until_answered(run, has_token=False)
 
     def _begin_change(self, check_kinds: bool, volume: Optional[int]) -> Change:
+        if volume is not None and not 0 <= volume < self.volumes:
+            raise NoVolume(volume, self.volumes)
         return ConnectedChange(self.pin(), check_kinds, volume, self.volumes > 1)
 
     def _change_on(self, version: Version, check_kinds: bool) -> Change:
@@ -529,7 +537,7 @@ class ConnectedPass(LockOwner, ThreadPass):
     def _write_batch(self, batch: Batch, expected: Optional[int], volume: Optional[int] = None) -> Tuple[int, List[int]]:
         if not 1 <= len(batch) <= MOST_OPERATIONS:
             raise BadCount()
-        parameters: JSON = {"operations": operations_of(batch), **_in_volume(volume)}
+        parameters: JSON = {"operations": operations_of(batch), **_in_volume(volume, self.volumes)}
         if expected is not None:
             parameters["expected"] = expected if expected in RANGES[Kind.UINT64] else 2**64 - 1  # a number that no journal has
         # The server writes such a batch to all volumes, and refuses a token for it.
@@ -558,7 +566,7 @@ class ConnectedPass(LockOwner, ThreadPass):
         a few thousand entries."""
         more: Optional[int] = max(operator.index(number), 0)
         while more is not None and more < 2**64:
-            entries, more = self._ask("journal", {"from": more, **_in_volume(volume)}, _read_journal)
+            entries, more = self._ask("journal", {"from": more, **_in_volume(volume, self.volumes)}, _read_journal)
             yield from entries
 
     def status(self, tries: int = TRIES) -> Status:
@@ -634,8 +642,21 @@ class ConnectedPass(LockOwner, ThreadPass):
             self._is_asking = False
             self._unpin_left()
 
+    def _end_closed(self, number: int) -> None:
+        """Ends a watch that has been closed here. If a thread is waiting for a push, that thread keeps the lock, and ends the watch
+        instead. It may be this thread, which a signal handler has interrupted."""
+        while number in self._ended:
+            self._ring()
+            if self._lock.acquire(timeout=_PAUSE):
+                try:
+                    if self._is_open and not self._is_asking:
+                        self._end_watches()
+                    return
+                finally:
+                    self._lock.release()
+
     def _end_watches(self) -> None:
-        """Ends the watches that are no longer referenced."""
+        """Ends the watches that are closed or no longer referenced."""
         while self._ended:
             number = self._ended[-1]
             with suppress(NoWatch):

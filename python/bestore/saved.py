@@ -86,7 +86,8 @@ class _Saver:
             self._line = Line(version.number)
         self._shift = last - self._line.saved
         self._handed_in: Dict[int, Row] = {}  # by commit number; a missing entry can be read from the journal
-        self._work, self._ending = threading.Event(), threading.Event()
+        self._work, self._ending = threading.Lock(), threading.Event()
+        self._work.acquire()  # it is held as long as there is nothing to save
         self.is_timed = every is not None
         if every is not None:
             threading.Thread(target=self._save_now_and_then, args=(every,), name="bestore-saving", daemon=True).start()
@@ -125,8 +126,13 @@ class _Saver:
             self._handed_in[number] = number + self._shift, by, batch._packed(made)
             if self._line.saved >= number:
                 self._handed_in.pop(number, None)
-        if not self._work.is_set():
-            self._work.set()
+        self._wake_saving()
+
+    def _wake_saving(self) -> None:
+        """Wakes the saving thread. This only releases a lock, so a signal handler may write at any moment of another write."""
+        if self._work.locked():
+            with suppress(RuntimeError):  # another thread has released it
+                self._work.release()
 
     def _save_up_to(self, number: int) -> None:
         """During a turn, saves the entries up to this commit number, and any later entries that have been queued."""
@@ -183,9 +189,9 @@ class _Saver:
     def _save_now_and_then(self, every: float) -> None:
         """In a loop, saves what was written, `every` seconds after the first unsaved write. Closes the file at the end."""
         while not self._ending.is_set():
-            self._work.wait()
+            self._work.acquire()
             self._ending.wait(min(every, threading.TIMEOUT_MAX))
-            self._work.clear()
+            self._work.acquire(blocking=False)
             try:
                 self.flush()
             except Exception as error:  # later writes and `flush` raise this error
@@ -201,7 +207,7 @@ class _Saver:
             return
         if self.is_timed:
             self._ending.set()
-            self._work.set()
+            self._wake_saving()
         else:
             self.close()
 
@@ -227,7 +233,7 @@ class _Saver:
         finally:
             self.own.close()
             self._ending.set()
-            self._work.set()
+            self._wake_saving()
             atexit.unregister(self.close)
 
 

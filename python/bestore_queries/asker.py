@@ -8,6 +8,7 @@ import threading
 import time
 import traceback
 from collections import deque
+from contextlib import suppress
 from typing import Deque, Dict, Iterable, List, Mapping, NamedTuple, Optional, Sequence, Set, Union
 
 import bestore
@@ -288,7 +289,8 @@ class Asker(threading.Thread):
                 self._open_and_serve()
             except Exception as error:  # if the thread ended, the window would stay as it is
                 if not isinstance(error, bestore.Error):
-                    traceback.print_exc()
+                    with suppress(OSError):  # the terminal may be gone
+                        traceback.print_exc()
                 self._report(Lost(reason_of(error)))
                 self._ended.wait(RETRY)
 

@@ -200,9 +200,10 @@ class Asking(unittest.TestCase):
         self.assertEqual([it for it in self.others if isinstance(it, Lost)], [Lost(str(bestore.NoMemory()))])
 
     def test_error_of_another_program(self) -> None:
-        """An error that isn't the package's doesn't end the thread either."""
+        """An error that isn't the package's doesn't end the thread either, even if it can't be printed."""
         node = self.file("a")
-        with mock.patch.object(asker, "RETRY", 0.01), mock.patch.object(asker.traceback, "print_exc") as printed:
+        no_terminal = mock.patch.object(asker.traceback, "print_exc", side_effect=OSError("Input/output error"))
+        with mock.patch.object(asker, "RETRY", 0.01), no_terminal as printed:
             with mock.patch.object(MadeSource, "open", side_effect=RuntimeError("can't start new thread")):
                 self.asker.start()
                 self.assertTrue(wait_for(lambda: self.has(Lost)))
