@@ -132,7 +132,8 @@ enum {
     BES_PINNED = 67,          /* a snapshot is already pinned; unpin it first */
     BES_NO_PASS = 68,         /* every pass of the store is in use; close one, or open the store
                                * with more */
-    BES_BAD_COUNT = 69,       /* a batch has 1 to 64 operations */
+    BES_BAD_COUNT = 69,       /* a batch has 1 to 64 operations, and a call reads up to
+                               * 4,294,967,296 values */
     BES_NOT_UTF8 = 70,        /* the text isn't valid UTF-8 */
     BES_NO_OPERATION = 71,    /* there is no operation with this number; operations are numbered
                                * 0 to 5 */
