@@ -34,6 +34,19 @@ static inline bool is_as_it_was(bes_pass *pass, const view *before)
     return memcmp(before, &after, sizeof after) == 0;
 }
 
+/* Returns what LEAVES has seen before its call. */
+static inline view *seen_before(void)
+{
+    static view before;
+    return &before;
+}
+
+/* Checks that a call returns this error, and leaves the store and the pin unchanged. */
+#define LEAVES(pass, call, answer) do { \
+        look(pass, seen_before()); \
+        CHECK((call) == (answer) && is_as_it_was(pass, seen_before())); \
+    } while (0)
+
 /* Takes passes until none is left. Returns the number taken. */
 static inline int take_passes(bes_pass *pass, bes_pass *taken)
 {
