@@ -7,6 +7,7 @@
 #include <stdlib.h>
 
 #define CHECK(e) do { if (!(e)) { fprintf(stderr, "%s:%d: %s\n", __FILE__, __LINE__, #e); exit(1); } } while (0)
+#define OK(call) CHECK((call) == BES_OK)
 
 /* Everything that can be observed of a small store and of a pass's pin. */
 typedef struct view {
