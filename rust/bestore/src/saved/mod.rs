@@ -240,7 +240,8 @@ pub struct Saved {
 }
 
 impl Saved {
-    /// Returns the in-memory store. Writes through passes taken from it aren't saved.
+    /// Returns the in-memory store. A write through a pass taken from it isn't saved, and leaves a gap in the file's entries: later writes
+    /// return [`NotSaved`](crate::Error::NotSaved) and then [`Stopped`](crate::Error::Stopped), until the file is opened again.
     #[must_use]
     pub fn store(&self) -> &Store {
         &self.store
