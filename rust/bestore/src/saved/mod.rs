@@ -270,7 +270,8 @@ impl Saved {
         self.queue.flush(None)
     }
 
-    /// Returns the error from the commit that failed, if any. After that commit, memory is ahead of the file.
+    /// Returns the error from the commit that failed, if any. After that commit, memory is ahead of the file. In a forked child, returns
+    /// `None`.
     #[must_use]
     pub fn failure(&self) -> Option<Arc<Error>> {
         self.queue.failure()

@@ -285,8 +285,12 @@ impl Queue {
         self.shared.is_due.load(Ordering::Relaxed)
     }
 
+    /// Returns the error from the commit that failed. In a forked child there is none: the thread that has the lock may not exist.
     pub(super) fn failure(&self) -> Option<Arc<Error>> {
-        lock(&self.shared.line).failed.clone()
+        match self.birthplace.is_here() {
+            true => lock(&self.shared.line).failed.clone(),
+            false => None,
+        }
     }
 
     /// Waits until the entry with this number has been saved or, if no number is given, until all entries have been.
