@@ -1,6 +1,6 @@
-/* Tests the calls on stores from one thread, and every kind of misuse; queries.c tests the calls on queries, and threads.c makes
- * calls from four threads. The tests in this folder return every error that bestore.h lists, and memory.c returns BES_NO_MEMORY and
- * the cases that must return BES_BUSY. */
+/* Tests the calls on stores from one thread, and every kind of misuse. queries.c does the same for the calls on queries, and
+ * threads.c makes calls from four threads. Together, the tests in this folder cover every error that bestore.h lists; memory.c
+ * covers BES_NO_MEMORY and the cases that must return BES_BUSY. */
 #include "tests.h"
 
 static void closed_handle(void)
