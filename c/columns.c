@@ -114,6 +114,23 @@ static void too_little_room(bes_pass *pass)
     CHECK(bes_columns(pass, nodes, 3, held, 0, cells, 6, bytes, 64, &count) == BES_OK && count == 0);
 }
 
+/* How many values there are is checked before the nodes and names are read. */
+static void too_many_values(bes_pass *pass)
+{
+    static const uint64_t nodes[] = {1};
+    const size_t many[][2] = {{((size_t)1 << 32) + 1, 1}, {(size_t)1 << 20, (size_t)1 << 20}, {(size_t)1 << 40, (size_t)1 << 40}};
+    bes_name held;
+    bes_cell cell = {7, 7, 7, 7, 7};
+    uint8_t bytes[2] = {7, 7};
+    hold(&held, "size");
+    for (size_t at = 0; at < sizeof many / sizeof *many; at++) {
+        uint64_t count = 7;
+        CHECK(bes_columns(pass, nodes, many[at][0], &held, many[at][1], &cell, 1, bytes, 2, &count) == BES_BAD_COUNT && count == 0);
+        CHECK(cell.error == 7 && bytes[0] == 7);
+    }
+    CHECK(strcmp(bes_strerror(BES_BAD_COUNT), "a batch has 1 to 64 operations, and a call reads up to 4,294,967,296 values") == 0);
+}
+
 /* An unchecked name matches no attribute. */
 static void unchecked_names(bes_pass *pass)
 {
@@ -169,6 +186,7 @@ int main(void)
     read_all(&pass, mixed, 6);
     read_all(&pass, one, 1);
     too_little_room(&pass);
+    too_many_values(&pass);
     unchecked_names(&pass);
     CHECK(bes_close(&pass) == BES_OK);
     return 0;

@@ -3,8 +3,6 @@
 #include "tests.h"
 #include <valgrind/callgrind.h>
 
-#define OK(call) CHECK((call) == BES_OK)
-
 enum { MOST_NODES = 13000, PAGES = 16384, LIST = 64, CALLS = 64, TEXT = 40 };
 
 static bes_pass mine = BES_PASS_INIT;

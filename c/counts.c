@@ -5,8 +5,6 @@
 #include "tests.h"
 #include <time.h>
 
-#define OK(call) CHECK((call) == BES_OK)
-
 enum { LIST = 64, PAGE_WORDS = 512, LEAST_NODES = 1000, MOST_NODES = 2500, MOST_PAGES = 2048, MOST_FOUND = 26000, LEAST_FOUND = 200 };
 
 void *__real_malloc(size_t bytes);

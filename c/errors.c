@@ -1,5 +1,5 @@
 /* Tests which error a call returns if two apply: the one that the header lists first. Each line gives a call two reasons to be
- * refused; test.c tests each reason separately. */
+ * refused; test.c and queries.c test each reason separately. */
 #include "tests.h"
 
 #define RETURNS(error, call) CHECK((call) == (error))

@@ -14,10 +14,12 @@ using Nodes = std::vector<Node>;
 // How many requests for memory succeed before the one that is refused. If negative, none is refused. Valgrind puts its own operator in
 // the place of this one, which then counts no request.
 static long granted = -1, requests;
+static std::size_t largest; // the bytes of the largest request
 
 void *operator new(std::size_t size)
 {
     requests++;
+    largest = std::max(largest, size);
     void *memory = granted >= 0 && granted-- == 0 ? nullptr : std::malloc(size > 0 ? size : 1);
     if (memory == nullptr)
         throw std::bad_alloc();
@@ -383,6 +385,29 @@ static void huge_strings_are_refused()
     });
 }
 
+// A part of an answer takes the memory of its nodes, and its call requests no more than all nodes of the largest store need, however many
+// nodes there have been, and however many are asked for.
+static void parts_take_little_memory()
+{
+    Store store({256, 1, 100000});
+    Batch removes;
+    store.make_index("n", Kind::int64);
+    store.set(store.new_node(), "n", Kind::int64, 7);
+    for (Node last = 1; last < 16384 * 12; last += 64) {
+        const auto made = store.new_nodes(64);
+        removes.clear();
+        for (Node node : made)
+            removes.remove_node(node);
+        store.apply(removes);
+    }
+    auto pin = store.pin();
+    Prepared query("n==7");
+    largest = 0;
+    const auto first = pin.first(query, 0, SIZE_MAX), any = pin.any(query, SIZE_MAX), page = pin.page(query, Order("n"), SIZE_MAX).nodes;
+    CHECK(first == Nodes{1} && any == first && page == first && largest <= 16384 * 12 * sizeof(Node));
+    CHECK(first.capacity() < 64 && any.capacity() < 64 && page.capacity() < 64);
+}
+
 // After BES_FULL, a write waits for another pass to unpin, but not for its own.
 static void full_store_waits()
 {
@@ -482,7 +507,8 @@ static void forked_in_a_change()
     CHECK(store.pin().nodes() == Nodes{1});
 }
 
-int main()
+// `short` skips the test that writes many nodes.
+int main(int argc, char **argv)
 {
     change_writes_on_what_it_read();
     change_begins_again();
@@ -498,6 +524,8 @@ int main()
     full_store_waits();
     refused_memory_loses_no_change();
     huge_strings_are_refused();
+    if (argc < 2 || std::string(argv[1]) != "short")
+        parts_take_little_memory();
     forked();
     forked_in_a_change();
 }

@@ -10,7 +10,7 @@ COMMENT = r"^/\* ((?:[^*]|\*(?!/))*)\*/\n"
 NAME = r"(?:bes|BES)_\w+"
 
 HEAD = """\
-.\\" Made from include/bestore.h, bestore_helpers.h and bestore_text.h by c/manual.py.
+.\\" Made from include/bestore.h, bestore_types.h, bestore_helpers.h and bestore_text.h by c/manual.py.
 .Dd November 27, 2026
 .Dt BESTORE 3
 .Os
@@ -53,8 +53,9 @@ def read(*path):
 
 
 HEADER = read("include", "bestore.h")
+VALUES = read("include", "bestore_types.h")
 HELPERS = [("HELPERS", read("include", "bestore_helpers.h")), ("TEXTS", read("include", "bestore_text.h"))]
-ALL = HEADER + "".join(text for _, text in HELPERS)
+ALL = HEADER + VALUES + "".join(text for _, text in HELPERS)
 
 
 def plain(line):
@@ -114,8 +115,8 @@ def literal(text):
 
 
 def between(begin, end):
-    """Returns the part of the header from one text to another."""
-    return HEADER[HEADER.index(begin):HEADER.index(end)]
+    """Returns the part of bestore_types.h from one text to the last occurrence of another."""
+    return VALUES[VALUES.index(begin):VALUES.rindex(end)]
 
 
 def description():
@@ -132,7 +133,7 @@ def calls():
 
 
 def types():
-    parts = re.split(COMMENT, between("/* The kinds of values", "/* Opens a store"), flags=re.MULTILINE)[1:]
+    parts = re.split(COMMENT, between("/* The kinds of values", "#endif"), flags=re.MULTILINE)[1:]
     return ".Sh TYPES\n" + "".join(described(comment) + literal(code) for comment, code in zip(parts[::2], parts[1::2]))
 
 

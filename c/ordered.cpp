@@ -167,7 +167,8 @@ void parts()
     const auto all = pin.query(query);
     for (std::size_t most : {std::size_t{1}, std::size_t{7}, std::size_t{100}, std::size_t{101}, SIZE_MAX}) {
         const auto count = static_cast<std::ptrdiff_t>(std::min<std::size_t>(most, 100));
-        CHECK(pin.first(query, 0, most) == std::vector<Node>(all.begin(), all.begin() + count));
+        const auto first = pin.first(query, 0, most);
+        CHECK(first == std::vector<Node>(all.begin(), all.begin() + count) && first.capacity() <= 200);
         CHECK(pin.first(query, all[99], most) == std::vector<Node>(1, all[99]) && pin.first(query, all[99] + 1, most).empty());
         auto any = pin.any(query, most);
         std::sort(any.begin(), any.end());

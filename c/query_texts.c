@@ -1,8 +1,6 @@
 /* Tests the comparisons in a query's text, and the escaping of texts for queries. */
 #include "tests.h"
 
-#define OK(call) CHECK((call) == BES_OK)
-
 static bes_compared found[256];
 static uint8_t bytes[1 << 16];
 static bes_counts counts;

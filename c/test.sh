@@ -80,7 +80,7 @@ for compiler in c++ g++ clang++; do
 done
 
 # The tests, and the ones among them that start threads.
-tests=(test columns cursors ordered changes batches closing refreshes errors threads witness helpers texts query_texts bounds racing promises huge_pages)
+tests=(test queries columns cursors ordered changes batches closing refreshes errors threads witness helpers texts query_texts bounds racing promises huge_pages)
 tests_cpp=(test helpers changes ordered racing)
 with_threads=(changes threads witness helpers racing promises)
 
@@ -90,8 +90,10 @@ for test in "${tests[@]}"; do
 done
 build -O2 sizes.c -o "$work/sizes"
 run_if_there "C, sizes" python3 ../tests/sizes --c "$work/sizes"
-cc -std=c11 "${warn[@]}" -I../include test.c -L. -lbestore -lpthread -o "$work/shared"
-run "C, shared object" env LD_LIBRARY_PATH=. "$work/shared"
+for test in test queries; do
+    cc -std=c11 "${warn[@]}" -I../include $test.c -L. -lbestore -lpthread -o "$work/shared"
+    run "C, $test, shared object" env LD_LIBRARY_PATH=. "$work/shared"
+done
 
 if sanitizes C cc address,undefined; then
     helpers=$(marked_helpers address,undefined)

@@ -7,6 +7,7 @@
 #include <stdlib.h>
 
 #define CHECK(e) do { if (!(e)) { fprintf(stderr, "%s:%d: %s\n", __FILE__, __LINE__, #e); exit(1); } } while (0)
+#define OK(call) CHECK((call) == BES_OK)
 
 /* Everything that can be observed of a small store and of a pass's pin. */
 typedef struct view {
@@ -33,6 +34,19 @@ static inline bool is_as_it_was(bes_pass *pass, const view *before)
     look(pass, &after);
     return memcmp(before, &after, sizeof after) == 0;
 }
+
+/* Returns what LEAVES has seen before its call. */
+static inline view *seen_before(void)
+{
+    static view before;
+    return &before;
+}
+
+/* Checks that a call returns this error, and leaves the store and the pin unchanged. */
+#define LEAVES(pass, call, answer) do { \
+        look(pass, seen_before()); \
+        CHECK((call) == (answer) && is_as_it_was(pass, seen_before())); \
+    } while (0)
 
 /* Takes passes until none is left. Returns the number taken. */
 static inline int take_passes(bes_pass *pass, bes_pass *taken)

@@ -207,6 +207,9 @@ inline Updates combined(const Updates &first, Updates then)
     return {std::move(created), std::move(removed)};
 }
 
+// No store has more nodes: it has at most 16,384 pages, and a page has at most 12 nodes.
+inline constexpr Node most_nodes = 16384 * 12;
+
 // Returns an index's name as a string that ends at its first zero byte. Throws BES_NO_INDEX for a name that contains one, because no index
 // has such a name.
 inline std::string index_name(std::string_view name)
@@ -403,13 +406,13 @@ public:
     {
         if (after.query_ != query.text())
             throw Refusal(BES_BAD_CURSOR);
-        Page page{std::vector<Node>(room(most) + 1), false, after};
+        Page page{{}, false, after};
         const bes_name &by = after.order_.name_;
-        std::uint64_t count = 0;
+        const std::uint32_t descending = after.order_.is_descending_ ? 1 : 0;
         std::uint32_t more = 0;
-        detail::check(bes_ordered(handle(), query.handle(), &by, after.order_.is_descending_ ? 1 : 0, &page.cursor.raw_,
-                                  page.nodes.data(), page.nodes.size() - 1, &count, &more));
-        page.nodes.resize(count);
+        page.nodes = part(most, [&](auto... nodes) {
+            return bes_ordered(handle(), query.handle(), &by, descending, &page.cursor.raw_, nodes..., &more);
+        });
         page.more = more != 0;
         return page;
     }
@@ -619,16 +622,17 @@ private:
     {
         Node next = 0;
         detail::check(bes_next(handle(), &next));
-        return std::min<std::size_t>(most, std::max<Node>(next, 1));
+        return std::min<std::size_t>(most, std::clamp<Node>(next, 1, detail::most_nodes));
     }
 
+    // Returns the nodes that a call writes. The room that it doesn't need is never touched, so it takes no memory.
     template <class Call> std::vector<Node> part(std::size_t most, Call call)
     {
-        std::vector<Node> nodes(room(most) + 1);
+        const std::size_t places = room(most);
+        const std::unique_ptr<Node[]> nodes(new Node[places]); // not cleared
         std::uint64_t count = 0;
-        detail::check(call(nodes.data(), nodes.size() - 1, &count));
-        nodes.resize(count);
-        return nodes;
+        detail::check(call(nodes.get(), places, &count));
+        return std::vector<Node>(nodes.get(), nodes.get() + count);
     }
 
     template <class Call> std::vector<Node> found(Call call, detail::Place place)

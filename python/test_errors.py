@@ -21,7 +21,7 @@ def text_of(*path):
 
 class Numbers(unittest.TestCase):
     def test_each_error_of_the_header(self):
-        header = text_of("include", "bestore.h")
+        header = text_of("include", "bestore_types.h")
         enumerated = header[header.index("BES_OK = 0"):]
         names = dict(re.findall(r"BES_(\w+) = (\d+)", enumerated[:enumerated.index("}")]))
         self.assertEqual({name: int(number) for name, number in names.items()}, {it.name: it.value for it in bestore.ErrorNumber})

@@ -149,7 +149,7 @@ def wanted_files(surface: Surface) -> dict[str, str]:
     for (path, name), render in REGIONS.items():
         text = wanted.get(path) or (ROOT / path).read_text()
         wanted[path] = with_region(path, text, name, render(surface))
-    calls = prototypes(wanted[HEADER])
+    calls = prototypes((ROOT / HEADER).read_text())
     helpers = helpers_in((ROOT / path).read_text() for path in HELPERS)
     check_calls(HEADER, calls, "exports", surface.calls)
     bindings = re.findall(r"^    pub fn (bes_\w+)\(", (ROOT / BINDINGS).read_text(), re.M)

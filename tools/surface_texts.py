@@ -395,12 +395,12 @@ def manual_errors(surface: Surface) -> str:
 
 
 REGIONS: dict[tuple[str, str], Callable[[Surface], str]] = {
-    ("include/bestore.h", "errors"): c_errors,
-    ("include/bestore.h", "classes"): c_classes,
-    ("include/bestore.h", "kinds"): c_kinds,
-    ("include/bestore.h", "operations"): c_operations,
-    ("include/bestore.h", "items"): c_items,
-    ("include/bestore.h", "forms"): c_forms,
+    ("include/bestore_types.h", "errors"): c_errors,
+    ("include/bestore_types.h", "classes"): c_classes,
+    ("include/bestore_types.h", "kinds"): c_kinds,
+    ("include/bestore_types.h", "operations"): c_operations,
+    ("include/bestore_types.h", "items"): c_items,
+    ("include/bestore_types.h", "forms"): c_forms,
     ("c/library/errors.c", "meanings"): c_meanings,
     ("c/library/kinds.h", "kinds"): lambda it: cases(it.kinds),
     ("c/library/kinds.h", "bits"): c_bits,

@@ -84,7 +84,7 @@ static const meaning meanings[] = {
       "every pass of the store is in use; "
       "close one, or open the store with more" },
     { BES_BAD_COUNT, BES_CLASS_MINE, "BES_BAD_COUNT",
-      "a batch has 1 to 64 operations" },
+      "a batch has 1 to 64 operations, and a call reads up to 4,294,967,296 values" },
     { BES_NOT_UTF8, BES_CLASS_MINE, "BES_NOT_UTF8",
       "the text isn't valid UTF-8" },
     { BES_NO_OPERATION, BES_CLASS_MINE, "BES_NO_OPERATION",

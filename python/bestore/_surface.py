@@ -137,7 +137,7 @@ MEANINGS: Dict[int, Meaning] = {
                          "unpin it first"),
     ErrorNumber.NO_PASS: Meaning(ErrorClass.FULL, "every pass of the store is in use",
                          "close one, or open the store with more"),
-    ErrorNumber.BAD_COUNT: Meaning(ErrorClass.MINE, "a batch has 1 to 64 operations",
+    ErrorNumber.BAD_COUNT: Meaning(ErrorClass.MINE, "a batch has 1 to 64 operations, and a call reads up to 4,294,967,296 values",
                          ""),
     ErrorNumber.NOT_UTF8: Meaning(ErrorClass.MINE, "the text isn't valid UTF-8",
                          ""),

@@ -258,7 +258,7 @@ pub const MEANINGS: &[Meaning] = &[
     Meaning {
         code: sys::BES_BAD_COUNT,
         class: Class::Mine,
-        what: "a batch has 1 to 64 operations",
+        what: "a batch has 1 to 64 operations, and a call reads up to 4,294,967,296 values",
         advice: "",
     },
     Meaning {

@@ -266,6 +266,8 @@ impl fmt::Display for Error {
             Error::Stopped(error) => write!(f, "the store takes no more writes: {error}"),
             Error::Other(error) => error.fmt(f),
             Error::BadLimits => f.write_str(BAD_LIMITS),
+            // The library's text is also about calls that read more values than this crate asks for at a time.
+            Error::BadCount { count } => write!(f, "a batch has 1 to 64 operations, and this one has {count}"),
             Error::KindMismatch { .. } => self.show_own(f),
             Error::NoOrder { name, indices } => write!(f, "there is no index {name:?}; {}", listed(indices)),
             Error::BadCursor(fault) => fault.fmt(f),
@@ -292,7 +294,6 @@ impl Error {
             Error::NameLength { operation } | Error::DataLength { operation } | Error::HasNul { operation } => {
                 at_operation(f, operation)?;
             }
-            Error::BadCount { count } => write!(f, ", and this one has {count}")?,
             Error::Conflict { expected, found } => write!(f, " ({found}, not {expected})")?,
             Error::Unexpected { code, carried } => write!(f, " (number {code}, with {carried})")?,
             _ => {}

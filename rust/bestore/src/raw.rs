@@ -135,26 +135,37 @@ const NODES: usize = 256;
 /// Returns the nodes that a query finds. The buffer has room for somewhat more nodes than the last query found, so that few queries must be
 /// run twice.
 fn found(room: &Cell<usize>, call: impl FnMut(*mut u64, usize, &mut u64) -> u32) -> Answer<Vec<u64>> {
-    let mut nodes = whole(room.get(), call)?;
+    let nodes = whole(room.get(), call)?;
     room.set((nodes.len() + nodes.len() / 4).max(NODES));
+    Ok(shrunk(nodes))
+}
+
+/// Frees the memory that the nodes don't need, if it is more than half of the list.
+fn shrunk(mut nodes: Vec<u64>) -> Vec<u64> {
     if nodes.capacity() > 2 * nodes.len() + NODES {
         nodes.shrink_to_fit();
     }
-    Ok(nodes)
+    nodes
 }
+
+/// No store has more nodes: it has at most 16,384 pages, and a page has at most 12 nodes.
+const MOST_NODES: usize = 16_384 * 12;
 
 /// Returns up to `most` nodes from a call that counts all nodes but writes only as many as fit. The buffer has room for at most `all`
 /// nodes, because there can't be more.
 fn some(all: u64, most: usize, call: impl FnOnce(*mut u64, usize, &mut u64) -> u32) -> Answer<Vec<u64>> {
     // The buffer has room for at least one node, so that a page from a store without nodes is empty and not an error.
-    let room = usize::try_from(all).unwrap_or(usize::MAX).max(1).min(most);
+    let room = usize::try_from(all)
+        .unwrap_or(usize::MAX)
+        .clamp(1, MOST_NODES)
+        .min(most);
     let mut nodes = Vec::with_capacity(room);
     let mut count = 0;
     let code = call(nodes.as_mut_ptr(), room, &mut count);
     check(code, count)?;
     // SAFETY: the library has written `count` nodes, or as many as fit.
     unsafe { nodes.set_len(room.min(count as usize)) };
-    Ok(nodes)
+    Ok(shrunk(nodes))
 }
 
 /// Returns the attribute that a call reads. The call stores the attribute's bytes in `bytes`.
@@ -683,6 +694,19 @@ pub(crate) fn version() -> u32 {
 #[cfg(test)]
 mod tests {
     use super::*;
+
+    #[test]
+    fn a_part_takes_no_more_room_than_a_store_has_nodes() {
+        let mut rooms = Vec::new();
+        for (all, most) in [(0, 5), (7, 5), (5, 7), (u64::MAX, usize::MAX)] {
+            let nodes = some(all, most, |_, room, _| {
+                rooms.push(room);
+                sys::BES_OK
+            });
+            assert!(nodes.unwrap().capacity() <= NODES);
+        }
+        assert_eq!(rooms, [1, 5, 5, MOST_NODES]);
+    }
 
     #[test]
     fn a_cursor_goes_to_the_library_and_back() {

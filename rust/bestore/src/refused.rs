@@ -123,9 +123,9 @@ mod tests {
                 _ => of_write(refused(*code, 7), 65, Some(6)),
             };
             assert_eq!((error.code(), error.class()), (Some(*code), *class), "{what}");
-            // A cursor error says why the page can't continue from the cursor.
+            // A cursor error says why the page can't continue from the cursor, and BadCount is only about batches.
             assert!(
-                *code == sys::BES_BAD_CURSOR || error.to_string().starts_with(what),
+                matches!(*code, sys::BES_BAD_CURSOR | sys::BES_BAD_COUNT) || error.to_string().starts_with(what),
                 "{error}"
             );
         }
@@ -149,5 +149,7 @@ mod tests {
             name.to_string(),
             "a name is empty or has more than 63 bytes (operation 3, counted from 0)"
         );
+        let count = of_write(refused(sys::BES_BAD_COUNT, 0), 65, None);
+        assert_eq!(count.to_string(), "a batch has 1 to 64 operations, and this one has 65");
     }
 }

@@ -33,6 +33,8 @@ fn handles_of_the_parent_are_dead_in_a_child() {
     locks_of_other_threads();
     #[cfg(feature = "saved")]
     kept_store();
+    #[cfg(feature = "saved")]
+    lock_of_a_kept_store();
 }
 
 #[cfg(feature = "saved")]
@@ -87,6 +89,37 @@ fn locks_of_other_threads() {
                 unsafe { libc::alarm(20) };
                 let are_dead = !store.is_read_before() && is_dead(snapshot.remove_index("b"));
                 if are_dead && is_dead(store.carry_on()) {
+                    // Ends without a report of leaks: the child has lost what the other threads of the parent had.
+                    let _ = Command::new("true").exec();
+                }
+                false
+            })
+        };
+        let failed = (0..40).map(child).find(|status| *status != 0);
+        is_over.store(true, Ordering::Relaxed);
+        assert_eq!(failed, None);
+    });
+}
+
+/// A kept store has another lock, which a thread that writes has most of the time.
+#[cfg(feature = "saved")]
+fn lock_of_a_kept_store() {
+    let folder = common::Folder::new("forked-lock");
+    let saved = folder.open_lazily(64);
+    let pass = saved.pass().unwrap();
+    let node = pass.new_node().unwrap();
+    let is_over = &AtomicBool::new(false);
+    thread::scope(|scope| {
+        scope.spawn(move || {
+            while !is_over.load(Ordering::Relaxed) {
+                pass.set(node, "count", 5_i64).unwrap();
+            }
+        });
+        let child = |_| {
+            in_a_child(|| {
+                // SAFETY: the call takes a number. Its signal ends a child that waits.
+                unsafe { libc::alarm(20) };
+                if saved.failure().is_none() {
                     // Ends without a report of leaks: the child has lost what the other threads of the parent had.
                     let _ = Command::new("true").exec();
                 }

@@ -199,6 +199,33 @@ fn the_file_of_one_store_becomes_a_volume() {
     assert_eq!(found(&saved, "size>=5"), [node, second]);
 }
 
+/// A write that isn't saved leaves a gap, and a file with a gap can't be opened. So nothing is saved after it.
+#[test]
+fn nothing_is_saved_after_a_write_that_is_not_saved() {
+    let folder = Folder::new("shelf-gap");
+    let open = || Options::new().open(folder.file()).unwrap();
+    let saved = open();
+    let (pass, unsaved) = (saved.pass().unwrap(), saved.store().pass().unwrap());
+    pass.new_node().unwrap();
+    unsaved.new_node().unwrap();
+    assert!(saved.failure().is_none());
+    let error = pass.new_node().unwrap_err();
+    assert!(matches!(error, bestore::Error::NotSaved(_)), "{error}");
+    assert!(
+        error.to_string().ends_with("take passes only from Saved or SavedShelf"),
+        "{error}"
+    );
+    assert!(matches!(pass.new_node(), Err(bestore::Error::Stopped(_))));
+    assert!(matches!(saved.compact(), Err(Error::Stopped(_))));
+    drop((pass, unsaved, saved));
+    // Nor does a state with such a write replace the entries, and nothing waits until the write is saved.
+    let saved = open();
+    saved.store().pass().unwrap().remove_node(1).unwrap();
+    assert!(matches!(saved.compact(), Err(Error::Stopped(_))));
+    drop(saved);
+    assert_eq!(open().pass().unwrap().pin().unwrap().nodes().count(), 1);
+}
+
 /// All passes are in use, so both tasks have to use the store's own pass.
 #[test]
 fn writers_go_on_while_the_store_is_compacted_and_carried_on() {

@@ -266,6 +266,34 @@ fn an_index_that_one_volume_refuses_is_made_by_the_next_call() {
     );
 }
 
+/// An operation that is refused isn't collected, so it doesn't decide which volume a change writes.
+#[test]
+fn a_refused_operation_decides_no_volume() {
+    let mut pass = indexed(2);
+    let (first, second) = (make_sized(&mut pass, 0, 1), make_sized(&mut pass, 1, 2));
+    let changed = pass.change(|change| {
+        let refused = change.set(first, "size", "text").unwrap_err();
+        assert!(matches!(refused, Error::KindMismatch { .. }) && change.volume().is_none());
+        change.set(second, "size", 3_i64)?;
+        assert!(change.set(second, "size", "text").is_err() && change.volume() == Some(1));
+        Ok(())
+    });
+    changed.unwrap();
+    assert_eq!(pass.pin().unwrap().query("size==3").unwrap(), [second]);
+    let requested = pass.change_in(0, |change| {
+        assert!(change.set(first, "size", "text").is_err() && change.volume() == Some(0));
+        change.set(second, "size", 4_i64).map(|_| ())
+    });
+    assert!(matches!(requested, Err(Error::OtherVolume { volume: 0, .. })));
+    // An error that the operation couldn't return still ends the change.
+    let ended = pass.change(|change| {
+        change.unset(first, &"n".repeat(64))?;
+        assert!(change.set(first, "size", "text").is_err());
+        Ok(())
+    });
+    assert!(matches!(ended.unwrap_err().without_volume(), Error::NameLength { .. }));
+}
+
 #[test]
 fn a_batch_and_a_change_are_in_one_volume() {
     let mut pass = indexed(2);

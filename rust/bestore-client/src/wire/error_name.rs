@@ -115,8 +115,8 @@ names! {
     Pinned = Some(67), Mine, "a snapshot is already pinned; unpin it first";
     /// Every pass of the store is in use; close one, or open the store with more.
     NoPass = Some(68), Full, "every pass of the store is in use; close one, or open the store with more";
-    /// A batch has 1 to 64 operations.
-    BadCount = Some(69), Mine, "a batch has 1 to 64 operations";
+    /// A batch has 1 to 64 operations, and a call reads up to 4,294,967,296 values.
+    BadCount = Some(69), Mine, "a batch has 1 to 64 operations, and a call reads up to 4,294,967,296 values";
     /// The text isn't valid UTF-8.
     NotUtf8 = Some(70), Mine, "the text isn't valid UTF-8";
     /// There is no operation with this number; operations are numbered 0 to 5.

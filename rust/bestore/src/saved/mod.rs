@@ -240,7 +240,8 @@ pub struct Saved {
 }
 
 impl Saved {
-    /// Returns the in-memory store. Writes through passes taken from it aren't saved.
+    /// Returns the in-memory store. A write through a pass taken from it isn't saved, and leaves a gap in the file's entries: later writes
+    /// return [`NotSaved`](crate::Error::NotSaved) and then [`Stopped`](crate::Error::Stopped), until the file is opened again.
     #[must_use]
     pub fn store(&self) -> &Store {
         &self.store
@@ -269,7 +270,8 @@ impl Saved {
         self.queue.flush(None)
     }
 
-    /// Returns the error from the commit that failed, if any. After that commit, memory is ahead of the file.
+    /// Returns the error from the commit that failed, if any. After that commit, memory is ahead of the file. In a forked child, returns
+    /// `None`.
     #[must_use]
     pub fn failure(&self) -> Option<Arc<Error>> {
         self.queue.failure()

@@ -57,6 +57,21 @@ impl Line {
             None => Ok(()),
         }
     }
+
+    /// Returns an error if a write that isn't saved came before the entry with this number.
+    fn check_next(&self, number: u64) -> Result<()> {
+        match number == self.written.wrapping_add(1) {
+            true => Ok(()),
+            false => Err(unsaved()),
+        }
+    }
+}
+
+/// Returns the error for writes to the store that weren't made through this queue. The file could have no entries after the gap.
+fn unsaved() -> Error {
+    Error::Store(crate::Error::other(
+        "a write was made through a pass that doesn't save; open the file again, and take passes only from Saved or SavedShelf",
+    ))
 }
 
 #[derive(Debug)]
@@ -180,10 +195,13 @@ impl Keeper for Shared {
         line.check().map_err(crate::Error::Stopped)?;
         let written = write()?;
         let number = self.number_in_file(written.number);
-        let row = match Row::new(number, pass, batch, &written.nodes) {
+        let row = line
+            .check_next(number)
+            .and_then(|()| Row::new(number, pass, batch, &written.nodes).map_err(Error::Store));
+        let row = match row {
             Ok(row) => row,
             Err(error) => {
-                let error = line.failed.insert(Arc::new(Error::Store(error)));
+                let error = line.failed.insert(Arc::new(error));
                 return Err(crate::Error::NotSaved(error.clone()));
             }
         };
@@ -267,14 +285,21 @@ impl Queue {
         self.shared.is_due.load(Ordering::Relaxed)
     }
 
+    /// Returns the error from the commit that failed. In a forked child there is none: the thread that has the lock may not exist.
     pub(super) fn failure(&self) -> Option<Arc<Error>> {
-        lock(&self.shared.line).failed.clone()
+        match self.birthplace.is_here() {
+            true => lock(&self.shared.line).failed.clone(),
+            false => None,
+        }
     }
 
     /// Waits until the entry with this number has been saved or, if no number is given, until all entries have been.
     pub(super) fn flush(&self, number: Option<u64>) -> Result<()> {
-        let line = lock(&self.shared.line);
+        let mut line = lock(&self.shared.line);
         let number = number.unwrap_or(line.written);
+        if number > line.written {
+            line.failed.get_or_insert_with(|| Arc::new(unsaved()));
+        }
         self.shared.wait_for(line, number).map_err(Error::Stopped)
     }
 

@@ -74,7 +74,7 @@ impl SavedShelf {
         &self.volumes
     }
 
-    /// Returns the in-memory shelf. Writes through passes taken from it aren't saved.
+    /// Returns the in-memory shelf. Writes through passes taken from it aren't saved, and end all saving, like those of [`Saved::store`].
     #[must_use]
     pub fn shelf(&self) -> &Shelf {
         &self.shelf

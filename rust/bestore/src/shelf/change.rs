@@ -31,9 +31,9 @@ impl<'a> ShelfChange<'a> {
 
     /// Returns the change in this volume.
     fn in_volume(&mut self, volume: u32) -> Result<&mut Change<'a>> {
-        if *self.volume.get_or_insert(volume) != volume {
+        if let Some(decided) = self.volume.filter(|decided| *decided != volume) {
             return Err(Error::OtherVolume {
-                volume: self.volume.unwrap_or_default(),
+                volume: decided,
                 operation: None,
             });
         }
@@ -44,6 +44,7 @@ impl<'a> ShelfChange<'a> {
             }
             self.change = Some(change);
         }
+        self.volume = Some(volume);
         self.change.as_mut().ok_or(Error::NoNode)
     }
 
@@ -103,8 +104,14 @@ impl<'a> ShelfChange<'a> {
     /// # Errors
     /// The same errors as [`remove_node`](Self::remove_node); [`Error::KindMismatch`], as in [`Change::set`].
     pub fn set(&mut self, node: u64, name: &str, value: impl Into<Value>) -> Result<&mut Self> {
+        let before = self.volume;
         let (change, number) = self.of_node(node)?;
-        change.set(number, name, value)?;
+        let set = change.set(number, name, value).map(|_| ());
+        if set.is_err() && change.is_unused() {
+            // An operation that isn't collected doesn't decide the volume.
+            (self.change, self.volume) = (None, before);
+        }
+        set?;
         Ok(self)
     }
 
