@@ -2,7 +2,7 @@
 
 use crate::common::files::{Folder, Mount};
 use crate::common::refuser::Refuser;
-use crate::common::{Said, Server, NOBODY};
+use crate::common::{send_signal, Said, Server, NOBODY};
 use std::fs;
 use std::io::{BufRead, BufReader, Read, Write};
 use std::os::unix::fs::PermissionsExt;
@@ -54,14 +54,6 @@ impl Follower {
         let mut said = String::new();
         self.out.read_to_string(&mut said).unwrap();
         said
-    }
-
-    fn signal(&self, signal: &str) {
-        let sent = Command::new("kill")
-            .arg(signal)
-            .arg(self.child.id().to_string())
-            .status();
-        assert!(sent.unwrap().success());
     }
 
     /// Waits until the import ends of its own accord.
@@ -230,7 +222,7 @@ fn events_that_were_lost_are_made_good() {
     folder.file("a", "");
     folder.file("b", "");
     let follower = Follower::start(&server, &folder);
-    follower.signal("-STOP");
+    send_signal(&follower.child, "-STOP");
     // Alternate between two events, because the kernel merges identical ones.
     for number in 0..most {
         let mode = fs::Permissions::from_mode(0o600 + (number / 2 % 2) as u32 * 0o44);
@@ -239,7 +231,7 @@ fn events_that_were_lost_are_made_good() {
     folder.folder("lost/too");
     folder.file("lost/too/file", "");
     folder.rename("a", "c");
-    follower.signal("-CONT");
+    send_signal(&follower.child, "-CONT");
     soon("lost events", || same(&server, &folder));
     folder.file("lost/too/later", "");
     soon("a file after them", || same(&server, &folder));
@@ -499,7 +491,7 @@ fn a_file_system_that_is_mounted_later_is_not_read() {
     let (server, folder) = server!(Folder::with_server());
     let follower = Follower::run(server.command(&["import", "--follow", "-x", "--json", &folder.all()]));
     // The folder is created and mounted before it can be read.
-    follower.signal("-STOP");
+    send_signal(&follower.child, "-STOP");
     let disk = folder.folder("disk");
     let _mount = match Mount::over(&disk) {
         Some(mount) => mount,
@@ -507,7 +499,7 @@ fn a_file_system_that_is_mounted_later_is_not_read() {
     };
     folder.folder("disk/inner");
     folder.file("disk/file", "");
-    follower.signal("-CONT");
+    send_signal(&follower.child, "-CONT");
     soon("the folder", || server.paths("name==disk").len() == 1);
     folder.file("later", "");
     soon("a later file", || server.paths("name==later").len() == 1);
