@@ -2,7 +2,7 @@
 
 use crate::failure::Failure;
 use crate::found::Row;
-use crate::import::content::{name_in, NAME, PARENT, ROOT, STAT};
+use crate::import::content::{name_in, NAME, PARENT, ROOT, STAT, VALUE};
 use crate::import::stat::Stat;
 use crate::server::{pinned, rows_of};
 use bestore_client::wire::{Command, Json, Nodes, NodesFrom};
@@ -72,7 +72,10 @@ fn node_of(client: &mut Client, path: &Path) -> Result<u64, Failure> {
             Ok(same.or_else(|| nodes.first().copied()).into_iter().collect())
         }
     })?;
-    found.first().copied().ok_or_else(|| Failure::NotImported(path.into()))
+    found.first().copied().ok_or_else(|| match name_in(&whole).len() {
+        0..=VALUE => Failure::NotImported(path.into()),
+        _ => Failure::LongName(path.into()),
+    })
 }
 
 /// Returns the absolute path, with symlinks to folders resolved. If the file itself is a symlink, it isn't followed.
