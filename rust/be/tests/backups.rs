@@ -127,8 +127,7 @@ fn interrupted(server: &Server, path: &Path, signal: &str) -> ExitStatus {
         asks.send(()).unwrap();
         let _ = ended.recv();
     });
-    let mut command = server.command(&["backup", text(path)]);
-    let mut child = command.env("BESTORE_SOCKET", refuser.socket()).spawn().unwrap();
+    let mut child = refuser.command(server, &["backup", text(path)]).spawn().unwrap();
     asked.recv_timeout(Duration::from_secs(20)).unwrap();
     assert_eq!(unfinished(server), 1);
     send_signal(&child, signal);
@@ -156,8 +155,7 @@ fn a_backup_that_fails_is_removed() {
     let refuser = Refuser::start(&server);
     let other = path.clone();
     refuser.before(r#""state":"#, move || fs::write(other, "mine").unwrap());
-    let mut command = server.command(&["backup", text(&path)]);
-    let said: Said = command.env("BESTORE_SOCKET", refuser.socket()).output().unwrap().into();
+    let said = refuser.be(&server, &["backup", text(&path)]);
     refused(&said, "exists, and won't be overwritten");
     assert_eq!((unfinished(&server), fs::read(&path).unwrap()), (0, b"mine".to_vec()));
 }

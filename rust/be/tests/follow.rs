@@ -340,8 +340,7 @@ fn what_is_refused_for_a_moment_is_written_later() {
     let (server, refuser, folder) = server!(Refuser::with_server());
     folder.file("changed", "x");
     folder.file("removed", "");
-    let mut command = server.command(&["import", "--follow", "--json", "--verbose", &folder.all()]);
-    command.env("BESTORE_SOCKET", refuser.socket());
+    let command = refuser.command(&server, &["import", "--follow", "--json", "--verbose", &folder.all()]);
     let follower = Follower::run(command);
     refuser.refuse("[");
     folder.file("changed", "more of it");
@@ -366,8 +365,7 @@ fn what_is_refused_for_a_moment_is_written_later() {
 fn a_node_that_is_not_removed_goes_later_though_its_file_is_there_again() {
     let (server, refuser, folder) = server!(Refuser::with_server());
     let file = folder.file("x", "");
-    let mut command = server.command(&["import", "--follow", "--json", &folder.all()]);
-    command.env("BESTORE_SOCKET", refuser.socket());
+    let command = refuser.command(&server, &["import", "--follow", "--json", &folder.all()]);
     let _follower = Follower::run(command);
     let count = |query: &str| server.done(&["query", "--count", query]);
     refuser.refuse(r#"["remove","#);
@@ -412,8 +410,7 @@ fn a_file_is_read_after_each_change_even_within_one_tick_of_the_clock() {
 fn a_new_server_that_refuses_indices_for_a_moment_is_caught_up_with() {
     let (mut server, refuser, folder) = server!(Refuser::with_server());
     folder.file("x", "");
-    let mut command = server.command(&["import", "--follow", "--json", &folder.all()]);
-    command.env("BESTORE_SOCKET", refuser.socket());
+    let command = refuser.command(&server, &["import", "--follow", "--json", &folder.all()]);
     let follower = Follower::run(command);
     refuser.refuse(r#"["index","#);
     server.end();
@@ -433,8 +430,8 @@ fn follower_as_nobody(server: &Server, refuser: &Refuser, folder: &Folder) -> Op
     }
     fs::set_permissions(refuser.socket(), fs::Permissions::from_mode(0o777)).unwrap();
     let as_nobody = |words: &[&str]| {
-        let mut command = server.command(words);
-        command.env("BESTORE_SOCKET", refuser.socket()).uid(NOBODY).gid(NOBODY);
+        let mut command = refuser.command(server, words);
+        command.uid(NOBODY).gid(NOBODY);
         command
     };
     match as_nobody(&["status"]).output() {
