@@ -147,6 +147,9 @@ fn what_cannot_be_read_is_named_and_keeps_its_nodes() {
     // Build a path of more than 4,096 bytes by moving each folder into the next.
     let name = |number: usize| format!("{number:0>250}");
     folder.folder(&name(0));
+    // The path of this file will be too long, but not that of its folder.
+    folder.folder(&name(1));
+    folder.file(&format!("{}/{}", name(1), name(99)), "");
     for number in 1..17 {
         folder.folder(&name(number));
         folder.rename(&name(number - 1), &format!("{}/{}", name(number), name(number - 1)));
@@ -154,6 +157,7 @@ fn what_cannot_be_read_is_named_and_keeps_its_nodes() {
     let said = server.be(&["import", "--json", &folder.all()]);
     let read: serde_json::Value = serde_json::from_str(&said.out).unwrap();
     assert_eq!((said.status, read["unread"].as_u64()), (1, Some(1)), "{said:?}");
+    assert_eq!(read["files"], 24, "{said:?}");
     assert!(said.error.ends_with("File name too long (os error 36)\n"), "{said:?}");
 
     let hidden = folder.folder("hidden");
