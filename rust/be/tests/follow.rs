@@ -144,6 +144,22 @@ fn what_changes_is_followed() {
     soon("removed folders", || same(&server, &folder));
 }
 
+/// Otherwise each write would change the store's own files, which would cause the next write.
+#[test]
+fn a_store_that_is_kept_in_the_followed_folder_comes_to_rest() {
+    let folder = Folder::new();
+    let kept = folder.word("own.bestore");
+    let server = server!(Server::start_with(&["--pages", "1024", "--keep", &kept]));
+    let _follower = Follower::start(&server, &folder);
+    folder.file("x", "");
+    soon("a new file", || server.paths("name==x").len() == 1);
+    thread::sleep(Duration::from_secs(1));
+    let entries = server.entries();
+    thread::sleep(Duration::from_secs(1));
+    assert_eq!(server.entries(), entries);
+    assert_eq!(server.paths("name==\"own*\"").len(), 0);
+}
+
 #[test]
 fn a_followed_file_keeps_its_node_when_an_editor_saves() {
     let (server, folder) = server!(Folder::with_server());

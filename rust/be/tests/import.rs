@@ -44,7 +44,13 @@ fn each_file_is_a_node_with_the_attributes_of_be() {
 #[test]
 fn files_of_kept_stores_are_left_out() {
     let (server, folder) = server!(Folder::small_with_server());
-    for name in ["0.bestore", "0.bestore-wal", "a/s.bestore-shm", "a/s.bestore-journal"] {
+    for name in [
+        "0.bestore",
+        "0.bestore-last",
+        "0.bestore-wal",
+        "a/s.bestore-shm",
+        "a/s.bestore-journal",
+    ] {
         folder.file(name, "");
     }
     folder.folder("my.bestores");

@@ -10,7 +10,13 @@ use std::os::unix::fs::MetadataExt;
 use std::path::{Path, PathBuf};
 
 /// The suffixes of the files that belong to kept stores.
-const STORES: [&[u8]; 4] = [b".bestore", b".bestore-wal", b".bestore-shm", b".bestore-journal"];
+const STORES: [&[u8]; 5] = [
+    b".bestore",
+    b".bestore-last",
+    b".bestore-wal",
+    b".bestore-shm",
+    b".bestore-journal",
+];
 
 /// A file, and what the file system reports about it.
 #[derive(Clone, Debug)]
@@ -35,7 +41,7 @@ pub struct Walked {
     pub changed: HashSet<PathBuf>,
 }
 
-/// Returns whether a file belongs to a kept store, including the files that SQLite puts next to it. Such files are left out, because
+/// Returns whether a file belongs to a kept store, including those that are next to it while it is open. Such files are left out, because
 /// recording a change to one would change it again.
 pub fn is_of_a_store(path: &Path) -> bool {
     let name = path.file_name().map_or(&b""[..], OsStrExt::as_bytes);
