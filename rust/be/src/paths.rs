@@ -61,18 +61,19 @@ fn node_of(client: &mut Client, path: &Path) -> Result<u64, Failure> {
     let text = format!("name==\"{name}\" && {STAT}==\"{identity}:*\"");
     let found = pinned(client, |client| match client.query(&text) {
         // If there is no index of names, nothing was imported.
-        Err(error) if error.is(ErrorName::NotCovered) => Ok(Vec::new()),
+        Err(error) if error.is(ErrorName::NotCovered) => Ok(None),
         answer => {
             let nodes = answer?;
             let mut paths = Paths::default();
-            let same = nodes.iter().find_map(|node| match paths.of(client, *node) {
-                Ok(Some(path)) if path == whole => Some(*node),
-                _ => None,
-            });
-            Ok(same.or_else(|| nodes.first().copied()).into_iter().collect())
+            for node in &nodes {
+                if paths.of(client, *node)?.as_ref() == Some(&whole) {
+                    return Ok(Some(*node));
+                }
+            }
+            Ok(nodes.first().copied())
         }
     })?;
-    found.first().copied().ok_or_else(|| match name_in(&whole).len() {
+    found.ok_or_else(|| match name_in(&whole).len() {
         0..=VALUE => Failure::NotImported(path.into()),
         _ => Failure::LongName(path.into()),
     })
