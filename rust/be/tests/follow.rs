@@ -439,6 +439,24 @@ fn a_new_server_that_refuses_indices_for_a_moment_is_caught_up_with() {
     soon("what was refused", || same(&server, &folder));
 }
 
+/// An import of four volumes has five connections, so the server has no places for five more.
+#[test]
+fn a_follower_that_loses_one_connection_goes_on_though_the_server_has_few_places() {
+    let options = ["--pages", "256", "--volumes", "4", "--passes", "8"];
+    let server = server!(Server::start_with(&options));
+    let folder = Folder::new();
+    let follower = Follower::start(&server, &folder);
+    let clients: Vec<serde_json::Value> = serde_json::from_str(&server.done(&["clients", "--json"])).unwrap();
+    let own = clients.iter().filter(|client| client["process"] == follower.child.id());
+    let own: Vec<u64> = own.map(|client| client["client"].as_u64().unwrap()).collect();
+    assert_eq!(own.len(), 5);
+    // The first one waits for the server while nothing changes.
+    server.done(&["kick", &own.iter().min().unwrap().to_string()]);
+    follower.wait_until_it_says("the server is back");
+    folder.file("later", "");
+    soon("a later file", || same(&server, &folder));
+}
+
 /// Starts an import as another user, which can't read everything. If that isn't possible, prints why and returns `None`.
 fn follower_as_nobody(server: &Server, refuser: &Refuser, folder: &Folder) -> Option<Follower> {
     for path in [server.socket().parent().unwrap(), &folder.0] {
