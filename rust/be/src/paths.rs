@@ -55,7 +55,7 @@ pub fn nodes_of(client: &mut Client, places: &[Place]) -> Result<Vec<u64>, Failu
 fn node_of(client: &mut Client, path: &Path) -> Result<u64, Failure> {
     let failed = |error| Failure::File(path.into(), error);
     let about = fs::symlink_metadata(path).map_err(failed)?;
-    let whole = whole_path(path).map_err(failed)?;
+    let whole = whole_path(path, &about).map_err(failed)?;
     let name = bestore_types::escape(&crate::import::mail::cut(&name_in(&whole).to_string_lossy()));
     let identity = Stat::from(&about).identity;
     let text = format!("name==\"{name}\" && {STAT}==\"{identity}:*\"");
@@ -79,10 +79,11 @@ fn node_of(client: &mut Client, path: &Path) -> Result<u64, Failure> {
     })
 }
 
-/// Returns the absolute path, with symlinks to folders resolved. If the file itself is a symlink, it isn't followed.
-fn whole_path(path: &Path) -> std::io::Result<PathBuf> {
+/// Returns the absolute path of a file, of which the system says this, with symlinks to folders resolved. If the file itself is a symlink,
+/// it isn't followed. With a slash after it, such a path stands for a folder.
+fn whole_path(path: &Path, about: &fs::Metadata) -> std::io::Result<PathBuf> {
     match (path.parent(), path.file_name()) {
-        (Some(folder), Some(name)) => {
+        (Some(folder), Some(name)) if !about.is_dir() => {
             let here = folder.as_os_str().is_empty();
             Ok(fs::canonicalize(if here { Path::new(".") } else { folder })?.join(name))
         }

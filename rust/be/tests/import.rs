@@ -269,6 +269,10 @@ fn the_tools_take_paths() {
     }
     assert_eq!(here(&["rmattr", "mark", "x.txt"]).status, 0);
     assert!(here(&["listattr", "x.txt"]).out.contains("\"size\""));
+    // A slash after a symlink stands for its folder.
+    symlink("b", folder.path("a/link")).unwrap();
+    assert_eq!(here(&["addattr", "mark", "y", "link/"]).error, "");
+    assert_eq!(server.value("mark", &folder.path("a/b")), "y");
     let said = here(&["catattr", "mark", "nowhere"]);
     assert_eq!(said.error, "be: nowhere: No such file or directory (os error 2)\n");
     assert_eq!(server.be(&["import", &folder.word("z")]).status, 1);
