@@ -518,6 +518,28 @@ fn a_file_that_may_not_be_read_any_more_keeps_its_node() {
 }
 
 #[test]
+fn files_keep_their_nodes_if_their_folder_is_moved_when_it_may_not_be_read_any_more() {
+    let (server, refuser, folder) = server!(Refuser::with_server());
+    folder.folder("hidden/inner");
+    folder.file("hidden/inner/x", "");
+    let follower = server!(follower_as_nobody(&server, &refuser, &folder));
+    server.done(&["addattr", "mark", "x", &folder.word("hidden/inner/x")]);
+    let mode =
+        |name: &str, mode: u32| fs::set_permissions(folder.path(name), fs::Permissions::from_mode(mode)).unwrap();
+    mode("hidden", 0o700);
+    folder.rename("hidden", "moved");
+    follower.wait_until_it_says("moved: Permission denied");
+    // Missing files would lose their nodes when they are missed for the second time.
+    folder.file("later", "");
+    soon("a later file", || server.paths("name==later").len() == 1);
+    assert_eq!(server.value("mark", &folder.path("moved/inner/x")), "x");
+    mode("moved", 0o755);
+    folder.file("moved/inner/y", "");
+    soon("a folder that may be read again", || same(&server, &folder));
+    assert_eq!(server.value("mark", &folder.path("moved/inner/x")), "x");
+}
+
+#[test]
 fn a_file_system_that_is_mounted_later_is_not_read() {
     let (server, folder) = server!(Folder::with_server());
     let follower = Follower::run(server.command(&["import", "--follow", "-x", "--json", &folder.all()]));
