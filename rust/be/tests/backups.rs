@@ -106,7 +106,10 @@ fn what_is_there_is_not_replaced() {
     fs::write(&path, "mine").unwrap();
     let before = names();
     refused(&server.be(&["backup", text(&path)]), "exists, and won't be overwritten");
-    refused(&server.be(&["backup", "no/such/folder"]), "No such file");
+    refused(
+        &server.be(&["backup", "no/such/folder"]),
+        "be: no/such/folder: No such file",
+    );
     assert_eq!(fs::read_to_string(&path).unwrap(), "mine");
     assert_eq!(names(), before);
 }

@@ -125,7 +125,7 @@ impl Backup {
         let beside = Beside::new(&path, volumes > 1);
         if beside.is_folder {
             let made = DirBuilder::new().mode(0o700).create(&beside.path);
-            made.map_err(|error| Error::folder(&beside.path, error))?;
+            made.map_err(|error| Error::folder(&path, error))?;
         }
         let part = |volume| {
             let file = File::begin_state(&beside.file(volume), &path)?;
