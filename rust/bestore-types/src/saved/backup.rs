@@ -41,6 +41,9 @@ struct Part {
     batches: u64,
 }
 
+/// How many characters of the backup's name its hidden name contains. A character has up to four bytes, and a name up to 255.
+const NAME: usize = 50;
+
 /// The file or folder that is written next to the path. It is removed on drop.
 #[derive(Debug)]
 struct Beside {
@@ -63,6 +66,7 @@ impl Beside {
     fn new(path: &Path, is_folder: bool) -> Self {
         static LAST: AtomicU32 = AtomicU32::new(0);
         let name = path.file_name().unwrap_or_default().to_string_lossy();
+        let name: String = name.chars().take(NAME).collect();
         loop {
             let number = LAST.fetch_add(1, Ordering::Relaxed);
             let path = path.with_file_name(format!(".{name}.{}-{number}.part", std::process::id()));
@@ -173,6 +177,16 @@ impl Backup {
 #[cfg(test)]
 mod tests {
     use super::*;
+
+    #[test]
+    fn a_backup_may_have_a_long_name() {
+        let folder = std::env::temp_dir().join(format!("bestore-long-{}", std::process::id()));
+        fs::create_dir(&folder).unwrap();
+        for name in ["n".repeat(255), "é".repeat(127), "漢".repeat(85)] {
+            drop(Backup::create(folder.join(name), 1).unwrap());
+        }
+        fs::remove_dir(folder).unwrap();
+    }
 
     #[test]
     fn what_a_killed_process_with_this_number_has_left_does_not_hinder() {
