@@ -79,8 +79,8 @@ fn node_of(client: &mut Client, path: &Path) -> Result<u64, Failure> {
     })
 }
 
-/// Returns the absolute path of a file, of which the system says this, with symlinks to folders resolved. If the file itself is a symlink,
-/// it isn't followed. With a slash after it, such a path stands for a folder.
+/// Returns the absolute path, with symlinks to folders resolved. If the file itself is a symlink, it isn't followed, unless the path has a
+/// slash at its end. `about` is what the system reports about the path, so it is a folder then.
 fn whole_path(path: &Path, about: &fs::Metadata) -> std::io::Result<PathBuf> {
     match (path.parent(), path.file_name()) {
         (Some(folder), Some(name)) if !about.is_dir() => {

@@ -147,7 +147,7 @@ mod tests {
         ] {
             assert_eq!(decoded(text), text);
         }
-        let endless = "=?utf-8?b?x".repeat(23_000);
+        let endless = "=?utf-8?b?x".repeat(5_000);
         assert_eq!(decoded(&endless), endless);
         assert_eq!(decoded("=?=?utf-8?q?a?="), "=?a");
         assert_eq!(text_of(b"\xc3\xbc"), "ü");
