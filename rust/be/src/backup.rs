@@ -3,16 +3,63 @@
 use crate::command_line::Backup as Line;
 use crate::failure::Failure;
 use crate::output::Output;
+use crate::signals::Signals;
 use crate::state::{each_batch, volumes, Shown};
 use bestore_client::wire::{self, Command, Hello, Nothing};
 use bestore_client::{Client, Error};
-use bestore_types::saved::Backup;
+use bestore_types::saved::{self, About, Backup};
 use bestore_types::Batch;
+use std::path::Path;
+use std::sync::{Arc, Mutex, MutexGuard, PoisonError};
+use std::thread;
+
+/// A backup that isn't complete yet. It is removed if this is dropped, or if a signal ends the program.
+struct Unfinished(Arc<Mutex<Option<Backup>>>);
+
+impl Drop for Unfinished {
+    fn drop(&mut self) {
+        // The thread that waits for a signal shares the backup, which would otherwise stay.
+        drop(self.lock().take());
+    }
+}
+
+impl Unfinished {
+    fn create(file: &Path, volumes: u32) -> Result<Self, saved::Error> {
+        let backup = Self(Arc::default());
+        let of_thread = Self(Arc::clone(&backup.0));
+        let signals = Signals::hold();
+        thread::spawn(move || {
+            let signal = signals.wait();
+            // As long as this thread has the lock, nothing is added to the backup, and it isn't completed.
+            let mut backup = of_thread.lock();
+            drop(backup.take());
+            signals.end(signal)
+        });
+        let mut created = backup.lock();
+        *created = Some(Backup::create(file, volumes)?);
+        drop(created);
+        Ok(backup)
+    }
+
+    fn lock(&self) -> MutexGuard<'_, Option<Backup>> {
+        self.0.lock().unwrap_or_else(PoisonError::into_inner)
+    }
+
+    fn add(&self, volume: u32, batch: &Batch) -> Result<(), saved::Error> {
+        self.lock().as_mut().expect("it has been created").add(volume, batch)
+    }
+
+    /// Completes the backup. If a signal arrives meanwhile, the program ends afterwards.
+    fn finish(self, about: &[About]) -> Result<(), saved::Error> {
+        let mut backup = self.lock();
+        backup.take().expect("it has been created").finish(about)
+    }
+}
 
 /// Writes a snapshot to a file.
 pub fn make(client: &mut Client, line: &Line, output: &mut Output) -> Result<(), Failure> {
     let hello = client.hello()?;
-    let mut backup = Backup::create(&line.file, hello.volumes)?;
+    let backup = Unfinished::create(&line.file, hello.volumes)?;
     let snapshot = client.collect()?;
     let (mut about, mut count) = (Vec::new(), 0);
     for volume in volumes(&hello) {
@@ -33,7 +80,7 @@ fn to_volume(batch: &Batch, volume: Option<u32>) -> Result<Batch, Failure> {
     match volume {
         None => Ok(batch.clone()),
         Some(_) => {
-            let within = batch.to_volume(volume).map_err(bestore_types::saved::Error::Store)?;
+            let within = batch.to_volume(volume).map_err(saved::Error::Store)?;
             Ok(within.1)
         }
     }

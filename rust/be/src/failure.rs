@@ -37,6 +37,9 @@ pub enum Failure {
     /// A file has no node.
     #[error("{}: the file has no node\n  be import FOLDER makes one for each file in a folder", shown(.0))]
     NotImported(PathBuf),
+    /// A file has no node, because its name is too long for one.
+    #[error("{}: the file has no node, because its name has more than 255 bytes", shown(.0))]
+    LongName(PathBuf),
     /// The path is too long for an imported folder.
     #[error("{}: a path can have up to 255 bytes, and this one has more", shown(.0))]
     LongPath(PathBuf),

@@ -19,6 +19,7 @@ mod query;
 mod query_text;
 mod restore;
 mod server;
+mod signals;
 mod state;
 mod status;
 mod text;

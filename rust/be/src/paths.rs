@@ -2,7 +2,7 @@
 
 use crate::failure::Failure;
 use crate::found::Row;
-use crate::import::content::{name_in, NAME, PARENT, ROOT, STAT};
+use crate::import::content::{name_in, NAME, PARENT, ROOT, STAT, VALUE};
 use crate::import::stat::Stat;
 use crate::server::{pinned, rows_of};
 use bestore_client::wire::{Command, Json, Nodes, NodesFrom};
@@ -55,30 +55,35 @@ pub fn nodes_of(client: &mut Client, places: &[Place]) -> Result<Vec<u64>, Failu
 fn node_of(client: &mut Client, path: &Path) -> Result<u64, Failure> {
     let failed = |error| Failure::File(path.into(), error);
     let about = fs::symlink_metadata(path).map_err(failed)?;
-    let whole = whole_path(path).map_err(failed)?;
+    let whole = whole_path(path, &about).map_err(failed)?;
     let name = bestore_types::escape(&crate::import::mail::cut(&name_in(&whole).to_string_lossy()));
     let identity = Stat::from(&about).identity;
     let text = format!("name==\"{name}\" && {STAT}==\"{identity}:*\"");
     let found = pinned(client, |client| match client.query(&text) {
         // If there is no index of names, nothing was imported.
-        Err(error) if error.is(ErrorName::NotCovered) => Ok(Vec::new()),
+        Err(error) if error.is(ErrorName::NotCovered) => Ok(None),
         answer => {
             let nodes = answer?;
             let mut paths = Paths::default();
-            let same = nodes.iter().find_map(|node| match paths.of(client, *node) {
-                Ok(Some(path)) if path == whole => Some(*node),
-                _ => None,
-            });
-            Ok(same.or_else(|| nodes.first().copied()).into_iter().collect())
+            for node in &nodes {
+                if paths.of(client, *node)?.as_ref() == Some(&whole) {
+                    return Ok(Some(*node));
+                }
+            }
+            Ok(nodes.first().copied())
         }
     })?;
-    found.first().copied().ok_or_else(|| Failure::NotImported(path.into()))
+    found.ok_or_else(|| match name_in(&whole).len() {
+        0..=VALUE => Failure::NotImported(path.into()),
+        _ => Failure::LongName(path.into()),
+    })
 }
 
-/// Returns the absolute path, with symlinks to folders resolved. If the file itself is a symlink, it isn't followed.
-fn whole_path(path: &Path) -> std::io::Result<PathBuf> {
+/// Returns the absolute path, with symlinks to folders resolved. If the file itself is a symlink, it isn't followed, unless the path has a
+/// slash at its end. `about` is what the system reports about the path, so it is a folder then.
+fn whole_path(path: &Path, about: &fs::Metadata) -> std::io::Result<PathBuf> {
     match (path.parent(), path.file_name()) {
-        (Some(folder), Some(name)) => {
+        (Some(folder), Some(name)) if !about.is_dir() => {
             let here = folder.as_os_str().is_empty();
             Ok(fs::canonicalize(if here { Path::new(".") } else { folder })?.join(name))
         }

@@ -1,6 +1,7 @@
 //! Tests of backing up a server even while others write, of restoring backups, and of the errors.
 
-use crate::common::{Said, Server};
+use crate::common::refuser::Refuser;
+use crate::common::{send_signal, Said, Server};
 use bestore::saved::Options;
 use bestore::{Batch, ShelfPass};
 use bestore_client::Client;
@@ -8,9 +9,13 @@ use rusqlite::Connection;
 use serde_json::Value;
 use std::fs;
 use std::os::unix::fs::PermissionsExt;
+use std::os::unix::process::ExitStatusExt;
 use std::path::{Path, PathBuf};
+use std::process::ExitStatus;
 use std::sync::atomic::{AtomicBool, AtomicU64, Ordering::SeqCst};
+use std::sync::mpsc::channel;
 use std::thread;
+use std::time::Duration;
 
 /// The number of clients that write, each to its own node.
 const WRITERS: u64 = 4;
@@ -101,9 +106,72 @@ fn what_is_there_is_not_replaced() {
     fs::write(&path, "mine").unwrap();
     let before = names();
     refused(&server.be(&["backup", text(&path)]), "exists, and won't be overwritten");
-    refused(&server.be(&["backup", "no/such/folder"]), "No such file");
+    refused(
+        &server.be(&["backup", "no/such/folder"]),
+        "be: no/such/folder: No such file",
+    );
     assert_eq!(fs::read_to_string(&path).unwrap(), "mine");
     assert_eq!(names(), before);
+}
+
+/// Returns how many unfinished backups are in the server's folder.
+fn unfinished(server: &Server) -> usize {
+    let names = fs::read_dir(server.socket().parent().unwrap()).unwrap();
+    let names = names.map(|entry| entry.unwrap().file_name());
+    names.filter(|name| name.to_string_lossy().ends_with(".part")).count()
+}
+
+/// Begins a backup, and sends the tool a signal while it waits for a part of the snapshot. Returns how the tool has ended.
+fn interrupted(server: &Server, path: &Path, signal: &str) -> ExitStatus {
+    let refuser = Refuser::start(server);
+    let (asks, asked) = channel();
+    let (ends, ended) = channel::<()>();
+    refuser.before(r#""state":"#, move || {
+        asks.send(()).unwrap();
+        let _ = ended.recv();
+    });
+    let mut child = refuser.command(server, &["backup", text(path)]).spawn().unwrap();
+    asked.recv_timeout(Duration::from_secs(20)).unwrap();
+    assert_eq!(unfinished(server), 1);
+    send_signal(&child, signal);
+    let status = child.wait().unwrap();
+    drop(ends);
+    status
+}
+
+#[test]
+fn a_backup_that_a_signal_interrupts_is_removed() {
+    for options in [&["--pages", "256"][..], &["--pages", "256", "--volumes", "2"]] {
+        let server = server!(Server::start_with(options));
+        let path = file(&server, "backup");
+        let status = interrupted(&server, &path, "-TERM");
+        assert_eq!((status.signal(), unfinished(&server)), (Some(libc::SIGTERM), 0));
+        assert!(!path.exists());
+        back_up(&server, &path);
+    }
+}
+
+#[test]
+fn a_backup_that_fails_is_removed() {
+    let server = server!(Server::with_three());
+    let path = file(&server, "backup");
+    let refuser = Refuser::start(&server);
+    let other = path.clone();
+    refuser.before(r#""state":"#, move || fs::write(other, "mine").unwrap());
+    let said = refuser.be(&server, &["backup", text(&path)]);
+    refused(&said, "exists, and won't be overwritten");
+    assert_eq!((unfinished(&server), fs::read(&path).unwrap()), (0, b"mine".to_vec()));
+}
+
+/// What a killed backup has written stays, and doesn't hinder the next one.
+#[test]
+fn a_backup_that_was_killed_is_made_again() {
+    let server = server!(Server::with_three());
+    let path = file(&server, "backup");
+    let status = interrupted(&server, &path, "-KILL");
+    assert_eq!((status.signal(), unfinished(&server)), (Some(libc::SIGKILL), 1));
+    back_up(&server, &path);
+    assert_eq!(unfinished(&server), 1);
 }
 
 #[test]

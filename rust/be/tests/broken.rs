@@ -1,5 +1,6 @@
 //! Tests of servers that break the protocol, and of output that can't be written.
 
+use crate::common::files::Folder;
 use crate::common::{Said, Server, BE};
 use std::fs::OpenOptions;
 use std::io::{Read, Write};
@@ -111,23 +112,43 @@ fn a_place_outside_the_query_is_shown_at_its_end() {
     assert_eq!((said.status, said.error.as_str()), (1, "be: wrong\n  a==1\n      ^\n"));
 }
 
+/// Returns the first reply and these, which are the outcomes of the later requests.
+fn lines(replies: &[&str]) -> Vec<u8> {
+    let numbered = replies.iter().zip(2..);
+    let lines = numbered.map(|(reply, id)| format!("{{\"id\":{id},{reply}}}\n"));
+    format!("{HELLO}\n{}", lines.collect::<String>()).into_bytes()
+}
+
+/// The reply to a request to pin a snapshot, and the error if the server has taken it back.
+const PIN: &str = r#""ok":{"commit":1,"next":2}"#;
+const EXPIRED: &str = r#""error":{"name":"Expired","message":"taken back"}"#;
+
 #[test]
 fn a_snapshot_that_was_taken_back_is_followed_by_another() {
-    let pin = r#""ok":{"commit":1,"next":2}"#;
-    let expired = r#""error":{"name":"Expired","message":"taken back"}"#;
     let hits = r#""ok":{"commit":1,"count":1,"nodes":[1]}"#;
-    let lines = |replies: &[&str]| {
-        let numbered = replies.iter().zip(2..);
-        let lines = numbered.map(|(reply, id)| format!("{{\"id\":{id},{reply}}}\n"));
-        format!("{HELLO}\n{}", lines.collect::<String>()).into_bytes()
-    };
     let nothing = r#""ok":{}"#;
     // The last reply is for the request about the query's text.
-    let bytes = lines(&[pin, expired, nothing, pin, hits, nothing, r#""ok":{"comparisons":[]}"#]);
+    let bytes = lines(&[PIN, EXPIRED, nothing, PIN, hits, nothing, r#""ok":{"comparisons":[]}"#]);
     let said = told(201, bytes, &["query", "a==1"]);
     assert_eq!((said.status, said.out.as_str(), said.error.as_str()), (0, "1\n", ""));
-    let said = told(202, lines(&[pin, expired, nothing].repeat(9)), &["query", "a==1"]);
+    let said = told(202, lines(&[PIN, EXPIRED, nothing].repeat(9)), &["query", "a==1"]);
     assert_eq!((said.status, said.error.as_str()), (1, "be: taken back\n"));
+}
+
+#[test]
+fn a_file_of_two_nodes_is_found_though_a_snapshot_was_taken_back() {
+    let folder = Folder::new();
+    folder.file("x", "");
+    let path = folder.word("x");
+    let nodes = r#""ok":{"commit":1,"count":2,"nodes":[7,8]}"#;
+    let at = |path: &str| format!(r#""ok":{{"commit":1,"attributes":{{"name":"x","FILE:root":"{path}"}}}}"#);
+    let (other, own) = (at("/other"), at(&path));
+    let (nothing, value) = (r#""ok":{}"#, r#""ok":{"commit":1,"value":"y"}"#);
+    let first = [PIN, nodes, EXPIRED, nothing];
+    let second = [PIN, nodes, &other, &own, nothing];
+    let bytes = lines(&[&first[..], &second, &[PIN, value, nothing]].concat());
+    let said = told(203, bytes, &["catattr", "mark", &path]);
+    assert_eq!((said.status, said.out.as_str()), (0, "8 : string : y\n"), "{said:?}");
 }
 
 #[test]

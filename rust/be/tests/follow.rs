@@ -2,7 +2,7 @@
 
 use crate::common::files::{Folder, Mount};
 use crate::common::refuser::Refuser;
-use crate::common::{Said, Server, NOBODY};
+use crate::common::{send_signal, Said, Server, NOBODY};
 use std::fs;
 use std::io::{BufRead, BufReader, Read, Write};
 use std::os::unix::fs::PermissionsExt;
@@ -54,14 +54,6 @@ impl Follower {
         let mut said = String::new();
         self.out.read_to_string(&mut said).unwrap();
         said
-    }
-
-    fn signal(&self, signal: &str) {
-        let sent = Command::new("kill")
-            .arg(signal)
-            .arg(self.child.id().to_string())
-            .status();
-        assert!(sent.unwrap().success());
     }
 
     /// Waits until the import ends of its own accord.
@@ -152,6 +144,22 @@ fn what_changes_is_followed() {
     soon("removed folders", || same(&server, &folder));
 }
 
+/// Otherwise each write would change the store's own files, which would cause the next write.
+#[test]
+fn a_store_that_is_kept_in_the_followed_folder_comes_to_rest() {
+    let folder = Folder::new();
+    let kept = folder.word("own.bestore");
+    let server = server!(Server::start_with(&["--pages", "1024", "--keep", &kept]));
+    let _follower = Follower::start(&server, &folder);
+    folder.file("x", "");
+    soon("a new file", || server.paths("name==x").len() == 1);
+    thread::sleep(Duration::from_secs(1));
+    let entries = server.entries();
+    thread::sleep(Duration::from_secs(1));
+    assert_eq!(server.entries(), entries);
+    assert_eq!(server.paths("name==\"own*\"").len(), 0);
+}
+
 #[test]
 fn a_followed_file_keeps_its_node_when_an_editor_saves() {
     let (server, folder) = server!(Folder::with_server());
@@ -230,7 +238,7 @@ fn events_that_were_lost_are_made_good() {
     folder.file("a", "");
     folder.file("b", "");
     let follower = Follower::start(&server, &folder);
-    follower.signal("-STOP");
+    send_signal(&follower.child, "-STOP");
     // Alternate between two events, because the kernel merges identical ones.
     for number in 0..most {
         let mode = fs::Permissions::from_mode(0o600 + (number / 2 % 2) as u32 * 0o44);
@@ -239,7 +247,7 @@ fn events_that_were_lost_are_made_good() {
     folder.folder("lost/too");
     folder.file("lost/too/file", "");
     folder.rename("a", "c");
-    follower.signal("-CONT");
+    send_signal(&follower.child, "-CONT");
     soon("lost events", || same(&server, &folder));
     folder.file("lost/too/later", "");
     soon("a file after them", || same(&server, &folder));
@@ -348,8 +356,7 @@ fn what_is_refused_for_a_moment_is_written_later() {
     let (server, refuser, folder) = server!(Refuser::with_server());
     folder.file("changed", "x");
     folder.file("removed", "");
-    let mut command = server.command(&["import", "--follow", "--json", "--verbose", &folder.all()]);
-    command.env("BESTORE_SOCKET", refuser.socket());
+    let command = refuser.command(&server, &["import", "--follow", "--json", "--verbose", &folder.all()]);
     let follower = Follower::run(command);
     refuser.refuse("[");
     folder.file("changed", "more of it");
@@ -374,8 +381,7 @@ fn what_is_refused_for_a_moment_is_written_later() {
 fn a_node_that_is_not_removed_goes_later_though_its_file_is_there_again() {
     let (server, refuser, folder) = server!(Refuser::with_server());
     let file = folder.file("x", "");
-    let mut command = server.command(&["import", "--follow", "--json", &folder.all()]);
-    command.env("BESTORE_SOCKET", refuser.socket());
+    let command = refuser.command(&server, &["import", "--follow", "--json", &folder.all()]);
     let _follower = Follower::run(command);
     let count = |query: &str| server.done(&["query", "--count", query]);
     refuser.refuse(r#"["remove","#);
@@ -420,8 +426,7 @@ fn a_file_is_read_after_each_change_even_within_one_tick_of_the_clock() {
 fn a_new_server_that_refuses_indices_for_a_moment_is_caught_up_with() {
     let (mut server, refuser, folder) = server!(Refuser::with_server());
     folder.file("x", "");
-    let mut command = server.command(&["import", "--follow", "--json", &folder.all()]);
-    command.env("BESTORE_SOCKET", refuser.socket());
+    let command = refuser.command(&server, &["import", "--follow", "--json", &folder.all()]);
     let follower = Follower::run(command);
     refuser.refuse(r#"["index","#);
     server.end();
@@ -434,6 +439,24 @@ fn a_new_server_that_refuses_indices_for_a_moment_is_caught_up_with() {
     soon("what was refused", || same(&server, &folder));
 }
 
+/// An import of four volumes has five connections, so the server has no places for five more.
+#[test]
+fn a_follower_that_loses_one_connection_goes_on_though_the_server_has_few_places() {
+    let options = ["--pages", "256", "--volumes", "4", "--passes", "8"];
+    let server = server!(Server::start_with(&options));
+    let folder = Folder::new();
+    let follower = Follower::start(&server, &folder);
+    let clients: Vec<serde_json::Value> = serde_json::from_str(&server.done(&["clients", "--json"])).unwrap();
+    let own = clients.iter().filter(|client| client["process"] == follower.child.id());
+    let own: Vec<u64> = own.map(|client| client["client"].as_u64().unwrap()).collect();
+    assert_eq!(own.len(), 5);
+    // The first one waits for the server while nothing changes.
+    server.done(&["kick", &own.iter().min().unwrap().to_string()]);
+    follower.wait_until_it_says("the server is back");
+    folder.file("later", "");
+    soon("a later file", || same(&server, &folder));
+}
+
 /// Starts an import as another user, which can't read everything. If that isn't possible, prints why and returns `None`.
 fn follower_as_nobody(server: &Server, refuser: &Refuser, folder: &Folder) -> Option<Follower> {
     for path in [server.socket().parent().unwrap(), &folder.0] {
@@ -441,8 +464,8 @@ fn follower_as_nobody(server: &Server, refuser: &Refuser, folder: &Folder) -> Op
     }
     fs::set_permissions(refuser.socket(), fs::Permissions::from_mode(0o777)).unwrap();
     let as_nobody = |words: &[&str]| {
-        let mut command = server.command(words);
-        command.env("BESTORE_SOCKET", refuser.socket()).uid(NOBODY).gid(NOBODY);
+        let mut command = refuser.command(server, words);
+        command.uid(NOBODY).gid(NOBODY);
         command
     };
     match as_nobody(&["status"]).output() {
@@ -495,11 +518,33 @@ fn a_file_that_may_not_be_read_any_more_keeps_its_node() {
 }
 
 #[test]
+fn files_keep_their_nodes_if_their_folder_is_moved_when_it_may_not_be_read_any_more() {
+    let (server, refuser, folder) = server!(Refuser::with_server());
+    folder.folder("hidden/inner");
+    folder.file("hidden/inner/x", "");
+    let follower = server!(follower_as_nobody(&server, &refuser, &folder));
+    server.done(&["addattr", "mark", "x", &folder.word("hidden/inner/x")]);
+    let mode =
+        |name: &str, mode: u32| fs::set_permissions(folder.path(name), fs::Permissions::from_mode(mode)).unwrap();
+    mode("hidden", 0o700);
+    folder.rename("hidden", "moved");
+    follower.wait_until_it_says("moved: Permission denied");
+    // Missing files would lose their nodes when they are missed for the second time.
+    folder.file("later", "");
+    soon("a later file", || server.paths("name==later").len() == 1);
+    assert_eq!(server.value("mark", &folder.path("moved/inner/x")), "x");
+    mode("moved", 0o755);
+    folder.file("moved/inner/y", "");
+    soon("a folder that may be read again", || same(&server, &folder));
+    assert_eq!(server.value("mark", &folder.path("moved/inner/x")), "x");
+}
+
+#[test]
 fn a_file_system_that_is_mounted_later_is_not_read() {
     let (server, folder) = server!(Folder::with_server());
     let follower = Follower::run(server.command(&["import", "--follow", "-x", "--json", &folder.all()]));
     // The folder is created and mounted before it can be read.
-    follower.signal("-STOP");
+    send_signal(&follower.child, "-STOP");
     let disk = folder.folder("disk");
     let _mount = match Mount::over(&disk) {
         Some(mount) => mount,
@@ -507,7 +552,7 @@ fn a_file_system_that_is_mounted_later_is_not_read() {
     };
     folder.folder("disk/inner");
     folder.file("disk/file", "");
-    follower.signal("-CONT");
+    send_signal(&follower.child, "-CONT");
     soon("the folder", || server.paths("name==disk").len() == 1);
     folder.file("later", "");
     soon("a later file", || server.paths("name==later").len() == 1);

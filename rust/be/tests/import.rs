@@ -1,6 +1,6 @@
 //! Tests of how `import` turns files into nodes, and of the tools that take their paths.
 
-use crate::common::files::{name_of_bytes, small, Folder};
+use crate::common::files::{name_of_bytes, Folder};
 use crate::common::{Said, Server};
 use std::collections::BTreeSet;
 use std::fs::{self, File};
@@ -18,8 +18,7 @@ fn fifo(path: &PathBuf) {
 
 #[test]
 fn each_file_is_a_node_with_the_attributes_of_be() {
-    let server = server!(Server::start());
-    let folder = small();
+    let (server, folder) = server!(Folder::small_with_server());
     assert_eq!(server.import(&folder), [6, 0, 0, 0]);
     assert_eq!(server.paths("name==\"*\""), folder.paths());
     let file = folder.path("a/x.txt");
@@ -44,9 +43,14 @@ fn each_file_is_a_node_with_the_attributes_of_be() {
 
 #[test]
 fn files_of_kept_stores_are_left_out() {
-    let server = server!(Server::start());
-    let folder = small();
-    for name in ["0.bestore", "0.bestore-wal", "a/s.bestore-shm", "a/s.bestore-journal"] {
+    let (server, folder) = server!(Folder::small_with_server());
+    for name in [
+        "0.bestore",
+        "0.bestore-last",
+        "0.bestore-wal",
+        "a/s.bestore-shm",
+        "a/s.bestore-journal",
+    ] {
         folder.file(name, "");
     }
     folder.folder("my.bestores");
@@ -56,9 +60,7 @@ fn files_of_kept_stores_are_left_out() {
 
 #[test]
 fn a_second_import_writes_what_has_changed_alone() {
-    let server = server!(Server::start());
-    let folder = small();
-    server.import(&folder);
+    let (server, folder) = server!(Folder::imported());
     let entries = server.entries();
     assert_eq!(server.import(&folder), [0; 4]);
     assert_eq!(server.entries(), entries);
@@ -80,8 +82,7 @@ fn a_second_import_writes_what_has_changed_alone() {
 
 #[test]
 fn two_names_of_one_file_are_two_nodes() {
-    let server = server!(Server::start());
-    let folder = small();
+    let (server, folder) = server!(Folder::small_with_server());
     fs::hard_link(folder.path("z"), folder.path("a/z")).unwrap();
     fs::hard_link(folder.path("z"), folder.path("y")).unwrap();
     server.import(&folder);
@@ -113,8 +114,7 @@ const NAMES: [&[u8]; 10] = [
 
 #[test]
 fn names_and_files_of_all_forms_are_imported() {
-    let server = server!(Server::start());
-    let folder = small();
+    let (server, folder) = server!(Folder::small_with_server());
     for name in NAMES {
         File::create(folder.path(name_of_bytes(name))).unwrap();
     }
@@ -149,11 +149,13 @@ fn names_and_files_of_all_forms_are_imported() {
 
 #[test]
 fn what_cannot_be_read_is_named_and_keeps_its_nodes() {
-    let server = server!(Server::start());
-    let folder = small();
+    let (server, folder) = server!(Folder::small_with_server());
     // Build a path of more than 4,096 bytes by moving each folder into the next.
     let name = |number: usize| format!("{number:0>250}");
     folder.folder(&name(0));
+    // The path of this file will be too long, but not that of its folder.
+    folder.folder(&name(1));
+    folder.file(&format!("{}/{}", name(1), name(99)), "");
     for number in 1..17 {
         folder.folder(&name(number));
         folder.rename(&name(number - 1), &format!("{}/{}", name(number), name(number - 1)));
@@ -161,6 +163,7 @@ fn what_cannot_be_read_is_named_and_keeps_its_nodes() {
     let said = server.be(&["import", "--json", &folder.all()]);
     let read: serde_json::Value = serde_json::from_str(&said.out).unwrap();
     assert_eq!((said.status, read["unread"].as_u64()), (1, Some(1)), "{said:?}");
+    assert_eq!(read["files"], 24, "{said:?}");
     assert!(said.error.ends_with("File name too long (os error 36)\n"), "{said:?}");
 
     let hidden = folder.folder("hidden");
@@ -183,8 +186,7 @@ fn what_cannot_be_read_is_named_and_keeps_its_nodes() {
 
 #[test]
 fn files_that_come_and_go_meanwhile_do_no_harm() {
-    let server = server!(Server::start());
-    let folder = small();
+    let (server, folder) = server!(Folder::small_with_server());
     let ended = AtomicBool::new(false);
     thread::scope(|scope| {
         scope.spawn(|| {
@@ -211,8 +213,7 @@ fn files_that_come_and_go_meanwhile_do_no_harm() {
 
 #[test]
 fn files_that_become_folders_and_links_meanwhile_do_no_harm() {
-    let server = server!(Server::start());
-    let folder = small();
+    let (server, folder) = server!(Folder::small_with_server());
     let ended = AtomicBool::new(false);
     thread::scope(|scope| {
         scope.spawn(|| {
@@ -246,8 +247,7 @@ fn files_that_become_folders_and_links_meanwhile_do_no_harm() {
 
 #[test]
 fn the_tools_take_paths() {
-    let server = server!(Server::start());
-    let folder = small();
+    let (server, folder) = server!(Folder::small_with_server());
     let said = server.be(&["addattr", "mark", "x", &folder.word("z")]);
     assert_eq!(said.status, 1);
     assert!(
@@ -269,6 +269,10 @@ fn the_tools_take_paths() {
     }
     assert_eq!(here(&["rmattr", "mark", "x.txt"]).status, 0);
     assert!(here(&["listattr", "x.txt"]).out.contains("\"size\""));
+    // A slash after a symlink stands for its folder.
+    symlink("b", folder.path("a/link")).unwrap();
+    assert_eq!(here(&["addattr", "mark", "y", "link/"]).error, "");
+    assert_eq!(server.value("mark", &folder.path("a/b")), "y");
     let said = here(&["catattr", "mark", "nowhere"]);
     assert_eq!(said.error, "be: nowhere: No such file or directory (os error 2)\n");
     assert_eq!(server.be(&["import", &folder.word("z")]).status, 1);

@@ -2,7 +2,7 @@
 
 use crate::common::files::{counts, node_of, small, Folder, Mount};
 use crate::common::refuser::Refuser;
-use crate::common::{Said, Server};
+use crate::common::Server;
 use bestore_client::Client;
 use std::collections::BTreeSet;
 use std::fs;
@@ -12,9 +12,7 @@ use std::time::Duration;
 
 #[test]
 fn what_a_user_has_set_stays_when_a_file_is_renamed_or_moved() {
-    let server = server!(Server::start());
-    let folder = small();
-    server.import(&folder);
+    let (server, folder) = server!(Folder::imported());
     let node = |name: &str| node_of(&server, &folder, name);
     let rating = ["addattr", "-t", "int32", "rating", "5"];
     server.done(&[&rating[..], &[&folder.word("a/x.txt"), &folder.word("a/b")]].concat());
@@ -31,9 +29,7 @@ fn what_a_user_has_set_stays_when_a_file_is_renamed_or_moved() {
 
 #[test]
 fn what_a_user_has_set_stays_when_an_editor_saves() {
-    let server = server!(Server::start());
-    let folder = small();
-    server.import(&folder);
+    let (server, folder) = server!(Folder::imported());
     let node = node_of(&server, &folder, "a/x.txt");
     server.done(&["addattr", "mark", "x", &folder.word("a/x.txt")]);
     let stays = || {
@@ -87,8 +83,7 @@ fn double(server: &Server, folder: &Folder, name: &str, is_own_first: bool) -> [
 
 #[test]
 fn of_two_nodes_at_one_path_one_is_removed() {
-    let server = server!(Server::start());
-    let folder = small();
+    let (server, folder) = server!(Folder::small_with_server());
     // Each case specifies on which of the two nodes a user has set an attribute, and which node is kept.
     let cases = [
         ([false, false], 0),
@@ -130,8 +125,7 @@ fn of_two_nodes_at_one_path_one_is_removed() {
 
 #[test]
 fn an_import_that_was_killed_is_completed_by_the_next() {
-    let server = server!(Server::start());
-    let folder = small();
+    let (server, folder) = server!(Folder::small_with_server());
     for number in 0..600 {
         folder.folder(&format!("d{}", number % 20));
         folder.file(&format!("d{}/f{number}", number % 20), "");
@@ -153,8 +147,7 @@ fn an_import_that_was_killed_is_completed_by_the_next() {
 
 #[test]
 fn a_folder_may_be_imported_inside_another() {
-    let server = server!(Server::start());
-    let folder = small();
+    let (server, folder) = server!(Folder::small_with_server());
     let inner = || counts(&server.done(&["import", "--json", &folder.word("a")]));
     assert_eq!(inner(), [4, 0, 0, 0]);
     server.done(&["addattr", "mark", "x", &folder.word("a/x.txt")]);
@@ -197,21 +190,17 @@ fn a_folder_that_was_moved_keeps_its_nodes_when_it_is_imported_from_there() {
 
 #[test]
 fn files_whose_folder_was_removed_from_the_store_are_known_again() {
-    let server = server!(Server::start());
-    let folder = small();
-    server.import(&folder);
+    let (server, folder) = server!(Folder::imported());
     server.done(&["addattr", "mark", "x", &folder.word("a/b/y.h")]);
     server.done(&["rmnode", &folder.word("a"), &folder.word("z")]);
     assert_eq!(server.import(&folder)[0], 2);
-    assert_eq!(server.value("mark", &folder.path("a/b/y.h")), "x");
     assert_eq!(server.paths("name==\"*\""), folder.paths());
+    assert_eq!(server.value("mark", &folder.path("a/b/y.h")), "x");
 }
 
 #[test]
 fn indices_that_were_removed_are_created_again_with_all_files() {
-    let server = server!(Server::start());
-    let folder = small();
-    server.import(&folder);
+    let (server, folder) = server!(Folder::imported());
     server.done(&["addattr", "mark", "x", &folder.word("z")]);
     for name in ["name", "size"] {
         server.done(&["rmindex", name]);
@@ -232,9 +221,7 @@ fn indices_that_were_removed_are_created_again_with_all_files() {
 
 #[test]
 fn a_node_that_was_being_created_when_an_import_was_cut_off_is_not_doubled() {
-    let server = server!(Server::start());
-    let folder = small();
-    server.import(&folder);
+    let (server, folder) = server!(Folder::imported());
     let node = node_of(&server, &folder, "a/x.txt");
     // This attribute is written last.
     server.done(&["rmattr", "FILE:stat", &node.to_string()]);
@@ -247,8 +234,7 @@ fn a_node_that_was_being_created_when_an_import_was_cut_off_is_not_doubled() {
 fn files_in_a_folder_that_was_refused_are_not_said_to_have_no_room() {
     let (server, refuser, folder) = server!(Refuser::with_server_and(small()));
     refuser.refuse_with(r#""name","a"]"#, r#""name":"NotSaved","message":"it can't be saved""#);
-    let mut command = server.command(&["import", &folder.all()]);
-    let said: Said = command.env("BESTORE_SOCKET", refuser.socket()).output().unwrap().into();
+    let said = refuser.be(&server, &["import", &folder.all()]);
     let (all, none) = (folder.all(), "the folder that contains it has no node");
     let error = format!(
         "be: {all}/a: it can't be saved\nbe: {all}/a/b: {none}\nbe: {all}/a/b/y.h: {none}\nbe: {all}/a/x.txt: {none}\n"
@@ -262,8 +248,7 @@ fn files_in_a_folder_that_was_refused_are_not_said_to_have_no_room() {
 
 #[test]
 fn files_on_a_disk_that_is_not_mounted_keep_their_nodes() {
-    let server = server!(Server::start());
-    let folder = small();
+    let (server, folder) = server!(Folder::small_with_server());
     let disk = folder.folder("disk");
     let mount = match Mount::over(&disk) {
         Some(mount) => mount,
@@ -297,9 +282,7 @@ fn files_on_a_disk_that_is_not_mounted_keep_their_nodes() {
 
 #[test]
 fn an_empty_folder_in_the_place_of_another_removes_nothing() {
-    let server = server!(Server::start());
-    let folder = small();
-    server.import(&folder);
+    let (server, folder) = server!(Folder::imported());
     let away = Folder::new();
     let kept = away.path("kept");
     fs::rename(&folder.0, &kept).unwrap();

@@ -45,46 +45,30 @@ fn mails_have_the_attributes_of_their_heads() {
     assert_eq!(server.value("MAIL:status", &folder.path("cur/5:2,S")), "Read");
 }
 
-/// Names that fit several types, with file contents and the right type for each.
-const CONTENTS: [(&str, &[u8], &str); 28] = [
-    (
-        "vorbis.ogg",
-        b"OggS________________________\x01vorbis",
-        "audio/x-vorbis+ogg",
-    ),
-    (
-        "theora.ogg",
-        b"OggS________________________\x80theora",
-        "video/x-theora+ogg",
-    ),
-    ("flac.ogg", b"OggS________________________\x7fFLAC", "audio/x-flac+ogg"),
-    ("other.OGG", b"OggS________________________other", "audio/ogg"),
+/// Names of Ogg files, with the beginnings of their streams and the right type for each.
+const OGG: [(&str, &[u8], &str); 7] = [
+    ("vorbis.ogg", b"\x01vorbis", "audio/x-vorbis+ogg"),
+    ("theora.ogg", b"\x80theora", "video/x-theora+ogg"),
+    ("flac.ogg", b"\x7fFLAC", "audio/x-flac+ogg"),
+    ("other.OGG", b"other", "audio/ogg"),
+    ("speex.oga", b"Speex  ", "audio/x-speex+ogg"),
+    ("vorbis.oga", b"\x01vorbis", "audio/x-vorbis+ogg"),
+    ("opus.opus", b"OpusHead", "audio/x-opus+ogg"),
+];
+
+/// Names of PGP files, with what their first lines say and the right type for each.
+const PGP: [(&str, &str, &str); 3] = [
+    ("message.pgp", "MESSAGE", "application/pgp-encrypted"),
+    ("keys.pgp", "PUBLIC KEY BLOCK", "application/pgp-keys"),
+    ("signature.pgp", "SIGNATURE", "application/pgp-signature"),
+];
+
+/// Other names that fit several types, with file contents and the right type for each.
+const OTHERS: [(&str, &[u8], &str); 18] = [
     ("empty.ogg", b"", "audio/ogg"),
-    ("speex.oga", b"OggS________________________Speex  ", "audio/x-speex+ogg"),
-    (
-        "vorbis.oga",
-        b"OggS________________________\x01vorbis",
-        "audio/x-vorbis+ogg",
-    ),
-    ("opus.opus", b"OggS________________________OpusHead", "audio/x-opus+ogg"),
     ("mpsub.sub", b"TITLE=a\nFORMAT=25\n", "text/x-mpsub"),
     ("subviewer.sub", b"[INFORMATION]\n", "text/x-subviewer"),
     ("microdvd.sub", b"{1}{2}a\n", "text/x-microdvd"),
-    (
-        "message.pgp",
-        b"-----BEGIN PGP MESSAGE-----\n",
-        "application/pgp-encrypted",
-    ),
-    (
-        "keys.pgp",
-        b"-----BEGIN PGP PUBLIC KEY BLOCK-----\n",
-        "application/pgp-keys",
-    ),
-    (
-        "signature.pgp",
-        b"-----BEGIN PGP SIGNATURE-----\n",
-        "application/pgp-signature",
-    ),
     ("disk.vhd", b"conectix\0\0", "application/x-vhd-disk"),
     ("fixed-disk.vhd", b"\xeb\x63\x90\0", "application/x-vhd-disk"),
     ("source.vhd", b"entity a is\n", "text/x-vhdl"),
@@ -131,11 +115,21 @@ fn the_content_decides_between_the_types_that_a_name_fits() {
         return;
     }
     let (server, folder) = server!(Folder::with_server());
-    for (name, content, _) in CONTENTS {
+    let mut mimes = Vec::new();
+    for (name, stream, mime) in OGG {
+        folder.file(name, [&b"OggS________________________"[..], stream].concat());
+        mimes.push((name, mime));
+    }
+    for (name, what, mime) in PGP {
+        folder.file(name, format!("-----BEGIN PGP {what}-----\n"));
+        mimes.push((name, mime));
+    }
+    for (name, content, mime) in OTHERS {
         folder.file(name, content);
+        mimes.push((name, mime));
     }
     server.import(&folder);
-    for (name, _, mime) in CONTENTS {
+    for (name, mime) in mimes {
         assert_eq!(server.value("BEOS:TYPE", &folder.path(name)), mime, "{name}");
     }
 }

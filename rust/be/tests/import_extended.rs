@@ -1,6 +1,6 @@
 //! Tests of how `import` reads and writes extended attributes.
 
-use crate::common::files::{counts, node_of, small, Folder};
+use crate::common::files::{can_set, counts, node_of, small, Folder};
 use crate::common::refuser::Refuser;
 use crate::common::{Said, Server};
 use std::collections::BTreeSet;
@@ -8,24 +8,11 @@ use std::fs::{self, OpenOptions};
 use std::io::Write;
 use std::path::Path;
 
-/// Sets an extended attribute. If the file system has none, prints that the test is skipped, and returns `false`.
-fn can_set(test: &str, file: &Path, name: &str, value: &str) -> bool {
-    let set = xattr::set(file, name, value.as_bytes());
-    if let Err(error) = &set {
-        println!("be, {test}: skipped, {error}");
-    }
-    set.is_ok()
-}
-
 #[test]
 fn extended_attributes_are_read_and_written() {
-    let server = server!(Server::start());
-    let folder = small();
+    let extended = Folder::with_extended("extended attributes", "a/x.txt", "user.rating", "5");
+    let (server, folder) = server!(extended);
     let file = folder.path("a/x.txt");
-    if let Err(error) = xattr::set(&file, "user.rating", b"5") {
-        println!("be, extended attributes: skipped, {error}");
-        return;
-    }
     xattr::set(&file, "user.raw", &[0, 255]).unwrap();
     xattr::set(&file, "user.name", b"not this").unwrap();
     xattr::set(&file, "user.long", &[b'a'; 300]).unwrap();
@@ -62,15 +49,10 @@ fn extended_attributes_are_read_and_written() {
 
 #[test]
 fn what_is_set_on_a_node_stays_until_the_files_extended_attributes_change() {
-    let server = server!(Server::start());
-    let folder = small();
+    let extended = Folder::with_extended("changes of extended attributes", "a/x.txt", "user.rating", "5");
+    let (server, folder) = server!(extended);
     let (file, word) = (folder.path("a/x.txt"), folder.word("a/x.txt"));
-    for (name, value) in [("user.rating", "5"), ("user.mark", "x")] {
-        if let Err(error) = xattr::set(&file, name, value.as_bytes()) {
-            println!("be, changes of extended attributes: skipped, {error}");
-            return;
-        }
-    }
+    xattr::set(&file, "user.mark", b"x").unwrap();
     server.done(&["mkindex", "-t", "int32", "rating"]);
     server.import(&folder);
     for (rating, option) in [("3", "--json"), ("2", "--xattr"), ("1", "--reread")] {
@@ -90,12 +72,10 @@ fn what_is_set_on_a_node_stays_until_the_files_extended_attributes_change() {
 
 #[test]
 fn a_file_of_as_many_attributes_as_a_node_holds_is_imported() {
-    let server = server!(Server::start());
-    let folder = small();
+    let (server, folder) = server!(Folder::small_with_server());
     let file = folder.path("z");
     for number in 0..70 {
-        if let Err(error) = xattr::set(&file, format!("user.a{number}"), b"1") {
-            println!("be, many extended attributes: skipped, {error}");
+        if !can_set("many extended attributes", &file, &format!("user.a{number}"), "1") {
             return;
         }
     }
@@ -120,8 +100,7 @@ fn a_file_of_which_a_part_was_refused_is_written_by_the_next_import() {
     // Use more operations than fit in a batch.
     let names = |letter: char| (0..35).map(move |number| format!("user.{letter}{number}"));
     for name in names('a') {
-        if let Err(error) = xattr::set(&file, name, b"1") {
-            println!("be, a file that is refused: skipped, {error}");
+        if !can_set("a file that is refused", &file, &name, "1") {
             return;
         }
     }
@@ -131,8 +110,7 @@ fn a_file_of_which_a_part_was_refused_is_written_by_the_next_import() {
         xattr::set(&file, new, b"2").unwrap();
     }
     refuser.refuse(r#"["unset","#);
-    let mut command = server.command(&["import", "--json", &folder.all()]);
-    let said: Said = command.env("BESTORE_SOCKET", refuser.socket()).output().unwrap().into();
+    let said = refuser.be(&server, &["import", "--json", &folder.all()]);
     assert_eq!((said.status, counts(&said.out)), (1, [0, 0, 0, 0]), "{said:?}");
     assert!(said.error.contains("x: no page is free"), "{said:?}");
     assert_eq!(server.import(&folder), [0, 1, 0, 0]);
@@ -146,12 +124,9 @@ fn a_file_of_which_a_part_was_refused_is_written_by_the_next_import() {
 
 #[test]
 fn an_index_that_is_created_later_gets_numbers_once_files_are_read_again() {
-    let server = server!(Server::start());
-    let folder = small();
+    let extended = Folder::with_extended("an index that is created later", "z", "user.rating", "5");
+    let (server, folder) = server!(extended);
     let (file, word) = (folder.path("z"), folder.word("z"));
-    if !can_set("an index that is created later", &file, "user.rating", "5") {
-        return;
-    }
     xattr::set(&file, "user.count", b"7").unwrap();
     server.import(&folder);
     assert_eq!(
@@ -179,12 +154,9 @@ fn replace(folder: &Folder, name: &str, content: &str) {
 
 #[test]
 fn attributes_stay_on_the_node_if_an_editor_drops_the_files_extended_attributes() {
-    let server = server!(Server::start());
-    let folder = small();
+    let test = "extended attributes that an editor drops";
+    let (server, folder) = server!(Folder::with_extended(test, "a/x.txt", "user.tag", "t"));
     let (file, word) = (folder.path("a/x.txt"), folder.word("a/x.txt"));
-    if !can_set("extended attributes that an editor drops", &file, "user.tag", "t") {
-        return;
-    }
     server.import(&folder);
     server.done(&["addattr", "mark", "x", &word]);
     server.done(&["import", "--xattr", &folder.all()]);
@@ -218,13 +190,9 @@ fn attributes_stay_on_the_node_if_an_editor_drops_the_files_extended_attributes(
 
 #[test]
 fn what_a_user_has_set_counts_for_more_than_copied_extended_attributes() {
-    let server = server!(Server::start());
-    let folder = small();
-    let copy = folder.file("a/.x.tmp", "saved");
-    let test = "copied extended attributes";
-    if !can_set(test, &folder.path("a/x.txt"), "user.tag", "t") || !can_set(test, &copy, "user.tag", "t") {
-        return;
-    }
+    let extended = Folder::with_extended("copied extended attributes", "a/x.txt", "user.tag", "t");
+    let (server, folder) = server!(extended);
+    xattr::set(folder.file("a/.x.tmp", "saved"), "user.tag", b"t").unwrap();
     // Both files have nodes when one is moved over the other.
     server.import(&folder);
     let node = node_of(&server, &folder, "a/x.txt");
@@ -254,8 +222,7 @@ fn what_a_user_has_set_stays_if_a_file_is_renamed_while_it_is_read() {
     folder.folder("new");
     let to = moved.clone();
     refuser.before(r#"["new"]"#, move || fs::rename(&file, to).unwrap());
-    let mut command = server.command(&["import", "--json", &folder.all()]);
-    let said: Said = command.env("BESTORE_SOCKET", refuser.socket()).output().unwrap().into();
+    let said = refuser.be(&server, &["import", "--json", &folder.all()]);
     assert!(refuser.has_acted());
     assert_eq!((said.status, said.error.as_str()), (0, ""));
     server.import(&folder);
@@ -277,8 +244,7 @@ fn import_meddled(test: &str, meddle: impl FnOnce(&Path) + Send + 'static) -> Op
     server.done(&["addattr", "mark", "x", &folder.word("z")]);
     // Nothing has changed, so the import requests attributes only in order to write them.
     refuser.before(r#""attributes":"#, move || meddle(&file));
-    let mut command = server.command(&["import", "--xattr", "--json", &folder.all()]);
-    let said = command.env("BESTORE_SOCKET", refuser.socket()).output().unwrap().into();
+    let said = refuser.be(&server, &["import", "--xattr", "--json", &folder.all()]);
     assert!(refuser.has_acted());
     Some((server, folder, said))
 }

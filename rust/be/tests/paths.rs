@@ -20,8 +20,7 @@ fn paths_come_from_the_snapshot_in_which_the_query_was_run() {
             let mut client = Client::connect(socket).unwrap();
             client.apply(Batch::new().set(renamed, "name", "other")).unwrap();
         });
-        let mut command = server.command(&["query", "--path", "name==\"*.txt\""]);
-        let said: Said = command.env("BESTORE_SOCKET", refuser.socket()).output().unwrap().into();
+        let said = refuser.be(&server, &["query", "--path", "name==\"*.txt\""]);
         assert!(refuser.has_acted(), "{words}");
         let (out, error) = (folder.word("a/x.txt") + "\n", String::new());
         assert_eq!(said, Said { status: 0, out, error }, "{words}");

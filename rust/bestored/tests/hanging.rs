@@ -22,9 +22,7 @@ fn compact(client: &mut Client) -> Result<(), Error> {
 #[test]
 fn a_server_that_cannot_read_the_state_tries_again_until_a_signal() {
     let database = present!(database());
-    let leader = Member::start(&database, "--log");
-    let mut client = leader.client();
-    client.apply(Batch::new().new_node()).unwrap();
+    let (_leader, mut client) = Member::leading(&database);
     compact(&mut client).unwrap();
     let proxy = Proxy::start(database.postgres.port);
     proxy.hang_at(Some("FROM bestore_state"));
@@ -76,9 +74,7 @@ fn a_state_that_cannot_be_written_keeps_no_client_waiting() {
 #[test]
 fn a_follower_behind_a_slow_network_gets_all_entries() {
     let database = present!(database());
-    let leader = Member::start(&database, "--log");
-    let mut client = leader.client();
-    client.apply(Batch::new().new_node()).unwrap();
+    let (_leader, mut client) = Member::leading(&database);
     let mut batch = Batch::new();
     for name in 0..60 {
         batch.set(1, &format!("text{name}"), "a".repeat(200));
@@ -100,9 +96,7 @@ fn a_follower_behind_a_slow_network_gets_all_entries() {
 #[test]
 fn a_follower_that_was_away_for_too_long_says_so() {
     let database = present!(database());
-    let leader = Member::start(&database, "--log");
-    let mut client = leader.client();
-    client.apply(Batch::new().new_node()).unwrap();
+    let (_leader, mut client) = Member::leading(&database);
     let follower = Member::start(&database, "--follow");
     follower.client().wait_for_entry(1, SOON).unwrap();
     follower.server.stop();

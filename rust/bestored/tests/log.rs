@@ -61,6 +61,14 @@ impl Member {
         Self::run(Folder::in_memory(), &[&[how, &database.url()], size].concat())
     }
 
+    /// Starts a server that leads, and writes a node with its client.
+    pub fn leading(database: &Database) -> (Self, Client) {
+        let leader = Self::start(database, "--log");
+        let mut client = leader.client();
+        client.apply(Batch::new().new_node()).unwrap();
+        (leader, client)
+    }
+
     fn start_in(folder: Folder, database: &Database, how: &str) -> Self {
         Self::start_at(folder, &database.url(), how)
     }

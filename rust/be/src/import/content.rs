@@ -122,7 +122,11 @@ impl Reader {
         if matches!(stat.form, Form::File | Form::Folder) {
             self.add_extended(path, &mut content);
         }
-        content.is_stale = fs::symlink_metadata(path).map_or(true, |now| stat.is_of_another(&Stat::from(&now)));
+        content.is_stale = match fs::symlink_metadata(path) {
+            Ok(now) => stat.is_of_another(&Stat::from(&now)),
+            // A file can be found in a folder although its path is too long.
+            Err(error) => error.raw_os_error() != Some(libc::ENAMETOOLONG),
+        };
         content
     }
 

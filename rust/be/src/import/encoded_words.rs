@@ -3,6 +3,10 @@
 use encoding_rs::{Encoding, WINDOWS_1252};
 use std::borrow::Cow;
 
+/// The maximum number of bytes in a word's text. A line of a mail has up to 998. Without a maximum, a header of many words without an end
+/// would take seconds.
+const MOST: usize = 4_096;
+
 /// Decodes bytes as UTF-8 if they are valid UTF-8, and as windows-1252 otherwise.
 pub fn text_of(bytes: &[u8]) -> Cow<'_, str> {
     match std::str::from_utf8(bytes) {
@@ -42,7 +46,9 @@ impl Word {
     fn read(text: &str) -> Option<(Self, &str)> {
         let (charset, rest) = text.strip_prefix("=?")?.split_once('?')?;
         let (form, rest) = rest.split_once('?')?;
-        let (content, after) = rest.split_once("?=")?;
+        let near = &rest.as_bytes()[..rest.len().min(MOST)];
+        let end = near.windows(2).position(|two| two == b"?=")?;
+        let (content, after) = (&rest[..end], &rest[end + 2..]);
         if content.contains(' ') && !form.eq_ignore_ascii_case("q") {
             return None;
         }
@@ -141,6 +147,8 @@ mod tests {
         ] {
             assert_eq!(decoded(text), text);
         }
+        let endless = "=?utf-8?b?x".repeat(5_000);
+        assert_eq!(decoded(&endless), endless);
         assert_eq!(decoded("=?=?utf-8?q?a?="), "=?a");
         assert_eq!(text_of(b"\xc3\xbc"), "ü");
         assert_eq!(text_of(b"\xfc"), "ü");

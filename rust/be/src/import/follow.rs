@@ -2,7 +2,7 @@
 
 use super::known::Known;
 use super::summary::Summary;
-use super::walk::{is_of_a_store, Found, Walk, Walked};
+use super::walk::{is_of_a_store, Walk, Walked};
 use super::Import;
 use crate::failure::{complain, Failure};
 use crate::output::Output;
@@ -317,6 +317,8 @@ impl Import<'_> {
     /// Waits until the server is back, for this long at first, and loads what it knows about the folder.
     fn connect_again(&mut self, failure: &Failure, mut pause: Duration) -> Result<(), Failure> {
         complain(&format!("{failure}; waiting for the server"));
+        // If only one connection was lost, the server may have no places for new ones beside the others.
+        self.volumes.clear();
         loop {
             thread::sleep(pause);
             self.look_for_folder(false)?;
@@ -367,13 +369,7 @@ impl Import<'_> {
         let was_unread = change.is_of_file && self.take_unread(&path);
         if is_same_folder && !was_unread || !(change.is_named || is_folder) {
             seen.known.extend(self.tree.files.remove_entry(&path));
-            match there {
-                Ok(about) => seen.walked.found.push(Found {
-                    path,
-                    stat: (&about).into(),
-                }),
-                Err(error) => seen.walked.failed(&path, error),
-            }
+            seen.walked.add(path, there);
             return;
         }
         seen.known.extend(self.tree.take_below(&path));

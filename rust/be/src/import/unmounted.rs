@@ -5,7 +5,7 @@ use super::matching::Matched;
 use super::stat::{Form, Identity};
 use super::walk::Unread;
 use super::Import;
-use std::collections::HashSet;
+use std::collections::{HashMap, HashSet};
 use std::io::{Error, ErrorKind};
 use std::path::{Path, PathBuf};
 
@@ -39,35 +39,39 @@ impl Import<'_> {
     /// Returns the folders that are empty, although a file system was mounted on them and had files when they were last read.
     fn unmounted(&self, files: &[Matched], gone: &[(PathBuf, Known)]) -> HashSet<PathBuf> {
         let folders = files.iter().filter(|file| file.found.stat.form == Form::Folder);
-        let are_apart = |one: Option<Identity>, other: Option<Identity>| match (one, other) {
-            (Some(one), Some(other)) => !one.is_beside(&other),
-            _ => false,
-        };
-        let unmounted = folders.filter(|file| {
+        let is_elsewhere = |file: &&Matched| are_apart(last_identity(file), Some(file.found.stat.identity));
+        let folders: Vec<&Matched> = folders.filter(is_elsewhere).collect();
+        if folders.is_empty() || self.line.reread {
+            return HashSet::new();
+        }
+        // If the system has given a device another number, these are all of its folders.
+        let by_path: HashMap<&Path, &Matched> = files.iter().map(|file| (file.found.path.as_path(), file)).collect();
+        let filled: HashSet<&Path> = files.iter().filter_map(|file| file.found.path.parent()).collect();
+        let unmounted = folders.into_iter().filter(|file| {
             let path = file.found.path.as_path();
-            let was = identity_at(file, path);
             // Whether a file system was mounted here is shown by the folder above it, which was on another one.
-            are_apart(was, Some(file.found.stat.identity))
-                && are_apart(was, path.parent().and_then(|above| self.identity_above(files, above)))
-                && !files.iter().any(|other| other.found.path.parent() == Some(path))
+            let above = path.parent().and_then(|above| match by_path.get(above) {
+                Some(file) => last_identity(file),
+                None => self.tree.files.get(above).and_then(Known::identity),
+            });
+            are_apart(last_identity(file), above)
+                && !filled.contains(path)
                 && gone.iter().any(|(lost, _)| lost.starts_with(path))
-                && !self.line.reread
         });
         unmounted.map(|file| file.found.path.clone()).collect()
     }
+}
 
-    /// Returns the identity that the folder at this path had when it was last read.
-    fn identity_above(&self, files: &[Matched], path: &Path) -> Option<Identity> {
-        let read = files.iter().find(|file| file.found.path == path);
-        match read {
-            Some(file) => identity_at(file, path),
-            None => self.tree.files.get(path).and_then(Known::identity),
-        }
+/// Returns whether both files are known, and on different file systems.
+fn are_apart(one: Option<Identity>, other: Option<Identity>) -> bool {
+    match (one, other) {
+        (Some(one), Some(other)) => !one.is_beside(&other),
+        _ => false,
     }
 }
 
-/// Returns the identity that a file had when it was last read, if it was at this path then.
-fn identity_at(file: &Matched, path: &Path) -> Option<Identity> {
+/// Returns the identity that a file had when it was last read, if it was at its present path then.
+fn last_identity(file: &Matched) -> Option<Identity> {
     let (was, known) = file.known.as_ref()?;
-    known.identity().filter(|_| was == path)
+    known.identity().filter(|_| *was == file.found.path)
 }

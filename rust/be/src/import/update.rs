@@ -45,6 +45,7 @@ impl Import<'_> {
             answer => answer.map(|attributes| More::of(&attributes)),
         })?;
         gone.retain(|(_, known)| !lost_nodes.contains(&known.node));
+        move_unread(&mut gone, &files, &unread);
         let files = self.without_unmounted(files, &gone, &mut unread);
         let mut summary = Summary::default();
         self.remove(gone, &missed, &unread, &mut summary)?;
@@ -346,6 +347,22 @@ impl Import<'_> {
         summary.pages = self.volumes.iter().map(|volume| volume.pages).sum();
         summary.used = self.volumes.iter().map(|volume| volume.pages - volume.free).sum();
         Ok(())
+    }
+}
+
+/// Corrects the paths of what was in folders that were moved and can't be read now, so that it counts as unread and not as gone.
+fn move_unread(gone: &mut [(PathBuf, Known)], files: &[Matched], unread: &[Unread]) {
+    let unread: HashSet<&Path> = unread.iter().map(|it| it.path.as_path()).collect();
+    for file in files.iter().filter(|file| unread.contains(file.found.path.as_path())) {
+        let was = match &file.known {
+            Some((was, _)) if *was != file.found.path => was,
+            _ => continue,
+        };
+        for (path, _) in gone.iter_mut() {
+            if let Ok(rest) = path.strip_prefix(was) {
+                *path = file.found.path.join(rest);
+            }
+        }
     }
 }
 

@@ -1,15 +1,22 @@
 //! Walks a folder, finding everything in it and below it.
 
+use super::content::{name_in, VALUE};
 use super::stat::{Form, Stat};
 use std::collections::HashSet;
-use std::fs::{self, DirEntry, ReadDir};
+use std::fs::{self, DirEntry, Metadata, ReadDir};
 use std::io::{self, ErrorKind};
 use std::os::unix::ffi::OsStrExt;
 use std::os::unix::fs::MetadataExt;
 use std::path::{Path, PathBuf};
 
 /// The suffixes of the files that belong to kept stores.
-const STORES: [&[u8]; 4] = [b".bestore", b".bestore-wal", b".bestore-shm", b".bestore-journal"];
+const STORES: [&[u8]; 5] = [
+    b".bestore",
+    b".bestore-last",
+    b".bestore-wal",
+    b".bestore-shm",
+    b".bestore-journal",
+];
 
 /// A file, and what the file system reports about it.
 #[derive(Clone, Debug)]
@@ -34,7 +41,7 @@ pub struct Walked {
     pub changed: HashSet<PathBuf>,
 }
 
-/// Returns whether a file belongs to a kept store, including the files that SQLite puts next to it. Such files are left out, because
+/// Returns whether a file belongs to a kept store, including those that are next to it while it is open. Such files are left out, because
 /// recording a change to one would change it again.
 pub fn is_of_a_store(path: &Path) -> bool {
     let name = path.file_name().map_or(&b""[..], OsStrExt::as_bytes);
@@ -53,13 +60,7 @@ impl Walk<'_> {
     /// Returns the file or folder and everything below it, except for anything that disappears in the meantime.
     pub fn below(&mut self, path: &Path) -> Walked {
         let mut walked = Walked::default();
-        match fs::symlink_metadata(path) {
-            Ok(about) => walked.found.push(Found {
-                path: path.into(),
-                stat: Stat::from(&about),
-            }),
-            Err(error) => walked.failed(path, error),
-        }
+        walked.add(path.into(), fs::symlink_metadata(path));
         let mut next = 0;
         while next < walked.found.len() {
             if walked.found[next].stat.form == Form::Folder {
@@ -110,10 +111,14 @@ impl Walked {
 
     fn read_entry(&mut self, entry: &DirEntry) {
         let path = entry.path();
-        if is_of_a_store(&path) {
-            return;
+        if !is_of_a_store(&path) {
+            self.add(path, entry.metadata());
         }
-        match entry.metadata() {
+    }
+
+    /// Adds what the file system reports about a file. If the name is too long for the file's node, records that instead.
+    pub fn add(&mut self, path: PathBuf, about: io::Result<Metadata>) {
+        match about.and_then(|about| check_name(&path).map(|()| about)) {
             Ok(about) => self.found.push(Found {
                 path,
                 stat: Stat::from(&about),
@@ -123,7 +128,7 @@ impl Walked {
     }
 
     /// Records why a file can't be read, unless the file is gone, or its folder has become a file.
-    pub fn failed(&mut self, path: &Path, error: io::Error) {
+    fn failed(&mut self, path: &Path, error: io::Error) {
         if error.kind() != ErrorKind::NotFound && error.raw_os_error() != Some(libc::ENOTDIR) {
             self.unread.push(Unread {
                 path: path.into(),
@@ -133,9 +138,39 @@ impl Walked {
     }
 }
 
+/// Refuses a file's name if it doesn't fit into a value. A path that is built from a part of the name isn't the file's. Only some file
+/// systems, such as exFAT, have such names.
+fn check_name(path: &Path) -> io::Result<()> {
+    match name_in(path).len() {
+        0..=VALUE => Ok(()),
+        length => Err(io::Error::new(
+            ErrorKind::Other,
+            format!("a file name can have up to {VALUE} bytes, and this one has {length}"),
+        )),
+    }
+}
+
 #[cfg(test)]
 mod tests {
     use super::*;
+
+    #[test]
+    fn a_file_whose_name_does_not_fit_into_a_value_is_left_out() {
+        let mut walked = Walked::default();
+        let [short, long] = [255, 256].map(|length| Path::new("/a").join("n".repeat(length)));
+        for path in [&short, &long] {
+            walked.add(path.clone(), fs::symlink_metadata("/"));
+        }
+        let found: Vec<_> = walked.found.iter().map(|it| &it.path).collect();
+        assert_eq!(found, [&short]);
+        let unread: Vec<_> = walked
+            .unread
+            .iter()
+            .map(|it| (&it.path, it.error.to_string()))
+            .collect();
+        let why = "a file name can have up to 255 bytes, and this one has 256";
+        assert_eq!(unread, [(&long, why.to_string())]);
+    }
 
     #[test]
     fn a_folder_that_has_become_a_file_is_not_said_to_be_unreadable() {

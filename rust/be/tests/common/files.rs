@@ -26,6 +26,25 @@ impl Folder {
         Some((Server::start()?, Self::new()))
     }
 
+    /// Starts a server, and creates a folder with a few files. Returns `None` if the server isn't built.
+    pub fn small_with_server() -> Option<(Server, Self)> {
+        Some((Server::start()?, small()))
+    }
+
+    /// Like [`small_with_server`](Self::small_with_server), and imports the folder.
+    pub fn imported() -> Option<(Server, Self)> {
+        let (server, folder) = Self::small_with_server()?;
+        server.import(&folder);
+        Some((server, folder))
+    }
+
+    /// Like [`small_with_server`](Self::small_with_server), and sets an extended attribute of a file. Also returns `None` if the file system
+    /// has none.
+    pub fn with_extended(test: &str, name: &str, attribute: &str, value: &str) -> Option<(Server, Self)> {
+        let (server, folder) = Self::small_with_server()?;
+        can_set(test, &folder.path(name), attribute, value).then_some((server, folder))
+    }
+
     pub fn path(&self, name: impl AsRef<OsStr>) -> PathBuf {
         self.0.join(name.as_ref())
     }
@@ -175,6 +194,15 @@ pub fn small() -> Folder {
     folder.file("a/b/y.h", "int y;");
     folder.file("z", "no extension\n");
     folder
+}
+
+/// Sets an extended attribute. If the file system has none, prints that the test is skipped, and returns `false`.
+pub fn can_set(test: &str, file: &Path, name: &str, value: &str) -> bool {
+    let set = xattr::set(file, name, value.as_bytes());
+    if let Err(error) = &set {
+        println!("be, {test}: skipped, {error}");
+    }
+    set.is_ok()
 }
 
 /// Returns the number of a file's node.

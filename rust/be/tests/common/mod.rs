@@ -64,6 +64,12 @@ pub fn server_program() -> Option<PathBuf> {
     program.exists().then_some(program)
 }
 
+/// Sends a signal, such as `-TERM`, to a process.
+pub fn send_signal(process: &Child, signal: &str) {
+    let sent = Command::new("kill").arg(signal).arg(process.id().to_string()).status();
+    assert!(sent.unwrap().success());
+}
+
 /// Starts a server in its own folder, where it may also keep its store.
 fn spawn(program: &Path, folder: &Path, options: &[String]) -> Child {
     let mut command = Command::new(program);

@@ -1,12 +1,14 @@
 //! A proxy between clients and their server, which refuses writes, or does something before a request, when a test asks for it.
 
 use super::files::Folder;
-use super::Server;
+use super::{Said, Server};
+use std::ffi::OsStr;
 use std::fs;
 use std::io::{self, BufRead, BufReader, Write};
 use std::net::Shutdown;
 use std::os::unix::net::{UnixListener, UnixStream};
 use std::path::{Path, PathBuf};
+use std::process::Command;
 use std::sync::{Arc, Mutex, MutexGuard};
 use std::thread;
 
@@ -60,6 +62,18 @@ impl Refuser {
 
     pub fn socket(&self) -> &Path {
         &self.socket
+    }
+
+    /// Returns the tool with these arguments, ready to run with this socket instead of the server's own.
+    pub fn command(&self, server: &Server, words: &[impl AsRef<OsStr>]) -> Command {
+        let mut command = server.command(words);
+        command.env("BESTORE_SOCKET", &self.socket);
+        command
+    }
+
+    /// Runs the tool with these arguments and this socket.
+    pub fn be(&self, server: &Server, words: &[&str]) -> Said {
+        self.command(server, words).output().unwrap().into()
     }
 
     fn state(&self) -> MutexGuard<'_, State> {

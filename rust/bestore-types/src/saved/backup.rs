@@ -11,7 +11,7 @@ use std::path::{Path, PathBuf};
 use std::sync::atomic::{AtomicU32, Ordering};
 
 /// A backup in progress. It is written next to its path, with mode 0600, and is removed if it is dropped before [`finish`](Self::finish) is
-/// called.
+/// called. If the process is killed, it stays there, under a hidden name that ends in `.part`. It doesn't hinder later backups.
 ///
 /// ```
 /// use bestore_types::saved::{self, About, Backup};
@@ -41,6 +41,9 @@ struct Part {
     batches: u64,
 }
 
+/// How many characters of the backup's name its hidden name contains. A character has up to four bytes, and a name up to 255.
+const NAME: usize = 50;
+
 /// The file or folder that is written next to the path. It is removed on drop.
 #[derive(Debug)]
 struct Beside {
@@ -59,14 +62,17 @@ impl Drop for Beside {
 }
 
 impl Beside {
+    /// Chooses a free path. A process that was killed may have had this one's number and may have left its own file or folder there.
     fn new(path: &Path, is_folder: bool) -> Self {
         static LAST: AtomicU32 = AtomicU32::new(0);
-        let number = LAST.fetch_add(1, Ordering::Relaxed);
         let name = path.file_name().unwrap_or_default().to_string_lossy();
-        let name = format!(".{name}.{}-{number}.part", std::process::id());
-        Self {
-            path: path.with_file_name(name),
-            is_folder,
+        let name: String = name.chars().take(NAME).collect();
+        loop {
+            let number = LAST.fetch_add(1, Ordering::Relaxed);
+            let path = path.with_file_name(format!(".{name}.{}-{number}.part", std::process::id()));
+            if !exists(&path) {
+                return Self { path, is_folder };
+            }
         }
     }
 
@@ -123,7 +129,7 @@ impl Backup {
         let beside = Beside::new(&path, volumes > 1);
         if beside.is_folder {
             let made = DirBuilder::new().mode(0o700).create(&beside.path);
-            made.map_err(|error| Error::folder(&beside.path, error))?;
+            made.map_err(|error| Error::folder(&path, error))?;
         }
         let part = |volume| {
             let file = File::begin_state(&beside.file(volume), &path)?;
@@ -165,5 +171,37 @@ impl Backup {
         }
         drop(beside);
         synchronise(parent(&path))
+    }
+}
+
+#[cfg(test)]
+mod tests {
+    use super::*;
+
+    #[test]
+    fn a_backup_may_have_a_long_name() {
+        let folder = std::env::temp_dir().join(format!("bestore-long-{}", std::process::id()));
+        fs::create_dir(&folder).unwrap();
+        for name in ["n".repeat(255), "é".repeat(127), "漢".repeat(85)] {
+            drop(Backup::create(folder.join(name), 1).unwrap());
+        }
+        fs::remove_dir(folder).unwrap();
+    }
+
+    #[test]
+    fn what_a_killed_process_with_this_number_has_left_does_not_hinder() {
+        let process = std::process::id();
+        let folder = std::env::temp_dir().join(format!("bestore-left-{process}"));
+        fs::create_dir(&folder).unwrap();
+        let left = (0..100).map(|number| folder.join(format!(".backup.{process}-{number}.part")));
+        let left: Vec<PathBuf> = left.collect();
+        left.iter().for_each(|path| fs::write(path, "left").unwrap());
+        for volumes in [1, 2] {
+            drop(Backup::create(folder.join("backup"), volumes).unwrap());
+        }
+        // They may be those of a process in another container.
+        assert!(left.iter().all(|path| path.exists()));
+        assert_eq!(fs::read_dir(&folder).unwrap().count(), left.len());
+        fs::remove_dir_all(folder).unwrap();
     }
 }

@@ -222,7 +222,7 @@ impl File {
     /// Creates a file at `place`, to be filled with a state. It is complete after [`end_state`](Self::end_state). Errors call it `path`.
     pub fn begin_state(place: &Path, path: &Path) -> Result<Self> {
         let made = OpenOptions::new().write(true).create_new(true).mode(0o600).open(place);
-        made.map_err(|error| Error::folder(place, error))?;
+        made.map_err(|error| Error::folder(path, error))?;
         let flags = OpenFlags::SQLITE_OPEN_READ_WRITE | OpenFlags::SQLITE_OPEN_NO_MUTEX;
         let file = Self::connect(&Path::new(".").join(place), path, flags)?;
         file.run(STATE_SETTINGS)?;
