@@ -22,7 +22,7 @@ const CHUNK: usize = 1 << 14;
 
 /// How long a command may wait in the server: the default and the maximum.
 const WITHIN: Duration = Duration::from_secs(5);
-const MOST_WITHIN: Duration = Duration::from_secs(60);
+pub(crate) const MOST_WITHIN: Duration = Duration::from_secs(60);
 
 /// A connection to the server, with its own pass of the server's store.
 #[derive(Debug)]
@@ -460,22 +460,6 @@ impl Client {
             number: written.commit,
             nodes: written.nodes,
         })
-    }
-
-    /// Waits up to `within` for the journal of each volume to reach this number of entries; for a server with one volume, pass one number.
-    /// Later reads of the current snapshot see these entries. The error is `NotReached` if the time is up first, or if the server takes
-    /// back the client's pinned snapshot.
-    ///
-    /// # Errors
-    /// The same as `call`.
-    pub fn reach(&mut self, numbers: &[u64], within: Duration) -> Result<wire::Commit> {
-        self.call(Command::Reach(wire::Reach {
-            commit: match numbers {
-                [number] => Numbers::One(*number),
-                numbers => Numbers::Each(numbers.into()),
-            },
-            within: Some(u64::try_from(within.as_millis()).unwrap_or(u64::MAX)),
-        }))
     }
 
     /// Pins the current snapshot: all reads see it until [`unpin`](Self::unpin).

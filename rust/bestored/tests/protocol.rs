@@ -205,6 +205,10 @@ const ERRORS: &[(&str, &str)] = &[
     (r#""columns":{"nodes":[-1],"names":[]}"#, r#""BadRequest""#),
     (r#""columns":{"nodes":[1]}"#, r#""BadRequest""#),
     (r#""unwatch":{"watch":1}"#, r#""NoWatch""#),
+    (
+        r#""reach":{"commit":9,"within":60001}"#,
+        r#""BadRequest","message":"`within` is 60001 milliseconds, and a request can wait for up to 60000""#,
+    ),
     (r#""flush":{}"#, r#""NotKept""#),
     (r#""state":{}"#, r#""NotPinned","number":66"#),
     (r#""unpin":{}"#, r#""NotPinned","number":66"#),

@@ -17,11 +17,12 @@ use crate::failure::Failure;
 use crate::kept::{Kept, Opening};
 use crate::options::Options;
 use crate::os;
+use crate::reach;
 use crate::server::Shared;
 use crate::tokens::Tokens;
 use access::Access;
 use bestore::{Batch, Shelf, ShelfPass, StateCopy, Store};
-use bestore_client::wire::{self, ErrorName};
+use bestore_client::wire;
 use error::Result;
 use line::{Line, Role};
 use member::Member;
@@ -162,7 +163,7 @@ impl Log {
         is_over: impl FnMut() -> bool,
     ) -> std::result::Result<wire::LogStatus, Failure> {
         if let Some(entry) = wanted.entry {
-            let found = self.line.wait_for(entry, within(wanted.within)?, is_over);
+            let found = self.line.wait_for(entry, reach::within(wanted.within)?, is_over);
             if found < entry {
                 return Err(Failure::not_reached(entry, found));
             }
@@ -263,17 +264,6 @@ impl Drop for Ending<'_> {
             self.0.fail(Error::Fault);
             os::end_program();
         }
-    }
-}
-
-/// Returns how long to wait for an entry, from a number of milliseconds.
-fn within(milliseconds: Option<u64>) -> std::result::Result<Duration, Failure> {
-    match milliseconds.unwrap_or(5_000) {
-        time @ 0..=60_000 => Ok(Duration::from_millis(time)),
-        _ => Err(Failure::new(
-            ErrorName::BadRequest,
-            "within can be up to 60000 milliseconds, and this is more",
-        )),
     }
 }
 
