@@ -43,6 +43,7 @@ mod watcher;
 mod writes;
 
 use background::{Side, Starter};
+use copy::Copies;
 use kept::{Kept, Opening};
 use meter::Meter;
 use notify::Notifier;
@@ -133,7 +134,7 @@ fn share(kept: Kept, tokens: Arc<Tokens>, run: String, options: Options) -> best
         pressure: Pressure::new(options.hold),
         clients: Default::default(),
         meter: Meter::new(),
-        copies: Default::default(),
+        copies: Copies::new(options.hold),
         carrying: Default::default(),
         is_full: Default::default(),
         not_accepted: Default::default(),
