@@ -156,3 +156,25 @@ fn a_token_that_the_database_could_not_take_is_refused() {
     talk.check_parts(batch, &["BadRequest", "a token has 1 to 64 bytes, none of them zero"]);
     assert_eq!(make(&mut leader.client(), "ab").unwrap().nodes, [1]);
 }
+
+#[test]
+fn a_database_whose_encoding_cannot_store_some_tokens_is_refused() {
+    let database = present!(database());
+    let latin = database.postgres.database_in("LATIN1");
+    for how in ["--log", "--follow"] {
+        let said = Member::start(&latin, how).end();
+        assert!(
+            said.contains("the database of the log has the encoding LATIN1, which can't store every token;"),
+            "{said}"
+        );
+    }
+    assert_eq!(latin.sql("SELECT to_regclass('bestore_log') IS NULL"), "t");
+    // With this encoding, PostgreSQL stores bytes as they are.
+    let bytes = database.postgres.database_in("SQL_ASCII");
+    let leader = Member::start(&bytes, "--log");
+    assert_eq!(make(&mut leader.client(), "€").unwrap().nodes, [1]);
+    let again = leader.follow_again(&bytes);
+    wait_until("it leads", || again.leads());
+    assert_eq!(make(&mut again.client(), "€").unwrap().nodes, [1]);
+    assert_eq!(make(&mut again.client(), "$").unwrap().nodes, [2]);
+}

@@ -17,6 +17,9 @@ use tokio_postgres::{AsyncMessage, Client, Config, NoTls, Row as SqlRow, Socket,
 /// The version of the tables' format.
 const FORMAT: i32 = 1;
 
+/// The encodings of databases that can store every token. With the second, PostgreSQL stores bytes as they are.
+const ENCODINGS: [&str; 2] = ["UTF8", "SQL_ASCII"];
+
 /// How long a call may take. PostgreSQL cancels a statement slightly sooner.
 pub const LIMIT: Duration = Duration::from_secs(6);
 
@@ -203,6 +206,14 @@ async fn limited_to<T>(
     }
 }
 
+/// Returns an error if a database with this encoding can't store every token. A pooler may not report the encoding.
+fn check_encoding(encoding: Option<&str>) -> Result<()> {
+    match encoding {
+        Some(encoding) if !ENCODINGS.contains(&encoding) => Err(Error::Encoding(encoding.into())),
+        _ => Ok(()),
+    }
+}
+
 /// A connection to the log's database.
 pub struct Database {
     client: Client,
@@ -228,6 +239,7 @@ impl Database {
     /// Connects to the database. Must be called inside a tokio runtime.
     pub async fn connect(config: &Config) -> Result<Self> {
         let (client, mut connection) = limited(config.connect(NoTls)).await?;
+        check_encoding(connection.parameter("server_encoding"))?;
         let news = Arc::new(Notify::new());
         let of_task = news.clone();
         let receiving = tokio::spawn(async move {
