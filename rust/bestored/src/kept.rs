@@ -173,7 +173,7 @@ impl Kept {
 
     #[cfg(not(feature = "log"))]
     fn open_log(_: Opening<'_>) -> Result<Option<Self>, Box<dyn Error>> {
-        Err("this program was built without the feature log".into())
+        Err(crate::Unusable("this program was built without the feature log").into())
     }
 
     /// Returns the volumes in memory. Writes are kept only if they go through a pass from [`pass`](Self::pass).

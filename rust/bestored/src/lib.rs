@@ -64,11 +64,27 @@ fn report(line: fmt::Arguments<'_>) {
     let _ = writeln!(io::stderr(), "{line}");
 }
 
+/// The command line has an option that can't be used here.
+#[derive(Debug)]
+struct Unusable(&'static str);
+
+impl fmt::Display for Unusable {
+    fn fmt(&self, f: &mut fmt::Formatter<'_>) -> fmt::Result {
+        f.write_str(self.0)
+    }
+}
+
+impl Error for Unusable {}
+
 /// Runs the program with the options from its command line.
 pub fn main() -> ExitCode {
     start(Options::read()).unwrap_or_else(|error| {
         report!("bestored: {error}");
-        ExitCode::FAILURE
+        match error.is::<Unusable>() {
+            // The status for any other invalid command line. The service manager doesn't restart the server after it.
+            true => ExitCode::from(2),
+            false => ExitCode::FAILURE,
+        }
     })
 }
 
@@ -90,9 +106,11 @@ fn place(options: &Options) -> Result<Place, Box<dyn Error>> {
     match os::passed_socket()? {
         None => Ok(Place::find(&options.socket())?),
         Some(_) if options.socket.is_some() => {
-            Err("--socket can't be used, because systemd has passed a socket".into())
+            Err(Unusable("--socket can't be used, because systemd has passed a socket").into())
         }
-        Some(_) if options.background => Err("--background can't be used, because systemd has passed a socket".into()),
+        Some(_) if options.background => {
+            Err(Unusable("--background can't be used, because systemd has passed a socket").into())
+        }
         Some(listener) => Ok(Place::Passed(listener)),
     }
 }
