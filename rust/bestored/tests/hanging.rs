@@ -136,14 +136,18 @@ fn deaf() -> (TcpListener, Vec<TcpStream>) {
 fn a_database_is_found_behind_a_machine_that_does_not_reply() {
     let database = present!(database());
     let (deaf, _waiting) = deaf();
-    let port = deaf.local_addr().unwrap().port();
-    let url = database.url_of_tcp().replace("@", &format!("@127.0.0.1:{port},"));
-    let member = Member::start_at(Folder::in_memory(), &url, "--log");
-    wait_within(SOON, "it leads", || {
-        member.leads() || member.said().contains("trying again")
-    });
-    assert!(member.leads(), "{}", member.said());
-    assert_eq!(make(&mut member.client(), "a").unwrap().nodes, [1]);
+    // The system completes a connection to this one, but nothing ever replies to what is sent.
+    let mute = TcpListener::bind("127.0.0.1:0").unwrap();
+    for (node, silent) in [(1, &deaf), (2, &mute)] {
+        let port = silent.local_addr().unwrap().port();
+        let url = database.url_of_tcp().replace("@", &format!("@127.0.0.1:{port},"));
+        let member = Member::start_at(Folder::in_memory(), &url, "--log");
+        wait_within(SOON, "it leads", || {
+            member.leads() || member.said().contains("trying again")
+        });
+        assert!(member.leads(), "{}", member.said());
+        assert_eq!(make(&mut member.client(), &node.to_string()).unwrap().nodes, [node]);
+    }
 }
 
 #[test]
