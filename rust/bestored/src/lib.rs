@@ -128,7 +128,7 @@ fn serve(options: Options, place: Place, starter: Option<Starter>) -> Result<(),
         notifier: &notifier,
         signals: &signals,
     };
-    let kept = match Kept::open(opening)? {
+    let kept = match notifier.while_loading(|| Kept::open(opening))? {
         Some(kept) => kept,
         None => return Ok(()),
     };
