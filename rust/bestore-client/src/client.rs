@@ -180,6 +180,16 @@ impl Client {
         self.receive(id)
     }
 
+    /// Calls a command that pins a snapshot or begins a live query. If the server refuses it, a new connection would lose nothing.
+    fn begin<T: DeserializeOwned>(&mut self, command: Command<'_>) -> Result<T> {
+        let before = (self.is_pinned, self.has_watches);
+        let begun = self.call(command);
+        if let Err(Error::Refused(_)) = &begun {
+            (self.is_pinned, self.has_watches) = before;
+        }
+        begun
+    }
+
     /// Sends a command without waiting for its reply. Call [`receive`](Self::receive) to get the reply, after those to earlier commands.
     ///
     /// # Errors
@@ -355,8 +365,8 @@ impl Client {
     }
 
     /// Returns the next line pushed for a live query, or `None` if none arrives within this time. If the time is zero, the call only returns
-    /// what has already arrived. Lines that arrive while another call
-    /// waits for its reply are buffered, up to [`Options::most_pushed`]. A push with an `error` is the last one for its live query.
+    /// what has already arrived. Lines that arrive while another call waits for its reply are buffered, up to [`Options::most_pushed`]. A
+    /// push with an `error` is the last one for its live query.
     ///
     /// # Errors
     /// [`Error::Refused`] with the server's reason if it closed the connection. [`Error::Io`], [`Error::Closed`], [`Error::BadLine`].
@@ -467,7 +477,7 @@ impl Client {
     /// # Errors
     /// The same as `call`.
     pub fn pin(&mut self) -> Result<wire::Next> {
-        self.call(Command::Pin(Nothing {}))
+        self.begin(Command::Pin(Nothing {}))
     }
 
     /// Returns the number of the snapshot (the pinned one, or otherwise the current one) and the number that the next new node will have.
@@ -571,7 +581,7 @@ impl Client {
     /// The same as `call`.
     pub fn watch(&mut self, query: Option<&str>) -> Result<wire::Watched> {
         let query = query.map(Cow::from);
-        self.call(Command::Watch(wire::Watch { query }))
+        self.begin(Command::Watch(wire::Watch { query }))
     }
 
     /// Brings a live query up to date now, on the pinned snapshot if there is one, and returns the changes since its last line. Any pushes
