@@ -35,6 +35,8 @@ pub enum Kept {
 #[cfg_attr(not(feature = "log"), allow(dead_code))]
 pub struct Opening<'a> {
     pub options: &'a Options,
+    /// The path of the socket, if it has one.
+    pub socket: Option<&'a Path>,
     /// The server's run.
     pub run: &'a str,
     pub tokens: &'a Arc<Tokens>,

@@ -121,8 +121,10 @@ fn serve(options: Options, place: Place, starter: Option<Starter>) -> Result<(),
     let run = server::run_text()?;
     let notifier = Notifier::of_environment();
     let tokens = Arc::new(Tokens::default());
+    let socket = place.socket();
     let opening = Opening {
         options: &options,
+        socket: socket.as_deref(),
         run: &run,
         tokens: &tokens,
         notifier: &notifier,

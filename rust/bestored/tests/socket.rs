@@ -233,7 +233,7 @@ fn another_user_cant_connect() {
 
 /// Runs a server with these options once a client connects to this socket, which systemd's tool then passes to it. Returns `None` if
 /// there is no such tool.
-fn activated(socket: &Path, options: &[&str]) -> Option<Child> {
+pub fn activated(socket: &Path, options: &[&str]) -> Option<Child> {
     let activate = Command::new("systemd-socket-activate").arg("--version").output();
     if !activate.map_or(false, |output| output.status.success()) {
         println!("skipped: there is no systemd-socket-activate");

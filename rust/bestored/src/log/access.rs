@@ -3,7 +3,7 @@
 
 use super::database::Database;
 use super::error::{Error, Result};
-use crate::options::{InLog, Options};
+use crate::options::InLog;
 use std::fs;
 use std::os::unix::fs::PermissionsExt;
 use std::path::{Path, PathBuf};
@@ -29,10 +29,10 @@ pub struct Access {
 }
 
 impl Access {
-    pub fn new(in_log: &InLog, options: &Options, run: &str) -> Result<Self> {
+    pub fn new(in_log: &InLog, socket: Option<&Path>, run: &str) -> Result<Self> {
         Ok(Self {
             configs: of_machines(config(in_log)?),
-            name: name(options),
+            name: name(socket),
             run: run.into(),
         })
     }
@@ -45,9 +45,10 @@ impl Access {
 }
 
 /// Returns the server's name: the machine's name and the path of the socket.
-fn name(options: &Options) -> String {
+fn name(socket: Option<&Path>) -> String {
     let machine = fs::read_to_string("/proc/sys/kernel/hostname").unwrap_or_default();
-    format!("{}:{}", machine.trim(), options.socket().path().display())
+    let socket = socket.unwrap_or_else(|| Path::new("")).display();
+    format!("{}:{socket}", machine.trim())
 }
 
 fn config(in_log: &InLog) -> Result<Config> {

@@ -66,7 +66,7 @@ impl Log {
     pub fn open(opening: Opening<'_>) -> Result<Option<Self>> {
         let options = opening.options;
         let in_log = options.log.as_ref().ok_or(Error::NoLog)?;
-        let access = Access::new(in_log, options, opening.run)?;
+        let access = Access::new(in_log, opening.socket, opening.run)?;
         let mut is_said = false;
         loop {
             match Self::begin(options, &access, opening.tokens, in_log.leads) {
