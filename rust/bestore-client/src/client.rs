@@ -488,7 +488,8 @@ impl Client {
         self.call(Command::Next(Nothing {}))
     }
 
-    /// Has the server copy the snapshot, so that the command `state` can read it without a pin.
+    /// Has the server copy the snapshot, so that the command `state` can read it without a pin. If the copy isn't read for a while, the
+    /// server may take it back for another client; `state` then returns `Expired`.
     ///
     /// # Errors
     /// The same as `call`.
