@@ -10,7 +10,7 @@ use bestore_client::wire::{Command, Nothing};
 use bestore_client::{Client, Error, ErrorName, Options};
 use std::net::{SocketAddr, TcpListener, TcpStream};
 use std::thread;
-use std::time::Duration;
+use std::time::{Duration, Instant};
 
 /// How long a request to write the state takes at most if the database hangs.
 const WRITTEN: Duration = Duration::from_secs(30);
@@ -88,7 +88,16 @@ fn a_follower_behind_a_slow_network_gets_all_entries() {
     }
     // The entries take 7 MB, and at most 0.6 MB arrive in a second.
     let proxy = Proxy::start_slow(database.postgres.port, Duration::from_millis(27));
-    let follower = Member::start_at(Folder::in_memory(), &database.url_at(proxy.port), "--follow");
+    let follow = || Member::start_at(Folder::in_memory(), &database.url_at(proxy.port), "--follow");
+    // A server that is still reading them ends at a signal.
+    let reading = follow();
+    let sessions =
+        "SELECT count(*) FROM pg_stat_activity WHERE datname = current_database() AND application_name = 'bestored'";
+    wait_until("it has a session", || database.sql(sessions) == "2");
+    let begin = Instant::now();
+    assert!(reading.server.end_by("TERM").success(), "{}", reading.said());
+    assert!(begin.elapsed() < Duration::from_secs(6), "{:?}", begin.elapsed());
+    let follower = follow();
     wait_within(Duration::from_secs(60), "it listens or tries again", || {
         follower.server.socket().exists() || follower.said().contains("trying again")
     });

@@ -26,6 +26,8 @@ use bestore_client::wire;
 use error::Result;
 use line::{Line, Role};
 use member::Member;
+use std::fs::File;
+use std::future::Future;
 use std::mem;
 use std::os::unix::io::AsRawFd;
 use std::sync::{Arc, Mutex, MutexGuard, PoisonError};
@@ -44,6 +46,24 @@ fn runtime() -> Result<Runtime> {
         .enable_all()
         .build()
         .map_err(Error::Thread)
+}
+
+/// Returns whether a signal that ends the program has arrived, or arrives within this time.
+fn is_ending(signals: &File, within: Duration) -> Result<bool> {
+    let [is_ending] = os::wait_readable([signals.as_raw_fd()], Some(within)).map_err(Error::Thread)?;
+    Ok(is_ending)
+}
+
+/// Waits for the call. If a signal arrives first, gives the call up and returns `None`.
+async fn until_signal<T>(signals: &File, call: impl Future<Output = Result<T>>) -> Result<Option<T>> {
+    let mut call = Box::pin(call);
+    loop {
+        match tokio::time::timeout(REST, call.as_mut()).await {
+            Ok(outcome) => return outcome.map(Some),
+            Err(_) if is_ending(signals, Duration::ZERO)? => return Ok(None),
+            Err(_) => {}
+        }
+    }
 }
 
 /// The log, and the store of a server that leads or follows.
@@ -69,35 +89,46 @@ impl Log {
         let access = Access::new(in_log, opening.socket, opening.run)?;
         let mut is_said = false;
         loop {
-            match Self::begin(options, &access, opening.tokens, in_log.leads) {
+            match Self::begin(options, &access, opening.tokens, in_log.leads, opening.signals) {
                 Err(error) if error.is_unreachable() => {
                     opening.notifier.waits(&error.to_string());
                     if !mem::replace(&mut is_said, true) {
                         report!("bestored: {error}; trying again");
                     }
                 }
-                begun => return begun.map(Some),
+                begun => return begun,
             }
-            if os::wait_readable([opening.signals.as_raw_fd()], Some(REST)).map_err(Error::Thread)? == [true] {
+            if is_ending(opening.signals, REST)? {
                 return Ok(None);
             }
         }
     }
 
-    /// Connects without retrying. Fails if this server is to lead but another server already leads.
-    fn begin(options: &Options, access: &Access, tokens: &Arc<Tokens>, leads: bool) -> Result<Self> {
+    /// Connects without retrying. Fails if this server is to lead but another server already leads. Returns `None` if a signal arrives
+    /// first.
+    fn begin(
+        options: &Options,
+        access: &Access,
+        tokens: &Arc<Tokens>,
+        leads: bool,
+        signals: &File,
+    ) -> Result<Option<Self>> {
         let store = Store::open(options.limits())?;
         let pass = store.pass()?;
         let runtime = runtime()?;
-        let (member, line) = runtime.block_on(Member::begin(access.clone(), pass, tokens.clone(), leads))?;
-        Ok(Self {
+        let begin = Member::begin(access.clone(), pass, tokens.clone(), leads);
+        let (member, line) = match runtime.block_on(until_signal(signals, begin))? {
+            Some(begun) => begun,
+            None => return Ok(None),
+        };
+        Ok(Some(Self {
             shelf: Shelf::of_volumes(vec![store.clone()])?,
             store,
             line,
             access: access.clone(),
             writing_state: Mutex::default(),
             begun: Mutex::new(Some((runtime, member))),
-        })
+        }))
     }
 
     /// Returns the store, as the server's only volume.
