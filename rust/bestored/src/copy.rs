@@ -13,12 +13,14 @@ use std::time::{Duration, Instant};
 /// How many copies all clients together may have at a time. A copy takes no more memory than the store's pages do.
 const MOST: usize = 2;
 
+/// How long a client may leave its copy unread while another client needs the place, however long it may keep a snapshot.
+const UNREAD: Duration = Duration::from_secs(60);
+
 /// The places for copies.
 #[derive(Debug)]
 pub struct Copies {
     taken: Mutex<Vec<Arc<Place>>>,
-    /// How long a client may leave its copy unread while another client needs its place.
-    hold: Duration,
+    unread: Duration,
 }
 
 /// A place for a copy. It is empty while the copy is being made, and once the server has taken the copy back.
@@ -55,10 +57,11 @@ impl Drop for Copy<'_> {
 }
 
 impl Copies {
+    /// Creates the places of a server whose clients may keep a snapshot for this time.
     pub fn new(hold: Duration) -> Self {
         Self {
             taken: Mutex::default(),
-            hold,
+            unread: hold.min(UNREAD),
         }
     }
 
@@ -70,7 +73,7 @@ impl Copies {
     fn begin(&self) -> Result<Copy<'_>, Failure> {
         let mut taken = self.lock();
         if taken.len() >= MOST {
-            match taken.iter().position(|place| place.take_back(self.hold)) {
+            match taken.iter().position(|place| place.take_back(self.unread)) {
                 Some(index) => drop(taken.remove(index)),
                 None => return Err(too_many()),
             }
@@ -87,9 +90,9 @@ impl Place {
     }
 
     /// Takes the copy back if the client hasn't read it for this long. Returns whether it did.
-    fn take_back(&self, hold: Duration) -> bool {
+    fn take_back(&self, unread: Duration) -> bool {
         match self.0.try_lock() {
-            Ok(mut made) if made.as_ref().map_or(false, |made| made.read.elapsed() >= hold) => {
+            Ok(mut made) if made.as_ref().map_or(false, |made| made.read.elapsed() >= unread) => {
                 *made = None;
                 true
             }
