@@ -2,17 +2,22 @@
 
 from __future__ import annotations
 
+import ctypes
 import os
 import shutil
+import signal
 import subprocess
 import tempfile
 import time
+from typing import Callable
 
 import bestore
 from bestore.connected import SocketPath
 
 PATIENCE = 10.0
 """The number of seconds that a server may take to start listening."""
+
+_PR_SET_PDEATHSIG = 1  # from <linux/prctl.h>
 
 
 class CannotStart(Exception):
@@ -36,8 +41,18 @@ def listens(path: SocketPath) -> bool:
     return True
 
 
+def _ended_with_this_process() -> Callable[[], None]:
+    """Returns a function for a child process to call before it runs its program. The system then sends the child SIGTERM when this process
+    ends, even if it is killed."""
+    prctl, number = ctypes.CDLL(None).prctl, ctypes.c_ulong(signal.SIGTERM)
+
+    def request() -> None:
+        prctl(_PR_SET_PDEATHSIG, number)
+    return request
+
+
 class OwnServer:
-    """A server that runs until `close`."""
+    """A server that runs until `close`, or until this process ends."""
 
     def __init__(self, path: SocketPath) -> None:
         program = shutil.which("bestored")
@@ -48,7 +63,8 @@ class OwnServer:
         self._said = tempfile.TemporaryFile()
         words = [program, "--socket", path.path, "--keep", kept, "--pages", "16384"]
         self._process = subprocess.Popen(
-            words, stdin=subprocess.DEVNULL, stdout=subprocess.DEVNULL, stderr=self._said, start_new_session=True)
+            words, stdin=subprocess.DEVNULL, stdout=subprocess.DEVNULL, stderr=self._said, start_new_session=True,
+            preexec_fn=_ended_with_this_process())
         try:
             self._await(path)
         except BaseException:

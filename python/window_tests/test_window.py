@@ -3,21 +3,27 @@
 from __future__ import annotations
 
 import os
+import shutil
+import signal
 import stat
+import subprocess
+import sys
 import tempfile
 import unittest
-from typing import Dict, List
+from typing import Dict, List, Tuple
 from unittest import mock
 
 import bestore
+from bestore.connected import SocketPath
 from bestore.pages import Order
 from bestore_queries.find import Relation
 from bestore_queries.folder import INDICES
+from bestore_queries.own_server import listens
 from bestore_queries.saved_queries import Saved, SavedQueries
 from bestore_queries.sources import Condition, FolderSource, ServerSource
 
 import servers
-from common import HAS_TK, MadeSource, OnDisplay, file_of, files_store, press, shown, write
+from common import HAS_TK, MadeSource, OnDisplay, file_of, files_store, press, shown, wait_for, write
 
 if HAS_TK:
     import tkinter
@@ -615,15 +621,19 @@ class OverServer(OnDisplay):
         window.ask("size>=0")
         self.becomes(window, lambda: str(window.notice["text"]) == "")
 
-    def test_own_server(self) -> None:
-        """If no server is listening, the window starts one that saves its store, and stops it later."""
+    def own_server(self) -> Tuple[str, Dict[str, str]]:
+        """Returns the path of a socket, and the variables with which a window starts its own server there."""
         folder = tempfile.mkdtemp(prefix="own-", dir=servers.MEMORY)
-        self.addCleanup(lambda: __import__("shutil").rmtree(folder))
+        self.addCleanup(shutil.rmtree, folder, ignore_errors=True)  # a server that is ending may still remove files
         program = os.path.join(folder, "bestored")
         os.symlink(str(servers.BESTORED), program)
         socket = os.path.join(folder, "run", "socket")
         os.mkdir(os.path.dirname(socket), 0o700)
-        changed = {"PATH": folder, "BESTORE_SOCKET": socket, "XDG_DATA_HOME": os.path.join(folder, "data")}
+        return socket, {"PATH": folder, "BESTORE_SOCKET": socket, "XDG_DATA_HOME": os.path.join(folder, "data")}
+
+    def test_own_server(self) -> None:
+        """If no server is listening, the window starts one that saves its store, and stops it later."""
+        socket, changed = self.own_server()
         for kept in (0, 1):
             with mock.patch.dict(os.environ, changed):
                 source = ServerSource()
@@ -635,6 +645,18 @@ class OverServer(OnDisplay):
             source.close()
             with self.assertRaises(bestore.NoServer):
                 bestore.connect(socket)
+
+    def test_own_server_of_a_killed_window(self) -> None:
+        """A server that the window has started ends with the window's process, whatever ends that."""
+        for number in (signal.SIGTERM, signal.SIGKILL):
+            socket, changed = self.own_server()
+            window = subprocess.Popen([sys.executable, "-m", "bestore_queries"], stdin=subprocess.DEVNULL, env={**os.environ, **changed})
+            try:
+                self.assertTrue(wait_for(lambda: listens(SocketPath.find(socket))))
+            finally:
+                window.send_signal(number)
+                window.wait()
+            self.assertTrue(wait_for(lambda: not listens(SocketPath.find(socket))), f"signal {number}")
 
 
 class OverVolumes(OverServer):

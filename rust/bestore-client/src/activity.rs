@@ -1,8 +1,10 @@
-//! Calls that ask what the server is doing.
+//! Calls that ask what the server is doing, and calls that wait for it.
 
-use crate::wire::{self, Command, Nothing};
-use crate::{Client, Result};
-use std::time::Duration;
+use crate::client::MOST_WITHIN;
+use crate::options::end_of;
+use crate::wire::{self, Command, Nothing, Numbers};
+use crate::{Client, ErrorName, Result};
+use std::time::{Duration, Instant};
 
 impl Client {
     /// Returns how full the store is.
@@ -56,5 +58,85 @@ impl Client {
             entry: Some(entry),
             within: Some(u64::try_from(within.as_millis()).unwrap_or(u64::MAX)),
         }))
+    }
+
+    /// Waits up to `within` for the journal of each volume to reach this number of entries; for a server with one volume, pass one number.
+    /// Later reads of the current snapshot see these entries. The error is `NotReached` if the time is up first, or if the server takes
+    /// back the client's pinned snapshot. For each minute, the call sends a request.
+    ///
+    /// # Errors
+    /// The same as [`call`](Self::call).
+    pub fn reach(&mut self, numbers: &[u64], within: Duration) -> Result<wire::Commit> {
+        self.reach_in_parts(numbers, within, MOST_WITHIN)
+    }
+
+    /// Waits with requests that each let the server wait for up to `most`.
+    fn reach_in_parts(&mut self, numbers: &[u64], within: Duration, most: Duration) -> Result<wire::Commit> {
+        let until = end_of(within);
+        loop {
+            let begin = Instant::now();
+            let left = until.saturating_duration_since(begin);
+            match self.reach_once(numbers, left.min(most)) {
+                // If the server hasn't waited for so long, it has taken back the pinned snapshot.
+                Err(error) if error.is(ErrorName::NotReached) && left > most && begin.elapsed() >= most => {}
+                reached => return reached,
+            }
+        }
+    }
+
+    fn reach_once(&mut self, numbers: &[u64], within: Duration) -> Result<wire::Commit> {
+        // Rounded up, so that the server doesn't wait for a shorter time.
+        let within = within.saturating_add(Duration::from_nanos(999_999)).as_millis();
+        self.call(Command::Reach(wire::Reach {
+            commit: match numbers {
+                [number] => Numbers::One(*number),
+                numbers => Numbers::Each(numbers.into()),
+            },
+            within: Some(u64::try_from(within).unwrap_or(u64::MAX)),
+        }))
+    }
+}
+
+#[cfg(test)]
+mod tests {
+    use super::*;
+    use crate::Options;
+    use std::io::{BufRead, BufReader, Write};
+    use std::os::unix::net::UnixStream;
+    use std::thread;
+
+    const NOT_REACHED: &str = r#""error":{"name":"NotReached","message":""}"#;
+
+    #[test]
+    fn a_long_wait_takes_several_requests() {
+        let (stream, mut server) = UnixStream::pair().unwrap();
+        let mut client = Client::over(stream, Options::new());
+        let most = Duration::from_millis(20);
+        let answering = thread::spawn(move || {
+            let lines = BufReader::new(server.try_clone().unwrap()).lines();
+            let answers = [NOT_REACHED, NOT_REACHED, r#""ok":{"commit":5}"#];
+            let mut asked = Vec::new();
+            for ((id, answer), line) in (1..).zip(answers).zip(lines) {
+                asked.push(line.unwrap());
+                thread::sleep(most);
+                writeln!(server, "{{\"id\":{id},{answer}}}").unwrap();
+            }
+            asked
+        });
+        assert_eq!(client.reach_in_parts(&[5], Duration::MAX, most).unwrap().commit, 5);
+        drop(client);
+        let asked = answering.join().unwrap();
+        assert_eq!(asked.len(), 3);
+        let is_short = |line: &String| line.ends_with(r#""reach":{"commit":5,"within":20}}"#);
+        assert!(asked.iter().all(is_short), "{asked:?}");
+    }
+
+    #[test]
+    fn a_wait_ends_if_the_snapshot_is_taken_back() {
+        let (stream, mut server) = UnixStream::pair().unwrap();
+        let mut client = Client::over(stream, Options::new());
+        writeln!(server, "{{\"id\":1,{NOT_REACHED}}}").unwrap();
+        let refused = client.reach(&[5], Duration::MAX).unwrap_err();
+        assert!(refused.is(ErrorName::NotReached), "{refused}");
     }
 }

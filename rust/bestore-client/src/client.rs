@@ -22,7 +22,7 @@ const CHUNK: usize = 1 << 14;
 
 /// How long a command may wait in the server: the default and the maximum.
 const WITHIN: Duration = Duration::from_secs(5);
-const MOST_WITHIN: Duration = Duration::from_secs(60);
+pub(crate) const MOST_WITHIN: Duration = Duration::from_secs(60);
 
 /// A connection to the server, with its own pass of the server's store.
 #[derive(Debug)]
@@ -178,6 +178,16 @@ impl Client {
     pub fn call<T: DeserializeOwned>(&mut self, command: Command<'_>) -> Result<T> {
         let id = self.send(command)?;
         self.receive(id)
+    }
+
+    /// Calls a command that pins a snapshot or begins a live query. If the server refuses it, a new connection would lose nothing.
+    fn begin<T: DeserializeOwned>(&mut self, command: Command<'_>) -> Result<T> {
+        let before = (self.is_pinned, self.has_watches);
+        let begun = self.call(command);
+        if let Err(Error::Refused(_)) = &begun {
+            (self.is_pinned, self.has_watches) = before;
+        }
+        begun
     }
 
     /// Sends a command without waiting for its reply. Call [`receive`](Self::receive) to get the reply, after those to earlier commands.
@@ -355,8 +365,8 @@ impl Client {
     }
 
     /// Returns the next line pushed for a live query, or `None` if none arrives within this time. If the time is zero, the call only returns
-    /// what has already arrived. Lines that arrive while another call
-    /// waits for its reply are buffered, up to [`Options::most_pushed`]. A push with an `error` is the last one for its live query.
+    /// what has already arrived. Lines that arrive while another call waits for its reply are buffered, up to [`Options::most_pushed`]. A
+    /// push with an `error` is the last one for its live query.
     ///
     /// # Errors
     /// [`Error::Refused`] with the server's reason if it closed the connection. [`Error::Io`], [`Error::Closed`], [`Error::BadLine`].
@@ -462,28 +472,12 @@ impl Client {
         })
     }
 
-    /// Waits up to `within` for the journal of each volume to reach this number of entries; for a server with one volume, pass one number.
-    /// Later reads of the current snapshot see these entries. The error is `NotReached` if the time is up first, or if the server takes
-    /// back the client's pinned snapshot.
-    ///
-    /// # Errors
-    /// The same as `call`.
-    pub fn reach(&mut self, numbers: &[u64], within: Duration) -> Result<wire::Commit> {
-        self.call(Command::Reach(wire::Reach {
-            commit: match numbers {
-                [number] => Numbers::One(*number),
-                numbers => Numbers::Each(numbers.into()),
-            },
-            within: Some(u64::try_from(within.as_millis()).unwrap_or(u64::MAX)),
-        }))
-    }
-
     /// Pins the current snapshot: all reads see it until [`unpin`](Self::unpin).
     ///
     /// # Errors
     /// The same as `call`.
     pub fn pin(&mut self) -> Result<wire::Next> {
-        self.call(Command::Pin(Nothing {}))
+        self.begin(Command::Pin(Nothing {}))
     }
 
     /// Returns the number of the snapshot (the pinned one, or otherwise the current one) and the number that the next new node will have.
@@ -494,7 +488,8 @@ impl Client {
         self.call(Command::Next(Nothing {}))
     }
 
-    /// Has the server copy the snapshot, so that the command `state` can read it without a pin.
+    /// Has the server copy the snapshot, so that the command `state` can read it without a pin. If the copy isn't read for a while, the
+    /// server may take it back for another client; `state` then returns `Expired`.
     ///
     /// # Errors
     /// The same as `call`.
@@ -587,7 +582,7 @@ impl Client {
     /// The same as `call`.
     pub fn watch(&mut self, query: Option<&str>) -> Result<wire::Watched> {
         let query = query.map(Cow::from);
-        self.call(Command::Watch(wire::Watch { query }))
+        self.begin(Command::Watch(wire::Watch { query }))
     }
 
     /// Brings a live query up to date now, on the pinned snapshot if there is one, and returns the changes since its last line. Any pushes

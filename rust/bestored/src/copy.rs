@@ -7,20 +7,32 @@ use crate::page::{self, Room};
 use crate::server::Shared;
 use bestore::{Batch, Node, ShelfSnapshot, StateCopy};
 use bestore_client::wire::{self, ErrorName, ShownOperations};
-use std::sync::atomic::{AtomicUsize, Ordering};
+use std::sync::{Arc, Mutex, MutexGuard, PoisonError};
+use std::time::{Duration, Instant};
 
 /// How many copies all clients together may have at a time. A copy takes no more memory than the store's pages do.
 const MOST: usize = 2;
 
-/// Counts the existing copies.
+/// How long a client may leave its copy unread while another client needs the place, however long it may keep a snapshot.
+const UNREAD: Duration = Duration::from_secs(60);
+
+/// The places for copies.
+#[derive(Debug)]
+pub struct Copies {
+    taken: Mutex<Vec<Arc<Place>>>,
+    unread: Duration,
+}
+
+/// A place for a copy. It is empty while the copy is being made, and once the server has taken the copy back.
 #[derive(Debug, Default)]
-pub struct Copies(AtomicUsize);
+struct Place(Mutex<Option<Made>>);
 
 /// The batches that rebuild a snapshot, for each volume.
 #[derive(Debug)]
-pub struct Copy<'a> {
-    copies: &'a Copies,
+struct Made {
     volumes: Vec<Volume>,
+    /// When the client last read the copy.
+    read: Instant,
 }
 
 /// A volume's batches, as bytes.
@@ -31,34 +43,82 @@ struct Volume {
     batches: Vec<Vec<u8>>,
 }
 
+/// A client's copy.
+#[derive(Debug)]
+pub struct Copy<'a> {
+    copies: &'a Copies,
+    place: Arc<Place>,
+}
+
 impl Drop for Copy<'_> {
     fn drop(&mut self) {
-        self.copies.0.fetch_sub(1, Ordering::Relaxed);
+        self.copies.lock().retain(|place| !Arc::ptr_eq(place, &self.place));
     }
 }
 
 impl Copies {
+    /// Creates the places of a server whose clients may keep a snapshot for this time.
+    pub fn new(hold: Duration) -> Self {
+        Self {
+            taken: Mutex::default(),
+            unread: hold.min(UNREAD),
+        }
+    }
+
+    fn lock(&self) -> MutexGuard<'_, Vec<Arc<Place>>> {
+        self.taken.lock().unwrap_or_else(PoisonError::into_inner)
+    }
+
+    /// Takes a place. If no place is free, takes back a copy that hasn't been read for too long.
     fn begin(&self) -> Result<Copy<'_>, Failure> {
-        let take = |count| (count < MOST).then(|| count + 1);
-        match self.0.fetch_update(Ordering::Relaxed, Ordering::Relaxed, take) {
-            Ok(_) => Ok(Copy {
-                copies: self,
-                volumes: Vec::new(),
-            }),
-            Err(_) => {
-                let message =
-                    format!("{MOST} clients are reading copies of snapshots, the most that can at the same time");
-                Err(Failure::new(ErrorName::TooManyCopies, message).with("most", MOST))
+        let mut taken = self.lock();
+        if taken.len() >= MOST {
+            match taken.iter().position(|place| place.take_back(self.unread)) {
+                Some(index) => drop(taken.remove(index)),
+                None => return Err(too_many()),
             }
+        }
+        let place = Arc::new(Place::default());
+        taken.push(place.clone());
+        Ok(Copy { copies: self, place })
+    }
+}
+
+impl Place {
+    fn lock(&self) -> MutexGuard<'_, Option<Made>> {
+        self.0.lock().unwrap_or_else(PoisonError::into_inner)
+    }
+
+    /// Takes the copy back if the client hasn't read it for this long. Returns whether it did.
+    fn take_back(&self, unread: Duration) -> bool {
+        match self.0.try_lock() {
+            Ok(mut made) if made.as_ref().map_or(false, |made| made.read.elapsed() >= unread) => {
+                *made = None;
+                true
+            }
+            // The copy is being read or made, or was read a short time ago.
+            _ => false,
         }
     }
 }
 
+fn too_many() -> Failure {
+    let message = format!("{MOST} clients are reading copies of snapshots, the most that can at the same time");
+    Failure::new(ErrorName::TooManyCopies, message).with("most", MOST)
+}
+
+fn taken_back() -> Failure {
+    let message =
+        "the copy expired, because it wasn't read for too long and another client needed its place; send collect again";
+    Failure::new(ErrorName::Expired, message)
+}
+
 /// Copies the state that reads see. If no snapshot is pinned, each volume is copied from a snapshot of its own.
 pub fn collect<'a>(shared: &'a Shared, view: &View<'_, '_>) -> Result<(Copy<'a>, wire::Next), Failure> {
-    let mut copy = shared.copies.begin()?;
+    let copy = shared.copies.begin()?;
+    let mut volumes = Vec::new();
     for (volume, store) in (0_u32..).zip(shared.kept.shelf().volumes()) {
-        copy.volumes.push(match view {
+        volumes.push(match view {
             View::Current(_) => Volume::of_copy(volume, store.copy_state()?)?,
             View::Kept { snapshot, since, .. } => {
                 Volume::of_snapshot(volume, snapshot, || shared.pressure.is_over(*since))?
@@ -66,8 +126,24 @@ pub fn collect<'a>(shared: &'a Shared, view: &View<'_, '_>) -> Result<(Copy<'a>,
             View::Expired(_) => return Err(Failure::expired()),
         });
     }
-    let next = copy.next(view.roomiest()?);
+    let next = next(&volumes, view.roomiest()?);
+    *copy.place.lock() = Some(Made {
+        volumes,
+        read: Instant::now(),
+    });
     Ok((copy, next))
+}
+
+/// Returns the copied commit numbers and next node numbers. New nodes are created in the volume with the most free pages.
+fn next(volumes: &[Volume], roomiest: u32) -> wire::Next {
+    let commits: Vec<u64> = volumes.iter().map(|volume| volume.commit).collect();
+    let nexts: Vec<u64> = volumes.iter().map(|volume| volume.next).collect();
+    wire::Next {
+        commit: commits.iter().sum(),
+        commits: wire::several(&commits),
+        next: nexts.get(roomiest as usize).copied().unwrap_or_default(),
+        nexts: wire::several(&nexts),
+    }
 }
 
 impl Volume {
@@ -100,20 +176,19 @@ impl Volume {
 }
 
 impl Copy<'_> {
-    /// Returns the copy's commit numbers and next node numbers. New nodes are created in the volume with the most free pages.
-    fn next(&self, roomiest: u32) -> wire::Next {
-        let commits: Vec<u64> = self.volumes.iter().map(|volume| volume.commit).collect();
-        let nexts: Vec<u64> = self.volumes.iter().map(|volume| volume.next).collect();
-        wire::Next {
-            commit: commits.iter().sum(),
-            commits: wire::several(&commits),
-            next: nexts.get(roomiest as usize).copied().unwrap_or_default(),
-            nexts: wire::several(&nexts),
-        }
-    }
-
-    /// Returns a page of a volume's batches.
+    /// Returns a page of a volume's batches, unless the server has taken the copy back.
     pub fn page(&self, from: &wire::From) -> Result<wire::State, Failure> {
+        let mut place = self.place.lock();
+        let made = place.as_mut().ok_or_else(taken_back)?;
+        let page = made.page(from);
+        made.read = Instant::now();
+        page
+    }
+}
+
+impl Made {
+    /// Returns a page of a volume's batches.
+    fn page(&self, from: &wire::From) -> Result<wire::State, Failure> {
         let asked = page::volume(from.volume, self.volumes.len())?;
         let volumes = self.volumes.len() as u32;
         let volume = self.volumes.get(asked as usize);

@@ -35,6 +35,8 @@ pub enum Kept {
 #[cfg_attr(not(feature = "log"), allow(dead_code))]
 pub struct Opening<'a> {
     pub options: &'a Options,
+    /// The path of the socket, if it has one.
+    pub socket: Option<&'a Path>,
     /// The server's run.
     pub run: &'a str,
     pub tokens: &'a Arc<Tokens>,
@@ -173,7 +175,7 @@ impl Kept {
 
     #[cfg(not(feature = "log"))]
     fn open_log(_: Opening<'_>) -> Result<Option<Self>, Box<dyn Error>> {
-        Err("this program was built without the feature log".into())
+        Err(crate::Unusable("this program was built without the feature log").into())
     }
 
     /// Returns the volumes in memory. Writes are kept only if they go through a pass from [`pass`](Self::pass).

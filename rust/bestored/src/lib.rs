@@ -43,6 +43,7 @@ mod watcher;
 mod writes;
 
 use background::{Side, Starter};
+use copy::Copies;
 use kept::{Kept, Opening};
 use meter::Meter;
 use notify::Notifier;
@@ -63,11 +64,27 @@ fn report(line: fmt::Arguments<'_>) {
     let _ = writeln!(io::stderr(), "{line}");
 }
 
+/// The command line has an option that can't be used here.
+#[derive(Debug)]
+struct Unusable(&'static str);
+
+impl fmt::Display for Unusable {
+    fn fmt(&self, f: &mut fmt::Formatter<'_>) -> fmt::Result {
+        f.write_str(self.0)
+    }
+}
+
+impl Error for Unusable {}
+
 /// Runs the program with the options from its command line.
 pub fn main() -> ExitCode {
     start(Options::read()).unwrap_or_else(|error| {
         report!("bestored: {error}");
-        ExitCode::FAILURE
+        match error.is::<Unusable>() {
+            // The status for any other invalid command line. The service manager doesn't restart the server after it.
+            true => ExitCode::from(2),
+            false => ExitCode::FAILURE,
+        }
     })
 }
 
@@ -89,9 +106,11 @@ fn place(options: &Options) -> Result<Place, Box<dyn Error>> {
     match os::passed_socket()? {
         None => Ok(Place::find(&options.socket())?),
         Some(_) if options.socket.is_some() => {
-            Err("--socket can't be used, because systemd has passed a socket".into())
+            Err(Unusable("--socket can't be used, because systemd has passed a socket").into())
         }
-        Some(_) if options.background => Err("--background can't be used, because systemd has passed a socket".into()),
+        Some(_) if options.background => {
+            Err(Unusable("--background can't be used, because systemd has passed a socket").into())
+        }
         Some(listener) => Ok(Place::Passed(listener)),
     }
 }
@@ -102,14 +121,16 @@ fn serve(options: Options, place: Place, starter: Option<Starter>) -> Result<(),
     let run = server::run_text()?;
     let notifier = Notifier::of_environment();
     let tokens = Arc::new(Tokens::default());
+    let socket = place.socket();
     let opening = Opening {
         options: &options,
+        socket: socket.as_deref(),
         run: &run,
         tokens: &tokens,
         notifier: &notifier,
         signals: &signals,
     };
-    let kept = match Kept::open(opening)? {
+    let kept = match notifier.while_loading(|| Kept::open(opening))? {
         Some(kept) => kept,
         None => return Ok(()),
     };
@@ -133,7 +154,7 @@ fn share(kept: Kept, tokens: Arc<Tokens>, run: String, options: Options) -> best
         pressure: Pressure::new(options.hold),
         clients: Default::default(),
         meter: Meter::new(),
-        copies: Default::default(),
+        copies: Copies::new(options.hold),
         carrying: Default::default(),
         is_full: Default::default(),
         not_accepted: Default::default(),

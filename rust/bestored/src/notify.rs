@@ -3,10 +3,14 @@
 use crate::os;
 use std::env;
 use std::ffi::OsString;
+use std::sync::mpsc::{self, RecvTimeoutError};
+use std::thread;
 use std::time::{Duration, Instant};
 
-/// How much more start-up time each message requests while the server is waiting for a database.
+/// How much more start-up time each message requests while the server is loading its store or waiting for a database, and how often to
+/// send one while it is loading.
 const EXTENSION: Duration = Duration::from_secs(30);
+const LOADING: Duration = Duration::from_secs(10);
 
 /// How long to wait until the service manager takes a message, and for one that says only that the server is alive. If the manager
 /// hangs, the server goes on without it.
@@ -62,6 +66,30 @@ impl Notifier {
         self.send("READY=1\nSTATUS=listens");
     }
 
+    /// Calls the function, and requests more start-up time as long as it runs.
+    pub fn while_loading<T>(&self, load: impl FnOnce() -> T) -> T {
+        self.requesting_every(LOADING, load)
+    }
+
+    fn requesting_every<T>(&self, every: Duration, load: impl FnOnce() -> T) -> T {
+        if self.socket.is_none() {
+            return load();
+        }
+        let (loaded, is_loaded) = mpsc::channel::<()>();
+        thread::scope(|scope| {
+            let request = move || {
+                while is_loaded.recv_timeout(every) == Err(RecvTimeoutError::Timeout) {
+                    self.send_within(FOR_LIFE, &format!("EXTEND_TIMEOUT_USEC={}", EXTENSION.as_micros()));
+                }
+            };
+            // If the thread can't be started, the manager only gives the server less time.
+            let _ = thread::Builder::new().spawn_scoped(scope, request);
+            let store = load();
+            drop(loaded);
+            store
+        })
+    }
+
     /// Reports what the server is waiting for before it can listen.
     #[cfg_attr(not(feature = "log"), allow(dead_code))]
     pub fn waits(&self, why: &str) {
@@ -89,6 +117,25 @@ impl Notifier {
 #[cfg(test)]
 mod tests {
     use super::*;
+    use std::fs;
+    use std::os::unix::net::UnixDatagram;
+
+    #[test]
+    fn a_server_that_loads_requests_more_time() {
+        let path = env::temp_dir().join(format!("bestored-notify-{}", std::process::id()));
+        let manager = UnixDatagram::bind(&path).unwrap();
+        let notifier = Notifier {
+            socket: Some(path.clone().into()),
+            every: None,
+            last: Instant::now(),
+        };
+        let mut bytes = [0; 99];
+        // The store is loaded once the manager has got two messages.
+        let load = || [(); 2].map(|()| manager.recv(&mut bytes).unwrap());
+        let [_, length] = notifier.requesting_every(Duration::from_millis(1), load);
+        assert_eq!(&bytes[..length], b"EXTEND_TIMEOUT_USEC=30000000");
+        fs::remove_file(path).unwrap();
+    }
 
     #[test]
     fn a_watchdog_is_told_if_it_watches_this_process() {

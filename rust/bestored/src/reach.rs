@@ -1,4 +1,4 @@
-//! Waits for commit numbers.
+//! Waits for commit numbers, and how long a request may wait.
 
 use crate::answer::View;
 use crate::clients::Client;
@@ -23,8 +23,7 @@ pub fn reach(
     reach: &wire::Reach,
 ) -> Result<wire::Commit, Failure> {
     let wanted = numbers(&reach.commit, view.volumes())?;
-    let within = reach.within.map_or(WITHIN, Duration::from_millis).min(MOST);
-    let until = Instant::now() + within;
+    let until = Instant::now() + within(reach.within)?;
     let since = view.since();
     let is_over = || Instant::now() >= until || since.map_or(false, |since| pressure.is_over(since));
     loop {
@@ -39,6 +38,18 @@ pub fn reach(
             return Err(not_reached(&wanted, &found));
         }
         view.follow(client);
+    }
+}
+
+/// Returns how long a request may wait, from its parameter `within` in milliseconds.
+pub fn within(milliseconds: Option<u64>) -> Result<Duration, Failure> {
+    match milliseconds.map_or(WITHIN, Duration::from_millis) {
+        time if time <= MOST => Ok(time),
+        time => Err(Failure::bad_request(&format!(
+            "`within` is {} milliseconds, and a request can wait for up to {}",
+            time.as_millis(),
+            MOST.as_millis()
+        ))),
     }
 }
 

@@ -68,6 +68,14 @@ impl Place {
         }
     }
 
+    /// Returns the path of the socket, even if systemd has passed it. Returns `None` if it has no path.
+    pub fn socket(&self) -> Option<PathBuf> {
+        match self {
+            Self::Passed(listener) => listener.local_addr().ok()?.as_pathname().map(PathBuf::from),
+            Self::Path(path) => Some(path.clone()),
+        }
+    }
+
     /// Returns the path where the server is going to listen, unless systemd has passed the socket.
     pub fn path(&self) -> Option<&Path> {
         match self {

@@ -10,7 +10,7 @@ use bestore_client::wire::{Command, Nothing};
 use bestore_client::{Client, Error, ErrorName, Options};
 use std::net::{SocketAddr, TcpListener, TcpStream};
 use std::thread;
-use std::time::Duration;
+use std::time::{Duration, Instant};
 
 /// How long a request to write the state takes at most if the database hangs.
 const WRITTEN: Duration = Duration::from_secs(30);
@@ -84,7 +84,16 @@ fn a_follower_behind_a_slow_network_gets_all_entries() {
     }
     // The entries take 7 MB, and at most 0.6 MB arrive in a second.
     let proxy = Proxy::start_slow(database.postgres.port, Duration::from_millis(27));
-    let follower = Member::start_at(Folder::in_memory(), &database.url_at(proxy.port), "--follow");
+    let follow = || Member::start_at(Folder::in_memory(), &database.url_at(proxy.port), "--follow");
+    // A server that is still reading them ends at a signal.
+    let reading = follow();
+    let sessions =
+        "SELECT count(*) FROM pg_stat_activity WHERE datname = current_database() AND application_name = 'bestored'";
+    wait_until("it has a session", || database.sql(sessions) == "2");
+    let begin = Instant::now();
+    assert!(reading.server.end_by("TERM").success(), "{}", reading.said());
+    assert!(begin.elapsed() < Duration::from_secs(6), "{:?}", begin.elapsed());
+    let follower = follow();
     wait_within(Duration::from_secs(60), "it listens or tries again", || {
         follower.server.socket().exists() || follower.said().contains("trying again")
     });
@@ -130,14 +139,18 @@ fn deaf() -> (TcpListener, Vec<TcpStream>) {
 fn a_database_is_found_behind_a_machine_that_does_not_reply() {
     let database = present!(database());
     let (deaf, _waiting) = deaf();
-    let port = deaf.local_addr().unwrap().port();
-    let url = database.url_of_tcp().replace("@", &format!("@127.0.0.1:{port},"));
-    let member = Member::start_at(Folder::in_memory(), &url, "--log");
-    wait_within(SOON, "it leads", || {
-        member.leads() || member.said().contains("trying again")
-    });
-    assert!(member.leads(), "{}", member.said());
-    assert_eq!(make(&mut member.client(), "a").unwrap().nodes, [1]);
+    // The system completes a connection to this one, but nothing ever replies to what is sent.
+    let mute = TcpListener::bind("127.0.0.1:0").unwrap();
+    for (node, silent) in [(1, &deaf), (2, &mute)] {
+        let port = silent.local_addr().unwrap().port();
+        let url = database.url_of_tcp().replace("@", &format!("@127.0.0.1:{port},"));
+        let member = Member::start_at(Folder::in_memory(), &url, "--log");
+        wait_within(SOON, "it leads", || {
+            member.leads() || member.said().contains("trying again")
+        });
+        assert!(member.leads(), "{}", member.said());
+        assert_eq!(make(&mut member.client(), &node.to_string()).unwrap().nodes, [node]);
+    }
 }
 
 #[test]
@@ -149,4 +162,26 @@ fn a_token_that_the_database_could_not_take_is_refused() {
     let batch = r#""batch":{"operations":[["new"]],"token":"a\u0000b"}"#;
     talk.check_parts(batch, &["BadRequest", "a token has 1 to 64 bytes, none of them zero"]);
     assert_eq!(make(&mut leader.client(), "ab").unwrap().nodes, [1]);
+}
+
+#[test]
+fn a_database_whose_encoding_cannot_store_some_tokens_is_refused() {
+    let database = present!(database());
+    let latin = database.postgres.database_in("LATIN1");
+    for how in ["--log", "--follow"] {
+        let said = Member::start(&latin, how).end();
+        assert!(
+            said.contains("the database of the log has the encoding LATIN1, which can't store every token;"),
+            "{said}"
+        );
+    }
+    assert_eq!(latin.sql("SELECT to_regclass('bestore_log') IS NULL"), "t");
+    // With this encoding, PostgreSQL stores bytes as they are.
+    let bytes = database.postgres.database_in("SQL_ASCII");
+    let leader = Member::start(&bytes, "--log");
+    assert_eq!(make(&mut leader.client(), "€").unwrap().nodes, [1]);
+    let again = leader.follow_again(&bytes);
+    wait_until("it leads", || again.leads());
+    assert_eq!(make(&mut again.client(), "€").unwrap().nodes, [1]);
+    assert_eq!(make(&mut again.client(), "$").unwrap().nodes, [2]);
 }

@@ -5,11 +5,13 @@ use crate::common::proxy::{Lost, Proxy};
 use crate::common::writers::{check_history, state_of, Writers};
 use crate::common::{check_gone, command, wait_until, wait_within, Folder, Random, Server};
 use crate::slow;
+use crate::socket::activated;
 use bestore::Batch;
 use bestore_client::wire::{Command, LogStatus, Nothing, Write, Written};
 use bestore_client::{Client, Error, ErrorName};
 use std::cell::RefCell;
 use std::fs::{self, File};
+use std::os::unix::net::UnixStream;
 use std::process;
 use std::sync::atomic::{AtomicBool, Ordering::Relaxed};
 use std::sync::Arc;
@@ -285,6 +287,21 @@ fn followers_refuse_writes_and_wait_for_entries() {
     wait_until("the follower leads", || members[1].leads());
     follower.apply(&set_count(52)).unwrap();
     assert_eq!(follower.log().unwrap().term, Some(2));
+}
+
+#[test]
+fn the_leaders_name_contains_the_socket_that_systemd_has_passed() {
+    let database = present!(database());
+    let folder = Folder::new();
+    let (socket, url) = (folder.join("passed"), database.url());
+    let options = ["--log", url.as_str(), "--pages", "64", "--passes", "4"];
+    let mut server = present!(activated(&socket, &options));
+    wait_until("the socket is there", || UnixStream::connect(&socket).is_ok());
+    let status = Client::connect(&socket).and_then(|mut client| client.log());
+    server.kill().unwrap();
+    server.wait().unwrap();
+    let leader = status.unwrap().leader;
+    assert!(leader.ends_with(&format!(":{}", socket.display())), "{leader}");
 }
 
 #[test]

@@ -205,6 +205,10 @@ const ERRORS: &[(&str, &str)] = &[
     (r#""columns":{"nodes":[-1],"names":[]}"#, r#""BadRequest""#),
     (r#""columns":{"nodes":[1]}"#, r#""BadRequest""#),
     (r#""unwatch":{"watch":1}"#, r#""NoWatch""#),
+    (
+        r#""reach":{"commit":9,"within":60001}"#,
+        r#""BadRequest","message":"`within` is 60001 milliseconds, and a request can wait for up to 60000""#,
+    ),
     (r#""flush":{}"#, r#""NotKept""#),
     (r#""state":{}"#, r#""NotPinned","number":66"#),
     (r#""unpin":{}"#, r#""NotPinned","number":66"#),
@@ -552,5 +556,35 @@ fn two_clients_read_copies_at_the_same_time() {
     drop(talks.remove(0));
     wait_until("its place is free", || {
         talks[1].ask(r#"{"id":1,"collect":{}}"#).contains("ok")
+    });
+}
+
+#[test]
+fn an_idle_client_keeps_no_other_from_a_copy() {
+    let (_folder, server) = start(&["--hold", "1"]);
+    let mut talks: Vec<_> = (0..3).map(|_| server.talk()).collect();
+    for talk in &mut talks[..2] {
+        talk.check(r#""collect":{}"#, r#""ok":{"commit":0,"next":1}"#);
+    }
+    wait_until("there is a place for the third", || {
+        // The second client goes on reading its copy.
+        talks[1].check_parts(r#""state":{}"#, &[r#""ok":{"commit":0,"#]);
+        talks[2].ask(r#"{"id":1,"collect":{}}"#).contains(r#""ok""#)
+    });
+    for _ in 0..2 {
+        talks[0].check(
+            r#""state":{}"#,
+            concat!(
+                r#""error":{"name":"Expired","message":"the copy expired, because it wasn't read for too long and "#,
+                r#"another client needed its place; send collect again","class":"gone"}"#
+            ),
+        );
+    }
+    for talk in &mut talks[1..] {
+        talk.check_parts(r#""state":{}"#, &[r#""ok":{"commit":0,"#]);
+    }
+    talks.pop();
+    wait_until("there is a place for the first", || {
+        talks[0].ask(r#"{"id":1,"collect":{}}"#).contains(r#""ok""#)
     });
 }

@@ -3,7 +3,7 @@
 use crate::common::{wait_until, Folder, Random, Server};
 use bestore::Batch;
 use bestore_client::wire::{self, Command, Token, Write, Written};
-use bestore_client::{Client, Error, Options};
+use bestore_client::{Client, Error, ErrorName, Options};
 use std::collections::BTreeSet;
 use std::path::Path;
 use std::sync::atomic::{AtomicU64, Ordering::Relaxed};
@@ -240,6 +240,17 @@ fn a_client_that_would_lose_something_does_not_connect_again() {
     assert!(matches!(written.next(), Some(Err(Error::Closed))));
     assert!(matches!(written.next(), Some(Err(Error::Closed))));
     assert_eq!(written.next().unwrap().unwrap().nodes, [1]);
+}
+
+#[test]
+fn a_client_whose_live_query_was_refused_connects_again() {
+    let folder = Folder::new();
+    let server = Server::start_kept(&folder, &[]);
+    let mut client = Options::new().repeat(PATIENCE).connect(server.socket()).unwrap();
+    assert!(client.watch(Some("size>")).unwrap_err().is(ErrorName::Syntax));
+    server.kill();
+    let _server = Server::start_kept(&folder, &[]);
+    assert_eq!(client.apply(Batch::new().new_node()).unwrap().nodes, [1]);
 }
 
 #[test]

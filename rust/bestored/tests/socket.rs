@@ -9,7 +9,7 @@ use std::os::unix::fs::PermissionsExt;
 use std::os::unix::io::AsRawFd;
 use std::os::unix::net::{UnixListener, UnixStream};
 use std::path::Path;
-use std::process::{Command, Output, Stdio};
+use std::process::{Child, Command, Output, Stdio};
 use std::thread;
 use std::time::{Duration, Instant};
 
@@ -231,23 +231,27 @@ fn another_user_cant_connect() {
     server.client().hello().unwrap();
 }
 
-#[test]
-fn systemd_passes_the_socket() {
+/// Runs a server with these options once a client connects to this socket, which systemd's tool then passes to it. Returns `None` if
+/// there is no such tool.
+pub fn activated(socket: &Path, options: &[&str]) -> Option<Child> {
     let activate = Command::new("systemd-socket-activate").arg("--version").output();
     if !activate.map_or(false, |output| output.status.success()) {
         println!("skipped: there is no systemd-socket-activate");
-        return;
+        return None;
     }
+    let library_path = std::env::var_os("LD_LIBRARY_PATH").unwrap_or_default();
+    let mut server = Command::new("systemd-socket-activate");
+    server.arg("-l").arg(socket);
+    server.args(["-E", &format!("LD_LIBRARY_PATH={}", library_path.to_string_lossy())]);
+    server.arg(env!("CARGO_BIN_EXE_bestored")).args(options);
+    Some(server.spawn().unwrap())
+}
+
+#[test]
+fn systemd_passes_the_socket() {
     let folder = Folder::new();
     let socket = folder.join("socket");
-    let library_path = std::env::var_os("LD_LIBRARY_PATH").unwrap_or_default();
-    let mut server = Command::new("systemd-socket-activate")
-        .arg("-l")
-        .arg(&socket)
-        .args(["-E", &format!("LD_LIBRARY_PATH={}", library_path.to_string_lossy())])
-        .arg(env!("CARGO_BIN_EXE_bestored"))
-        .spawn()
-        .unwrap();
+    let mut server = present!(activated(&socket, &[]));
     wait_until("the socket is there", || UnixStream::connect(&socket).is_ok());
     let mut talk = Talk::new(UnixStream::connect(&socket).unwrap());
     talk.check(r#""next":{}"#, r#""ok":{"commit":0,"next":1}"#);
@@ -260,6 +264,18 @@ fn systemd_passes_the_socket() {
     wait_until("the server ends", || server.try_wait().unwrap().is_some());
     assert!(server.wait().unwrap().success());
     assert!(socket.exists());
+}
+
+#[test]
+fn a_command_line_that_systemds_socket_excludes_is_invalid() {
+    let folder = Folder::new();
+    for options in [&["--socket", "other"][..], &["--background"]] {
+        let socket = folder.join(options[0]);
+        let mut server = present!(activated(&socket, options));
+        wait_until("the socket is there", || UnixStream::connect(&socket).is_ok());
+        wait_until("the server ends", || server.try_wait().unwrap().is_some());
+        assert_eq!(server.wait().unwrap().code(), Some(2), "{options:?}");
+    }
 }
 
 /// The reply that a client gets when every place is taken.

@@ -106,7 +106,7 @@ parameters! {
         /// The log entry that the server must have applied before it replies.
         #[serde(default, deserialize_with = "given", skip_serializing_if = "Option::is_none")]
         pub entry: Option<u64>,
-        /// How long to wait for it, in milliseconds.
+        /// How long to wait for it, in milliseconds, up to 60,000.
         #[serde(default, deserialize_with = "given", skip_serializing_if = "Option::is_none")]
         pub within: Option<u64>,
     }
@@ -131,7 +131,7 @@ parameters! {
     Reach {
         /// How many entries the journal must have.
         pub commit: Numbers,
-        /// How long to wait, in milliseconds.
+        /// How long to wait, in milliseconds, up to 60,000.
         #[serde(default, deserialize_with = "given", skip_serializing_if = "Option::is_none")]
         pub within: Option<u64>,
     }

@@ -1,9 +1,9 @@
 //! How to reach a log's database: its URL, and the password, which may come from a file in the format that PostgreSQL's own
 //! programs use.
 
-use super::database::{Database, LIMIT};
+use super::database::Database;
 use super::error::{Error, Result};
-use crate::options::{InLog, Options};
+use crate::options::InLog;
 use std::fs;
 use std::os::unix::fs::PermissionsExt;
 use std::path::{Path, PathBuf};
@@ -20,7 +20,8 @@ const PLAIN: [&str; 3] = ["disable", "allow", "prefer"];
 /// How to reach the log, and how this server identifies itself there.
 #[derive(Clone, Debug)]
 pub struct Access {
-    pub config: Config,
+    /// How to reach the database on each machine that the URL names, in the order in which they are tried.
+    pub configs: Vec<Config>,
     /// This server's name for people: its machine and its socket.
     pub name: String,
     /// A string that is different for each run.
@@ -28,25 +29,26 @@ pub struct Access {
 }
 
 impl Access {
-    pub fn new(in_log: &InLog, options: &Options, run: &str) -> Result<Self> {
+    pub fn new(in_log: &InLog, socket: Option<&Path>, run: &str) -> Result<Self> {
         Ok(Self {
-            config: config(in_log)?,
-            name: name(options),
+            configs: of_machines(config(in_log)?),
+            name: name(socket),
             run: run.into(),
         })
     }
 
     pub async fn connect(&self) -> Result<Database> {
-        let database = Database::connect(&self.config).await?;
+        let database = Database::connect(&self.configs).await?;
         database.check_format().await?;
         Ok(database)
     }
 }
 
 /// Returns the server's name: the machine's name and the path of the socket.
-fn name(options: &Options) -> String {
+fn name(socket: Option<&Path>) -> String {
     let machine = fs::read_to_string("/proc/sys/kernel/hostname").unwrap_or_default();
-    format!("{}:{}", machine.trim(), options.socket().path().display())
+    let socket = socket.unwrap_or_else(|| Path::new("")).display();
+    format!("{}:{socket}", machine.trim())
 }
 
 fn config(in_log: &InLog) -> Result<Config> {
@@ -64,17 +66,58 @@ fn config(in_log: &InLog) -> Result<Config> {
         config.application_name("bestored");
     }
     config.keepalives_idle(Duration::from_secs(5));
-    limit_connecting(&mut config);
     Ok(config)
 }
 
-/// If the URL names several machines, limits the time for connecting to each, so that the last one is tried even if none of the
-/// others replies.
-fn limit_connecting(config: &mut Config) {
-    let machines = config.get_hosts().len() as u32;
-    if machines > 1 && config.get_connect_timeout().is_none() {
-        config.connect_timeout(LIMIT / (machines + 1));
+/// Splits the configuration if the URL names several machines. The time for each of them can then be limited, so that one that doesn't
+/// reply doesn't keep the server from the others.
+fn of_machines(config: Config) -> Vec<Config> {
+    let (hosts, ports) = (config.get_hosts(), config.get_ports());
+    if hosts.len() < 2 || ports.len() > 1 && ports.len() != hosts.len() {
+        // If there are too many or too few ports, the error comes when connecting.
+        return vec![config];
     }
+    let of_machine = |(index, host): (usize, &Host)| {
+        let mut one = without_machines(&config);
+        match host {
+            Host::Tcp(name) => one.host(name),
+            Host::Unix(path) => one.host_path(path),
+        };
+        if let Some(port) = ports.get(index).or(ports.first()) {
+            one.port(*port);
+        }
+        one
+    };
+    hosts.iter().enumerate().map(of_machine).collect()
+}
+
+/// Returns a copy of the configuration that names no machine.
+fn without_machines(config: &Config) -> Config {
+    let mut copy = Config::new();
+    if let Some(user) = config.get_user() {
+        copy.user(user);
+    }
+    if let Some(password) = config.get_password() {
+        copy.password(password);
+    }
+    if let Some(name) = config.get_dbname() {
+        copy.dbname(name);
+    }
+    if let Some(options) = config.get_options() {
+        copy.options(options);
+    }
+    if let Some(name) = config.get_application_name() {
+        copy.application_name(name);
+    }
+    if let Some(time) = config.get_connect_timeout() {
+        copy.connect_timeout(*time);
+    }
+    copy.ssl_mode(config.get_ssl_mode());
+    copy.keepalives(config.get_keepalives());
+    copy.keepalives_idle(config.get_keepalives_idle());
+    copy.target_session_attrs(config.get_target_session_attrs());
+    copy.channel_binding(config.get_channel_binding());
+    copy
 }
 
 /// Returns the value of `sslmode` in a URL or in a string such as `host=db sslmode=require`.
@@ -205,6 +248,21 @@ mod tests {
         assert_eq!(of("db:5432:ann:ann:a", "postgresql://ann@db").as_deref(), Some("a"));
         let socket = "postgresql:///letters?user=ann&host=/run/postgresql";
         assert_eq!(of("localhost:5432:letters:ann:a", socket).as_deref(), Some("a"));
+    }
+
+    #[test]
+    fn each_machine_is_reached_alike() {
+        let url = |machines| {
+            let settings = "options=-csearch_path%3Da&application_name=b&connect_timeout=7&keepalives=0";
+            let of_session = "sslmode=disable&target_session_attrs=read-write&channel_binding=disable";
+            let url = format!("postgresql://ann:c@{machines}/letters?{settings}&{of_session}");
+            url.parse::<Config>().unwrap()
+        };
+        assert_eq!(of_machines(url("one:1,two:2")), [url("one:1"), url("two:2")]);
+        assert_eq!(of_machines(url("one:1")), [url("one:1")]);
+        let with_one_port = "host=one,/run port=1".parse().unwrap();
+        let each = ["host=one port=1", "host=/run port=1"].map(|one| one.parse::<Config>().unwrap());
+        assert_eq!(of_machines(with_one_port), each);
     }
 
     #[test]

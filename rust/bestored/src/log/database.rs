@@ -17,8 +17,11 @@ use tokio_postgres::{AsyncMessage, Client, Config, NoTls, Row as SqlRow, Socket,
 /// The version of the tables' format.
 const FORMAT: i32 = 1;
 
+/// The encodings of databases that can store every token. With the second, PostgreSQL stores bytes as they are.
+const ENCODINGS: [&str; 2] = ["UTF8", "SQL_ASCII"];
+
 /// How long a call may take. PostgreSQL cancels a statement slightly sooner.
-pub const LIMIT: Duration = Duration::from_secs(6);
+const LIMIT: Duration = Duration::from_secs(6);
 
 /// How long a call may take that writes part of a state or removes old entries. PostgreSQL cancels the statement slightly sooner.
 const STATE_LIMIT: Duration = Duration::from_secs(60);
@@ -177,8 +180,11 @@ impl Entry {
     }
 }
 
+/// A connection to PostgreSQL.
+type Connection = tokio_postgres::Connection<Socket, tokio_postgres::tls::NoTlsStream>;
+
 /// A future for the next message that PostgreSQL sends without having been asked.
-struct NextMessage<'a>(&'a mut tokio_postgres::Connection<Socket, tokio_postgres::tls::NoTlsStream>);
+struct NextMessage<'a>(&'a mut Connection);
 
 impl Future for NextMessage<'_> {
     type Output = Option<std::result::Result<AsyncMessage, tokio_postgres::Error>>;
@@ -200,6 +206,27 @@ async fn limited_to<T>(
     match tokio::time::timeout(limit, call).await {
         Ok(answer) => Ok(answer?),
         Err(_) => Err(Error::Slow(limit)),
+    }
+}
+
+/// Connects to the first of these databases that accepts the connection. A database that doesn't reply only takes its share of the time.
+async fn connect_to_one(configs: &[Config]) -> Result<(Client, Connection)> {
+    let limit = LIMIT / configs.len().max(1) as u32;
+    let mut connected = Err(Error::Slow(limit));
+    for config in configs {
+        connected = limited_to(limit, config.connect(NoTls)).await;
+        if connected.is_ok() {
+            break;
+        }
+    }
+    connected
+}
+
+/// Returns an error if a database with this encoding can't store every token. A pooler may not report the encoding.
+fn check_encoding(encoding: Option<&str>) -> Result<()> {
+    match encoding {
+        Some(encoding) if !ENCODINGS.contains(&encoding) => Err(Error::Encoding(encoding.into())),
+        _ => Ok(()),
     }
 }
 
@@ -225,9 +252,10 @@ impl fmt::Debug for Database {
 }
 
 impl Database {
-    /// Connects to the database. Must be called inside a tokio runtime.
-    pub async fn connect(config: &Config) -> Result<Self> {
-        let (client, mut connection) = limited(config.connect(NoTls)).await?;
+    /// Connects to the first of these databases that accepts the connection. Must be called inside a tokio runtime.
+    pub async fn connect(configs: &[Config]) -> Result<Self> {
+        let (client, mut connection) = connect_to_one(configs).await?;
+        check_encoding(connection.parameter("server_encoding"))?;
         let news = Arc::new(Notify::new());
         let of_task = news.clone();
         let receiving = tokio::spawn(async move {

@@ -33,8 +33,13 @@ pub enum Error {
     #[error("the database of the log: {}", Shown(.0))]
     Database(#[from] tokio_postgres::Error),
     /// PostgreSQL didn't reply within this time.
-    #[error("the database of the log didn't reply within {} s", .0.as_secs())]
+    #[error("the database of the log didn't reply within {} s", .0.as_secs_f64())]
     Slow(Duration),
+    /// The database's encoding lacks characters that tokens may have.
+    #[error(
+        "the database of the log has the encoding {0}, which can't store every token; create the log in a database with ENCODING 'UTF8'"
+    )]
+    Encoding(String),
     /// The database has no log.
     #[error("the database has no log; --log makes one")]
     NoLog,

@@ -70,7 +70,7 @@ pub struct Member {
 impl Member {
     /// Connects to the database and rebuilds the store. Fails if this server is to lead but another server already leads.
     pub async fn begin(access: Access, mut pass: Pass, tokens: Arc<Tokens>, leads: bool) -> Result<(Self, Arc<Line>)> {
-        let mut database = Database::connect(&access.config).await?;
+        let mut database = Database::connect(&access.configs).await?;
         if leads {
             database.make().await?;
         }

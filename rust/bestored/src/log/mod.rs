@@ -17,14 +17,17 @@ use crate::failure::Failure;
 use crate::kept::{Kept, Opening};
 use crate::options::Options;
 use crate::os;
+use crate::reach;
 use crate::server::Shared;
 use crate::tokens::Tokens;
 use access::Access;
 use bestore::{Batch, Shelf, ShelfPass, StateCopy, Store};
-use bestore_client::wire::{self, ErrorName};
+use bestore_client::wire;
 use error::Result;
 use line::{Line, Role};
 use member::Member;
+use std::fs::File;
+use std::future::Future;
 use std::mem;
 use std::os::unix::io::AsRawFd;
 use std::sync::{Arc, Mutex, MutexGuard, PoisonError};
@@ -43,6 +46,24 @@ fn runtime() -> Result<Runtime> {
         .enable_all()
         .build()
         .map_err(Error::Thread)
+}
+
+/// Returns whether a signal that ends the program has arrived, or arrives within this time.
+fn is_ending(signals: &File, within: Duration) -> Result<bool> {
+    let [is_ending] = os::wait_readable([signals.as_raw_fd()], Some(within)).map_err(Error::Thread)?;
+    Ok(is_ending)
+}
+
+/// Waits for the call. If a signal arrives first, gives the call up and returns `None`.
+async fn until_signal<T>(signals: &File, call: impl Future<Output = Result<T>>) -> Result<Option<T>> {
+    let mut call = Box::pin(call);
+    loop {
+        match tokio::time::timeout(REST, call.as_mut()).await {
+            Ok(outcome) => return outcome.map(Some),
+            Err(_) if is_ending(signals, Duration::ZERO)? => return Ok(None),
+            Err(_) => {}
+        }
+    }
 }
 
 /// The log, and the store of a server that leads or follows.
@@ -65,38 +86,49 @@ impl Log {
     pub fn open(opening: Opening<'_>) -> Result<Option<Self>> {
         let options = opening.options;
         let in_log = options.log.as_ref().ok_or(Error::NoLog)?;
-        let access = Access::new(in_log, options, opening.run)?;
+        let access = Access::new(in_log, opening.socket, opening.run)?;
         let mut is_said = false;
         loop {
-            match Self::begin(options, &access, opening.tokens, in_log.leads) {
+            match Self::begin(options, &access, opening.tokens, in_log.leads, opening.signals) {
                 Err(error) if error.is_unreachable() => {
                     opening.notifier.waits(&error.to_string());
                     if !mem::replace(&mut is_said, true) {
                         report!("bestored: {error}; trying again");
                     }
                 }
-                begun => return begun.map(Some),
+                begun => return begun,
             }
-            if os::wait_readable([opening.signals.as_raw_fd()], Some(REST)).map_err(Error::Thread)? == [true] {
+            if is_ending(opening.signals, REST)? {
                 return Ok(None);
             }
         }
     }
 
-    /// Connects without retrying. Fails if this server is to lead but another server already leads.
-    fn begin(options: &Options, access: &Access, tokens: &Arc<Tokens>, leads: bool) -> Result<Self> {
+    /// Connects without retrying. Fails if this server is to lead but another server already leads. Returns `None` if a signal arrives
+    /// first.
+    fn begin(
+        options: &Options,
+        access: &Access,
+        tokens: &Arc<Tokens>,
+        leads: bool,
+        signals: &File,
+    ) -> Result<Option<Self>> {
         let store = Store::open(options.limits())?;
         let pass = store.pass()?;
         let runtime = runtime()?;
-        let (member, line) = runtime.block_on(Member::begin(access.clone(), pass, tokens.clone(), leads))?;
-        Ok(Self {
+        let begin = Member::begin(access.clone(), pass, tokens.clone(), leads);
+        let (member, line) = match runtime.block_on(until_signal(signals, begin))? {
+            Some(begun) => begun,
+            None => return Ok(None),
+        };
+        Ok(Some(Self {
             shelf: Shelf::of_volumes(vec![store.clone()])?,
             store,
             line,
             access: access.clone(),
             writing_state: Mutex::default(),
             begun: Mutex::new(Some((runtime, member))),
-        })
+        }))
     }
 
     /// Returns the store, as the server's only volume.
@@ -162,7 +194,7 @@ impl Log {
         is_over: impl FnMut() -> bool,
     ) -> std::result::Result<wire::LogStatus, Failure> {
         if let Some(entry) = wanted.entry {
-            let found = self.line.wait_for(entry, within(wanted.within)?, is_over);
+            let found = self.line.wait_for(entry, reach::within(wanted.within)?, is_over);
             if found < entry {
                 return Err(Failure::not_reached(entry, found));
             }
@@ -263,17 +295,6 @@ impl Drop for Ending<'_> {
             self.0.fail(Error::Fault);
             os::end_program();
         }
-    }
-}
-
-/// Returns how long to wait for an entry, from a number of milliseconds.
-fn within(milliseconds: Option<u64>) -> std::result::Result<Duration, Failure> {
-    match milliseconds.unwrap_or(5_000) {
-        time @ 0..=60_000 => Ok(Duration::from_millis(time)),
-        _ => Err(Failure::new(
-            ErrorName::BadRequest,
-            "within can be up to 60000 milliseconds, and this is more",
-        )),
     }
 }
 

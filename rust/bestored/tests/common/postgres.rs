@@ -129,9 +129,15 @@ impl Postgres {
 
     /// Creates a database.
     pub fn database(self: &Arc<Self>) -> Database {
+        self.database_in("UTF8")
+    }
+
+    /// Creates a database with this encoding.
+    pub fn database_in(self: &Arc<Self>, encoding: &str) -> Database {
         static LAST: AtomicU32 = AtomicU32::new(0);
         let name = format!("test{}", LAST.fetch_add(1, Ordering::Relaxed));
-        self.sql("postgres", &format!("CREATE DATABASE {name}"));
+        let sql = format!("CREATE DATABASE {name} ENCODING '{encoding}' TEMPLATE template0");
+        self.sql("postgres", &sql);
         Database {
             postgres: self.clone(),
             name,
