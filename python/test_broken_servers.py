@@ -428,6 +428,29 @@ class Closing(unittest.TestCase):
             self.assertRaises(bestore.Closed, watch.wait, PATIENCE)
             self.assertEqual((store._is_open, fake.asked[-1]), (True, {"id": 3, "unwatch": {"watch": 1}}))
 
+    def test_watches_closed_at_any_moment(self):
+        """A signal handler can close a watch at any moment of the call that ends another one."""
+        ends, place, is_reached = connected.ConnectedPass._end_watches.__code__, 0, True
+        answers = [line(3, {"watch": 2, "commit": 1, "nodes": []})], *([line(number, {})] for number in (4, 5, 6))
+        while is_reached:
+            with Fake(self.watched, *answers) as fake, fake.connect() as store:
+                watch, other, left = store.watch("k==1"), store.watch("k==2"), [place]
+
+                def trace(frame, *_):
+                    if frame.f_code is ends:
+                        left[0] -= 1
+                        if left[0] == -1:
+                            other.close()
+                    return trace
+                sys.settrace(trace)
+                try:
+                    watch.close()
+                finally:
+                    sys.settrace(None)
+                is_reached = left[0] < 0
+                self.assertEqual((store._ended, store._is_open), ([], True), place)
+            place += 1
+
     def test_other_waits_go_on(self):
         """If another thread ends a wait for a watch that is still open, it goes on, and nothing that was pushed is missed."""
         with Fake([*self.watched, 0.4, push(2, [2], []), 0.05, push(3, [3], [])], [line(3, {})]) as fake, fake.connect() as store:

@@ -656,12 +656,15 @@ class ConnectedPass(LockOwner, ThreadPass):
                     self._lock.release()
 
     def _end_watches(self) -> None:
-        """Ends the watches that are closed or no longer referenced."""
-        while self._ended:
-            number = self._ended[-1]
+        """Ends the watches that are closed or no longer referenced. A signal handler may do the same at any moment."""
+        while True:
+            number = next(reversed(self._ended), None)
+            if number is None:
+                return
             with suppress(NoWatch):
                 self._ask("unwatch", {"watch": number}, lambda ok: None)
-            self._ended.remove(number)
+            with suppress(ValueError):  # a signal handler has ended it meanwhile
+                self._ended.remove(number)
 
 
 def connect(path: Union[str, bytes, "os.PathLike[Any]", None] = None, timeout: Optional[float] = TIMEOUT,
