@@ -43,7 +43,7 @@ def listens(path: SocketPath) -> bool:
 
 def _ended_with_this_process() -> Callable[[], None]:
     """Returns a function for a child process to call before it runs its program. The system then sends the child SIGTERM when this process
-    ends, even if it is killed."""
+    ends, even if it is killed, or earlier if the thread that started the child ends. So start the child in the main thread."""
     prctl, number = ctypes.CDLL(None).prctl, ctypes.c_ulong(signal.SIGTERM)
 
     def request() -> None:
