@@ -153,10 +153,11 @@ fn a_store_that_is_kept_in_the_followed_folder_comes_to_rest() {
     let _follower = Follower::start(&server, &folder);
     folder.file("x", "");
     soon("a new file", || server.paths("name==x").len() == 1);
-    thread::sleep(Duration::from_secs(1));
-    let entries = server.entries();
-    thread::sleep(Duration::from_secs(1));
-    assert_eq!(server.entries(), entries);
+    soon("a second without writes", || {
+        let entries = server.entries();
+        thread::sleep(Duration::from_secs(1));
+        server.entries() == entries
+    });
     assert_eq!(server.paths("name==\"own*\"").len(), 0);
 }
 

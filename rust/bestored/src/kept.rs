@@ -151,7 +151,7 @@ pub fn start(_: &Arc<Shared>) -> io::Result<()> {
 }
 
 impl Kept {
-    /// Opens the volumes. Returns `None` if a signal arrived while the log's database couldn't be reached.
+    /// Opens the volumes. Returns `None` if a signal arrived before the log had been read.
     pub fn open(opening: Opening<'_>) -> Result<Option<Self>, Box<dyn Error>> {
         let Opening { options, tokens, .. } = opening;
         if options.log.is_some() {

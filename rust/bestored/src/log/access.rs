@@ -1,7 +1,7 @@
 //! How to reach a log's database: its URL, and the password, which may come from a file in the format that PostgreSQL's own
 //! programs use.
 
-use super::database::Database;
+use super::database::{Database, LIMIT};
 use super::error::{Error, Result};
 use crate::options::InLog;
 use std::fs;
@@ -66,7 +66,17 @@ fn config(in_log: &InLog) -> Result<Config> {
         config.application_name("bestored");
     }
     config.keepalives_idle(Duration::from_secs(5));
+    limit_connecting(&mut config);
     Ok(config)
+}
+
+/// If the URL names several machines, limits the time for connecting to each address of a machine to somewhat less than the machine's share,
+/// so that an address that doesn't reply doesn't keep the server from the machine's next one.
+fn limit_connecting(config: &mut Config) {
+    let machines = config.get_hosts().len() as u32;
+    if machines > 1 && config.get_connect_timeout().is_none() {
+        config.connect_timeout(LIMIT / (machines + 1));
+    }
 }
 
 /// Splits the configuration if the URL names several machines. The time for each of them can then be limited, so that one that doesn't
@@ -263,6 +273,18 @@ mod tests {
         let with_one_port = "host=one,/run port=1".parse().unwrap();
         let each = ["host=one port=1", "host=/run port=1"].map(|one| one.parse::<Config>().unwrap());
         assert_eq!(of_machines(with_one_port), each);
+    }
+
+    #[test]
+    fn an_address_gets_less_time_than_its_machine() {
+        let limit = |url: &str| {
+            let mut config: Config = url.parse().unwrap();
+            limit_connecting(&mut config);
+            config.get_connect_timeout().copied()
+        };
+        assert_eq!(limit("host=one"), None);
+        assert_eq!(limit("host=one,two"), Some(LIMIT / 3));
+        assert_eq!(limit("host=one,two connect_timeout=9"), Some(Duration::from_secs(9)));
     }
 
     #[test]

@@ -21,7 +21,7 @@ const FORMAT: i32 = 1;
 const ENCODINGS: [&str; 2] = ["UTF8", "SQL_ASCII"];
 
 /// How long a call may take. PostgreSQL cancels a statement slightly sooner.
-const LIMIT: Duration = Duration::from_secs(6);
+pub const LIMIT: Duration = Duration::from_secs(6);
 
 /// How long a call may take that writes part of a state or removes old entries. PostgreSQL cancels the statement slightly sooner.
 const STATE_LIMIT: Duration = Duration::from_secs(60);

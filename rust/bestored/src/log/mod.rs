@@ -117,9 +117,13 @@ impl Log {
         let pass = store.pass()?;
         let runtime = runtime()?;
         let begin = Member::begin(access.clone(), pass, tokens.clone(), leads);
-        let (member, line) = match runtime.block_on(until_signal(signals, begin))? {
-            Some(begun) => begun,
-            None => return Ok(None),
+        let (member, line) = match runtime.block_on(until_signal(signals, begin)) {
+            Ok(Some(begun)) => begun,
+            not_begun => {
+                // Dropping the runtime would wait until the database's name has been looked up, however long that takes.
+                runtime.shutdown_background();
+                return not_begun.map(|_| None);
+            }
         };
         Ok(Some(Self {
             shelf: Shelf::of_volumes(vec![store.clone()])?,
