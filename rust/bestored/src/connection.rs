@@ -4,7 +4,7 @@ use crate::answer::{Desk, View};
 use crate::clients::{milliseconds, Client};
 use crate::failure::Failure;
 use crate::lines::{Lines, Received};
-use crate::outbox::Outbox;
+use crate::outbox::{Outbox, PATIENCE};
 use crate::pressure;
 use crate::server::{no_pass, Shared};
 use crate::volumes;
@@ -45,7 +45,9 @@ pub struct Connection<'a> {
 
 impl<'a> Connection<'a> {
     pub fn new(shared: &'a Shared, client: &'a Client, stream: Arc<UnixStream>, is_visitor: bool) -> Self {
-        let outbox = Arc::new(Outbox::new(stream.clone()));
+        // Others wait for a visitor's place.
+        let patience = if is_visitor { VISIT } else { PATIENCE };
+        let outbox = Arc::new(Outbox::new(stream.clone(), patience));
         Self {
             client,
             lines: Lines::new(stream),

@@ -8,8 +8,8 @@ use std::os::unix::net::UnixStream;
 use std::sync::{Arc, Mutex, MutexGuard, PoisonError, TryLockError};
 use std::time::{Duration, Instant};
 
-/// How long a client may leave lines unread.
-const PATIENCE: Duration = Duration::from_secs(30);
+/// How long a client that has a place of its own may leave lines unread.
+pub const PATIENCE: Duration = Duration::from_secs(30);
 
 /// How often a thread that is waiting for a client checks whether it has something else to do.
 const LOOK: Duration = Duration::from_millis(50);
@@ -72,11 +72,12 @@ pub struct Outbox {
 }
 
 impl Outbox {
-    pub fn new(stream: Arc<UnixStream>) -> Self {
+    /// Creates the queue for a client that may leave lines unread for this time.
+    pub fn new(stream: Arc<UnixStream>, patience: Duration) -> Self {
         Self {
             stream,
             unsent: Mutex::default(),
-            patience: PATIENCE,
+            patience,
         }
     }
 
@@ -162,7 +163,7 @@ mod tests {
 
     fn pair() -> (UnixStream, Outbox) {
         let (client, server) = UnixStream::pair().unwrap();
-        (client, Outbox::new(Arc::new(server)))
+        (client, Outbox::new(Arc::new(server), PATIENCE))
     }
 
     /// Pushes lines until the socket accepts no more.

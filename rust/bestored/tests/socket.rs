@@ -330,6 +330,11 @@ fn a_visitor_is_answered_for_a_moment() {
     let mut busy = server.client();
     busy.visit().unwrap();
     wait_until("the visitor has to go", || busy.hello().is_err());
+    // Nor by leaving its replies unread. The next visitor gets `NoPass` after 10 seconds.
+    let mut silent = visiting();
+    silent.send("{\"id\":2,\"hello\":{\"protocol\":1}}\n".repeat(4_000).as_bytes());
+    server.client().visit().unwrap();
+    drop(silent);
 }
 
 #[test]
