@@ -69,7 +69,7 @@ pub enum Failure {
     )]
     Restore { place: Place, refusal: Box<Refusal> },
     /// The backup and the server have different numbers of volumes.
-    #[error("the backup has {backup} volumes, and the server has {server}\n  start a server with --volumes {backup}")]
+    #[error("the backup's number of volumes is {backup}, and the server's is {server}\n  start a server with --volumes {backup}")]
     Volumes { backup: usize, server: u32 },
     /// A backup can't be restored because the store isn't empty.
     #[error(
