@@ -162,8 +162,8 @@ fn totals(store: &Store, alloc: Global, pass: &mut Pass) -> Result<(u64, i64), R
 pub(crate) fn change_by_four<R: AllocGlobal + Threads + Sync>(
     rt: &R,
 ) -> Result<(u64, i64), Refusal> {
-    // Enough pages for all 200 writes even if a thread that has pinned the first version doesn't run
-    // until the others are done, as on a busy machine.
+    // Enough pages for all 200 writes, even if a thread that has pinned the first version doesn't
+    // run until the others are done, as on a busy machine.
     let limits = Limits {
         pages: 4096,
         passes: 5,
