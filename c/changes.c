@@ -460,10 +460,11 @@ static void *move_often(void *with)
     mover *it = with;
     uint64_t number = 0;
     for (unsigned i = 0; i < it->rounds; i++) {
-        bes_retry retry = {UINT32_MAX, 1, 0};
+        bes_retry retry = {UINT32_MAX, 1, 0, 60000, NULL};
         uint32_t error;
-        while ((error = move_once(it, &number)) == BES_CONFLICT || bes_again(&it->pass, error, number, &retry))
-            retry.turns = bes_stand_back(retry.turns);
+        do
+            error = move_once(it, &number);
+        while (error == BES_CONFLICT ? bes_pause(&retry) : bes_again(&it->pass, error, number, &retry));
         CHECK(error == BES_OK);
     }
     return NULL;

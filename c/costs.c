@@ -98,6 +98,25 @@ static void changes(void)
     count("change", change, CALLS);
 }
 
+/* Sets an indexed attribute before another pass is pinned, and after that pass has kept the pages of many versions. */
+static void kept(void)
+{
+    enum { KEPT = 8000, FIRST = 8 };
+    bes_pass reader = BES_PASS_INIT;
+    bes_usage usage = {0};
+    open_filled();
+    set_indexed();
+    count("indexed set", set_indexed, CALLS);
+    OK(bes_another(&mine, &reader) || bes_pin(&reader, &number));
+    while (usage.retired < KEPT) {
+        set_indexed();
+        OK(bes_status(&mine, &usage, &number));
+    }
+    OK(bes_unpin(&reader));
+    count("indexed set after a pin", set_indexed, FIRST);
+    OK(bes_close(&reader));
+}
+
 static void ask(void) { OK(bes_query_prepared(&mine, &prepared, found, MOST_NODES, &found_count)); }
 
 /* Prepares a query that this many nodes match, and runs it once. */
@@ -202,7 +221,7 @@ static void live(void)
 static const struct row {
     const char *name;
     void (*run)(void);
-} cases[] = {{"sets", sets}, {"changes", changes}, {"ranges", ranges}, {"queries", queries}, {"live", live}};
+} cases[] = {{"sets", sets}, {"changes", changes}, {"kept", kept}, {"ranges", ranges}, {"queries", queries}, {"live", live}};
 
 int main(int argc, char **argv)
 {

@@ -1,16 +1,18 @@
 /* Counts what calls store and allocate: the words of pages that a write changes, the bytes that a call requests from malloc, and
  * the blocks that are freed once a handle is closed. No contract limits these. The sizes are random; BESTORE_SEED repeats those
- * of an earlier run. Linked with -Wl,--wrap=malloc,--wrap=realloc,--wrap=free, so that all of the library's requests pass through
- * here. */
+ * of an earlier run. Linked with -Wl,--wrap=malloc,--wrap=calloc,--wrap=realloc,--wrap=free, so that all of the library's requests
+ * pass through here. */
 #include "tests.h"
 #include <time.h>
 
 enum { LIST = 64, PAGE_WORDS = 512, LEAST_NODES = 1000, MOST_NODES = 2500, MOST_PAGES = 2048, MOST_FOUND = 26000, LEAST_FOUND = 200 };
 
 void *__real_malloc(size_t bytes);
+void *__real_calloc(size_t items, size_t bytes);
 void *__real_realloc(void *old, size_t bytes);
 void __real_free(void *block);
 void *__wrap_malloc(size_t bytes);
+void *__wrap_calloc(size_t items, size_t bytes);
 void *__wrap_realloc(void *old, size_t bytes);
 void __wrap_free(void *block);
 
@@ -26,9 +28,9 @@ static void ask(size_t bytes)
     longest = bytes > longest ? bytes : longest;
 }
 
-void *__wrap_malloc(size_t bytes)
+/* Counts a request, and returns its block. */
+static void *count_block(void *block, size_t bytes)
 {
-    void *block = __real_malloc(bytes);
     ask(bytes);
     in_use += block != NULL;
     if (words_count > 0 && bytes >= 8 * words_count) {
@@ -37,6 +39,9 @@ void *__wrap_malloc(size_t bytes)
     }
     return block;
 }
+
+void *__wrap_malloc(size_t bytes) { return count_block(__real_malloc(bytes), bytes); }
+void *__wrap_calloc(size_t items, size_t bytes) { return count_block(__real_calloc(items, bytes), items * bytes); }
 
 void *__wrap_realloc(void *old, size_t bytes)
 {

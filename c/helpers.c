@@ -1,7 +1,8 @@
 /* Tests conditional writes, changes, the journal's entries, batches as bytes, waiting after BES_FULL, and handles in a forked
  * child. */
 #define _POSIX_C_SOURCE 199309L
-#define BES_FULL_SECONDS 60 /* gives another thread time to unpin even on a loaded machine */
+#define BES_WITHIN 60000 /* milliseconds, so that another thread has time to unpin even on a loaded machine */
+#define BES_CHANGE_WITHIN 60000
 #include "tests.h"
 #include <pthread.h>
 #include <sys/wait.h>
@@ -32,7 +33,7 @@ static void names(void)
     const char *unknown = bes_strerror(63);
     for (uint32_t error = 1; error <= 200; error++) {
         bool is_known = strcmp(bes_error_name(error), "BES_?") != 0;
-        CHECK(is_known || error < BES_BUSY || (error > BES_BAD_RPN && error < BES_CLOSED) || error > BES_NO_ROOM);
+        CHECK(is_known || error < BES_BUSY || (error > BES_BAD_RPN && error < BES_CLOSED) || error > BES_NESTED);
         CHECK(strncmp(bes_error_name(error), "BES_", 4) == 0 && (strcmp(bes_strerror(error), unknown) != 0) == is_known);
         CHECK(bes_class(error) >= BES_CLASS_RETRY && bes_class(error) <= BES_CLASS_GONE);
     }
@@ -166,6 +167,28 @@ static void changes(void)
     CHECK(bes_change(&passes[0], 3, count_up, &it, &number) == BES_WRONG_KIND && number == 0 && it.runs == 1);
     CHECK(bes_pin(&passes[0], &number) == BES_OK && bes_change(&passes[0], 3, count_up, &it, &number) == BES_PINNED && number == 0);
     CHECK(bes_unpin(&passes[0]) == BES_OK && bes_unpin(&passes[0]) == BES_NOT_PINNED);
+    close_three(passes);
+}
+
+/* Writes through its own pass. */
+static uint32_t stray(bes_pass *pass, bes_batch *it, uint64_t next, void *with)
+{
+    counting *counting = with;
+    (void)next;
+    counting->runs++;
+    OK(bes_set_int64(pass, 1, "count", 7));
+    return bes_batch_set_int64(it, 1, "count", 8);
+}
+
+/* A change ends at once if its function writes through the change's own pass. */
+static void nested(void)
+{
+    bes_pass passes[3];
+    uint64_t number = 0;
+    counting it = {NULL, 0, 0, 0, BES_OK};
+    open_three(passes, 64);
+    CHECK(bes_change(&passes[0], BES_TRIES, stray, &it, &number) == BES_NESTED && it.runs == 1);
+    CHECK(bes_pin(&passes[0], &number) == BES_OK && number == 3 && bes_unpin(&passes[0]) == BES_OK && count_of(&passes[0]) == 7);
     close_three(passes);
 }
 
@@ -384,12 +407,12 @@ static void fill_up(bes_pass *pass)
 /* While another pass has an older snapshot pinned, a write is retried until it runs out of tries or time. */
 static void waits_only_so_long(bes_pass *pass, uint64_t number)
 {
-    bes_retry retry = {2, 1, 0}, late = {2, 1, time(NULL) - BES_FULL_SECONDS - 2};
+    bes_retry retry = {2, 1, 0, BES_WITHIN, NULL}, late = {2, 1, 1, BES_WITHIN, NULL};
     CHECK(bes_waits_for_other(pass, number));
-    CHECK(bes_again(pass, BES_FULL, number, &retry) && retry.left == 1 && retry.turns == 2 && retry.full_since > 0);
+    CHECK(bes_again(pass, BES_FULL, number, &retry) && retry.left == 1 && retry.turns == 2 && retry.until > 0);
     CHECK(bes_again(pass, BES_FULL, number, &retry) && !bes_again(pass, BES_FULL, number, &retry));
-    CHECK(!bes_again(pass, BES_FULL, number, &late) && bes_again(pass, BES_BUSY, 0, &late));
-    CHECK(!bes_again(pass, BES_OK, 0, &late) && !bes_again(pass, BES_CONFLICT, 0, &late));
+    CHECK(!bes_again(pass, BES_FULL, number, &late) && !bes_again(pass, BES_BUSY, 0, &late) && !bes_pause(&late) && late.left == 2);
+    CHECK(!bes_again(pass, BES_OK, 0, &retry) && !bes_again(pass, BES_CONFLICT, 0, &retry));
 }
 
 /* After BES_FULL, a write waits for another pass to unpin, but not for ever. It doesn't wait for its own pass, or if no pin holds
@@ -414,7 +437,7 @@ static void waiting(void)
     CHECK(bes_pin(&passes[0], &number) == BES_OK);
     fill_up(&passes[0]);
     CHECK(bes_new_node(&passes[0], &node) == BES_FULL && bes_unpin(&passes[0]) == BES_OK);
-    CHECK(bes_new_node(&passes[0], &node) == BES_OK && seconds_since(&begin) < BES_FULL_SECONDS);
+    CHECK(bes_new_node(&passes[0], &node) == BES_OK && seconds_since(&begin) < BES_WITHIN / 1000);
     CHECK(bes_pin(&passes[1], &number) == BES_OK);
     fill_up(&passes[0]);
     CHECK(bes_apply_or_retry(&passes[0], batch.operations, 1, batch.bytes, 0, 0, &node, 1, &number) == BES_FULL);
@@ -440,7 +463,7 @@ static void full_for_good(void)
         CHECK(bes_batch_new_node(&batch) == BES_OK && bes_batch_set_text(&batch, node, "k", value) == BES_OK);
         error = bes_batch_apply(&pass, &batch, BES_TRIES, made, 64, &number);
     } while (error == BES_OK);
-    CHECK(error == BES_FULL && seconds_since(&begin) < BES_FULL_SECONDS && bes_close(&pass) == BES_OK);
+    CHECK(error == BES_FULL && seconds_since(&begin) < BES_WITHIN / 1000 && bes_close(&pass) == BES_OK);
 }
 
 static void moves(void)
@@ -512,6 +535,7 @@ int main(void)
     own_number();
     next_node();
     conditional();
+    nested();
     changes();
     entries();
     bytes_by_hand();

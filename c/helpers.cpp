@@ -1,6 +1,7 @@
 // Tests the objects of bestore.hpp: changes, typed attributes, the journal's entries, batches as bytes, query texts, and objects
 // in a forked child.
-#define BES_FULL_SECONDS 60 // gives another thread time to unpin even on a loaded machine
+#define BES_WITHIN 60000 // milliseconds, so that another thread has time to unpin even on a loaded machine
+#define BES_CHANGE_WITHIN 60000
 #include "bestore.hpp"
 #include "tests.hpp"
 #include <chrono>
@@ -106,6 +107,28 @@ template <class Call> std::string mismatch(Pass &pass, Call call)
         return error.what();
     }
     return "";
+}
+
+static void own_pass_does_not_write_in_its_change()
+{
+    Store store({64, 2, 100});
+    const Node node = store.new_node();
+    auto other = store.another();
+    int runs = 0;
+    const auto in_change = [&](auto write) {
+        refused(BES_NESTED, [&] {
+            store.change([&](Change &change) {
+                runs++;
+                change.set(node, "a", 1);
+                write();
+            });
+        });
+    };
+    in_change([&] { store.set(node, "a", 2); });
+    in_change([&] { store.apply_if(1, Batch().new_node()); });
+    in_change([&] { store.change([](Change &change) { change.create(); }); });
+    CHECK(runs == 3 && store.status().entries == 1);
+    CHECK(store.change([&](Change &change) { change.set(node, "a", 3); }) == 2 && other.new_node() == 2);
 }
 
 static void kinds_are_checked()
@@ -385,15 +408,16 @@ static void huge_strings_are_refused()
     });
 }
 
-// A part of an answer takes the memory of its nodes, and its call requests no more than all nodes of the largest store need, however many
-// nodes there have been, and however many are asked for.
+// A part of an answer takes the memory of its nodes, and its call requests no more than the first room needs, however many nodes there have
+// been, and however many are asked for.
 static void parts_take_little_memory()
 {
+    constexpr Node room = detail::first_room;
     Store store({256, 1, 100000});
     Batch removes;
     store.make_index("n", Kind::int64);
     store.set(store.new_node(), "n", Kind::int64, 7);
-    for (Node last = 1; last < 16384 * 12; last += 64) {
+    for (Node last = 1; last <= room; last += 64) {
         const auto made = store.new_nodes(64);
         removes.clear();
         for (Node node : made)
@@ -404,7 +428,7 @@ static void parts_take_little_memory()
     Prepared query("n==7");
     largest = 0;
     const auto first = pin.first(query, 0, SIZE_MAX), any = pin.any(query, SIZE_MAX), page = pin.page(query, Order("n"), SIZE_MAX).nodes;
-    CHECK(first == Nodes{1} && any == first && page == first && largest <= 16384 * 12 * sizeof(Node));
+    CHECK(first == Nodes{1} && any == first && page == first && largest <= room * sizeof(Node));
     CHECK(first.capacity() < 64 && any.capacity() < 64 && page.capacity() < 64);
 }
 
@@ -441,7 +465,7 @@ static void full_store_waits()
     With with;
     with.least = own.number();
     refused(BES_FULL, with, [&] { store.new_node(); });
-    CHECK(std::chrono::steady_clock::now() - begin < std::chrono::seconds(BES_FULL_SECONDS));
+    CHECK(std::chrono::steady_clock::now() - begin < std::chrono::milliseconds(BES_WITHIN));
 }
 
 // In a forked child, using the parent's objects throws an exception, and their destructors do nothing. The child's own store
@@ -512,6 +536,7 @@ int main(int argc, char **argv)
 {
     change_writes_on_what_it_read();
     change_begins_again();
+    own_pass_does_not_write_in_its_change();
     kinds_are_checked();
     attributes_have_types();
     nodes_are_reserved();

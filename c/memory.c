@@ -1,6 +1,8 @@
 /* Tests what calls return if malloc returns NULL, and if they are made in the middle of another call. Linked with
  * -Wl,--wrap=malloc, --wrap=realloc,--wrap=sched_yield, so that all of the library's requests for memory, and all its yields,
  * pass through here. */
+#define BES_WITHIN 20 /* milliseconds: a write that is in the middle of another call never gets its turn */
+#define BES_CHANGE_WITHIN 20
 #include "tests.h"
 
 void *__real_malloc(size_t size);
@@ -127,6 +129,11 @@ static uint32_t call_first(void) { return bes_first(&mine, &kept, 0, out.nodes, 
 static uint32_t call_any(void) { return bes_any(&mine, &kept, out.nodes, 4, &out.count); }
 static uint32_t call_refresh(void) { return bes_refresh(&mine, &kept, &out.updates); }
 static uint32_t call_refresh_changed(void) { return bes_refresh_changed(&mine, &kept, &out.updates); }
+static uint32_t call_uncovered(void)
+{
+    size_t at = 0;
+    return bes_uncovered(&mine, (const char *)query, sizeof query - 1, &at);
+}
 static uint32_t call_explain(void) { return bes_explain(&mine, query, sizeof query - 1, out.bytes, 64, &out.count); }
 static uint32_t call_attributes(void) { return bes_attributes(&mine, 1, &out.counts, out.listed, 4, out.bytes, 64); }
 static uint32_t call_indices(void) { return bes_indices(&mine, &out.counts, out.listed, 4, out.bytes, 64); }
@@ -211,7 +218,7 @@ static void refuse_all(void)
 {
     uint32_t (*const with_requests[])(void) = {
         call_another, call_witness_of, call_prepare, call_prepare_items, call_query, call_items, call_prepared, call_explain,
-        call_attributes, call_indices, call_nodes, call_state, call_journal, call_journal_from, call_prepared_text, call_apply,
+        call_uncovered, call_attributes, call_indices, call_nodes, call_state, call_journal, call_journal_from, call_prepared_text, call_apply,
         call_retry
     };
     uint32_t (*const in_parts[])(void) = {call_ordered, call_first, call_any, call_refresh_changed};
@@ -287,8 +294,8 @@ static void refuse_between_lists(void)
 
 static unsigned accepted, busy;
 
-/* A write is retried `retries` times, and yields `left` times in total: once before the second try, and twice as many times
- * before each further try, up to 1,024. */
+/* A write is retried `retries` times, and yields `left` times in total: once before each of the next four tries. Before later ones it
+ * sleeps. */
 static void tries_again(uint32_t retries, unsigned left)
 {
     uint64_t number = 7, nodes[4];
@@ -331,8 +338,8 @@ static void go_between(void)
     if (answer == BES_BUSY) {
         CHECK(number == 1);
         tries_again(0, 0);
-        tries_again(3, 1 + 2 + 4);
-        tries_again(12, 1023 + 2 * 1024);
+        tries_again(3, 3);
+        tries_again(5, 4);
         ends_busy();
         CHECK(bes_journal(&theirs, text, 4, &count) == BES_BUSY && count == 1);
         CHECK(bes_apply_if(&theirs, 0, list, 2, parts, 11, nodes, 0, &number) == BES_BUSY && number == 1);

@@ -177,6 +177,43 @@ void parts()
     }
 }
 
+// A cursor at a value and a node continues after this position, whether or not a node is there.
+void positions()
+{
+    bestore::Store pass;
+    for (const auto &[name, kind] : kinds)
+        pass.make_index(name, kind);
+    for (unsigned at = 0; at < 30; at++) {
+        bestore::Batch batch;
+        batch.new_node();
+        for (const auto &[name, kind] : kinds)
+            set(batch, at + 1, name, value_of(kind, at % 5));
+        pass.apply(batch);
+    }
+    pass.remove_node(8);
+    auto pin = pass.pin();
+    bestore::Prepared query("u64>=0"), other("u64>0");
+    for (const auto &[name, kind] : kinds)
+        for (const Order &order : {Order(name), Order(name).descending()}) {
+            const Keys keys = plain(pin, query, order);
+            for (unsigned at = 0; at < 5; at++)
+                for (Node node : {Node{0}, Node{8}, Node{11}, UINT64_MAX}) {
+                    const Cursor after(query, order, value_of(kind, at), node);
+                    CHECK(after.node() == Carried(node) && after.value() == value_of(kind, at));
+                    const auto page = pin.page(query, after, 7);
+                    CHECK(std::pair(page.nodes, page.more) == cut(keys, after, 7));
+                }
+        }
+    CHECK(pin.page(query, Cursor(query, Order("text"), "aa"), 1).nodes == pin.page(query, Cursor(query, Order("text"), "ab"), 1).nodes);
+    refused(BES_BAD_CURSOR, [&] { pin.page(query, Cursor(query, Order("i64"), std::int32_t{1}), 1); });
+    refused(BES_BAD_CURSOR, [&] { pin.page(other, Cursor(query, Order("i64"), std::int64_t{1}), 1); });
+    refused(BES_NOT_INDEXABLE, [&] { Cursor(query, Order("i64"), bestore::Raw{1}); });
+    refused(BES_NOT_INDEXABLE, [&] { Cursor(query, Order("i64"), bestore::Mime{"a/b"}); });
+    refused(BES_DATA_LENGTH, [&] { Cursor(query, Order("text"), std::string(256, 'x')); });
+    refused(BES_HAS_NUL, [&] { Cursor(query, Order("text"), std::string(1, 0)); });
+    refused(BES_NO_VALUE, [&] { Cursor(query, Order("i32"), bestore::Input(Kind::int32, INT64_MAX)); });
+}
+
 void refusals()
 {
     bestore::Store pass;
@@ -269,6 +306,7 @@ int main()
 {
     pages();
     parts();
+    positions();
     refusals();
     refreshes();
 }

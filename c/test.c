@@ -35,7 +35,7 @@ static void opening(void)
 {
     bes_pass mine = BES_PASS_INIT, theirs = BES_PASS_INIT, third = BES_PASS_INIT;
     uint64_t number = 7;
-    CHECK(bes_open(7, 2, 10, &mine) == BES_BAD_LIMITS && bes_open(16385, 2, 10, &mine) == BES_BAD_LIMITS);
+    CHECK(bes_open(7, 2, 10, &mine) == BES_BAD_LIMITS && bes_open(16777217, 2, 10, &mine) == BES_BAD_LIMITS);
     CHECK(bes_open(8, 0, 10, &mine) == BES_BAD_LIMITS && bes_open(8, 65, 10, &mine) == BES_BAD_LIMITS);
     CHECK(bes_open(8, 2, 0, &mine) == BES_BAD_LIMITS && bes_open(8, 2, 1ull << 32, &mine) == BES_BAD_LIMITS);
     CHECK(bes_pin(&mine, &number) == BES_CLOSED && number == 0);

@@ -80,14 +80,16 @@ for compiler in c++ g++ clang++; do
 done
 
 # The tests, and the ones among them that start threads.
-tests=(test queries columns cursors ordered changes batches closing refreshes errors threads witness helpers texts query_texts bounds racing promises huge_pages)
-tests_cpp=(test helpers changes ordered racing)
+tests=(test queries columns cursors ordered changes batches closing refreshes errors threads witness helpers texts query_texts bounds racing promises huge_pages large)
+tests_cpp=(test helpers changes ordered racing lifetimes)
 with_threads=(changes threads witness helpers racing promises)
 
 for test in "${tests[@]}"; do
     build -O2 $test.c -o "$work/$test"
     run "C, $test" "$work/$test"
 done
+build -O2 stack.c -o "$work/stack"
+run "C, stack" "$work/stack"
 build -O2 sizes.c -o "$work/sizes"
 run_if_there "C, sizes" python3 ../tests/sizes --c "$work/sizes"
 for test in test queries; do
@@ -130,6 +132,16 @@ for test in "${tests[@]}"; do
 done
 
 if [ -n "$has_cpp" ]; then
+    # A loop over what a temporary returns doesn't compile, because the temporary's end comes before the loop.
+    c++ -std=c++17 "${strict[@]}" temporaries.cpp
+    for case in 1 2 3 4; do
+        if c++ -std=c++17 "${strict[@]}" -DREFUSED=$case temporaries.cpp 2>"$work/said" || ! grep -q 'deleted function' "$work/said"; then
+            cat "$work/said" >&2
+            echo "C++, temporaries: loop $case isn't refused as a use of a deleted function" >&2
+            exit 1
+        fi
+    done
+    echo "C++, temporaries: ok"
     for test in "${tests_cpp[@]}"; do
         build_cpp -O2 $test.cpp -o "$work/$test-cpp"
         run "C++, $test" "$work/$test-cpp"
@@ -141,6 +153,18 @@ if [ -n "$has_cpp" ]; then
             run "C++, $test, address,undefined" "$work/sanitized-cpp" short
         done
     fi
+    # Two shared objects with hidden symbols, each with its own copy of the library, and then with one library for both.
+    for library in "libbestore.a -Wl,-Bsymbolic" "-L. -lbestore"; do
+        for module in one two; do
+            # shellcheck disable=SC2086 # the library's words are separate
+            c++ -std=c++17 "${warn[@]}" -O1 -shared -fPIC -fvisibility=hidden -I../include -DMODULE=$module module.cpp $library \
+                -o "$work/libmodule_$module.so"
+        done
+        # shellcheck disable=SC2086
+        c++ -std=c++17 "${warn[@]}" -O1 -fvisibility=hidden -I../include modules.cpp -L"$work" -lmodule_one -lmodule_two $library -lpthread \
+            -o "$work/modules"
+        run "C++, modules, $library" env LD_LIBRARY_PATH=".:$work" "$work/modules"
+    done
     if sanitizes C++ c++ thread; then
         c++ -std=c++17 "${warn[@]}" -g -O1 -fsanitize=thread -I../include racing.cpp -L. -lbestore -lpthread -o "$work/marked-cpp"
         run "C++, racing, thread" "${listed[@]}" "$work/marked-cpp" short
@@ -161,10 +185,19 @@ if cc "${wrap[@]}" "$work/empty.c" -o "$work/empty" 2>/dev/null; then
         run "C, memory, address,undefined" "$work/memory-sanitized"
     fi
     leaks "C, memory, valgrind" "$work/memory"
-    build -O2 -Wl,--wrap=malloc,--wrap=realloc,--wrap=free counts.c -o "$work/counts"
+    build -O2 -Wl,--wrap=malloc,--wrap=calloc,--wrap=realloc,--wrap=free counts.c -o "$work/counts"
     run "C, counts" "$work/counts"
+    build -O2 -Wl,--wrap=malloc waiting.c -o "$work/waiting"
+    run "C, waiting" "$work/waiting"
+    if [ -n "$has_cpp" ]; then
+        build_cpp -O2 -Wl,--wrap=malloc waiting.cpp -o "$work/waiting-cpp"
+        run "C++, waiting" "$work/waiting-cpp"
+        build_cpp -O2 -Wl,--wrap=bes_next,--wrap=bes_query_prepared,--wrap=bes_first,--wrap=bes_any,--wrap=bes_ordered answers.cpp \
+            -o "$work/answers"
+        run "C++, answers" "$work/answers"
+    fi
 else
-    echo "C, memory and counts: skipped, the linker has no --wrap"
+    echo "C, memory and counts, C++, answers: skipped, the linker has no --wrap"
 fi
 
 # Checks how many instructions the calls take, as counted by valgrind.
@@ -256,6 +289,14 @@ run Python "${python[@]}" -m unittest discover -q -s ../python
     { cat "$work/said" >&2; echo "bench/python.py: failed" >&2; exit 1; }
 "${python[@]}" ../bench/claims.py --rounds 1 --queued 500 --workers 2 >"$work/said" 2>&1 ||
     { cat "$work/said" >&2; echo "bench/claims.py: failed" >&2; exit 1; }
+python3 ../bench/writers.py --folder "$work/bench" --rounds 1 --part 500 >"$work/said" 2>&1 ||
+    { cat "$work/said" >&2; echo "bench/writers.py: failed" >&2; exit 1; }
+run "drawn queries" "${python[@]}" ../bench/answers.py
+if "${python[@]}" -c 'import sqlite3' 2>/dev/null; then
+    run "drawn queries, from C" "${python[@]}" ../bench/drawn --compare --nodes 200 --queries 30
+else
+    echo "drawn queries, from C: skipped, python3 has no sqlite3"
+fi
 if [ -x $program ]; then
     run "the library and the program" "${python[@]}" ../python/alike.py $program
 else

@@ -2,6 +2,13 @@
 #ifndef TESTS_HPP
 #define TESTS_HPP
 
+// On a loaded machine, and under valgrind, another thread may be in the middle of a write for longer than the helpers usually wait.
+#ifndef BES_WITHIN
+#define BES_WITHIN 60000 // milliseconds
+#define BES_CHANGE_WITHIN 60000
+#define BES_TRIES 10000000u
+#endif
+
 #include "bestore.hpp"
 #include <cstdio>
 #include <cstdlib>

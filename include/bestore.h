@@ -29,6 +29,9 @@
  * the comment gives for the error, or to 0. The pass may also have seen more of the journal. Pointers must be valid, and the memory areas
  * that they point to must not overlap. A pointer must not be null, even if its length is 0; in that case it may point to any variable.
  *
+ * STACK. A call takes up to 32 KB of its thread's stack; bes_change and bes_reindex take up to 64 KB, because of their batch. A call that
+ * parses or runs a query takes up to 16 KB, and up to 1 KB for each of the query's comparisons. So 272 KB are enough for any call.
+ *
  * SNAPSHOTS. The journal is the commit log: all committed transactions, numbered from 1. Pin a pass before you read through it. A pinned
  * pass reads the snapshot that was current when it was pinned, whatever is written in the meantime. The snapshot's number is the commit
  * number of its last transaction. The snapshot includes everything that the pass has written or seen. A pin prevents its snapshot's pages
@@ -50,12 +53,13 @@ extern "C" {
 #define BES_VERSION_NUMBER (BES_VERSION_MAJOR * 1000000 + BES_VERSION_MINOR * 1000 + BES_VERSION_PATCH)
 
 /* Opens a store in memory and makes the handle its first pass. Passes are numbered from 0; the first pass has the number passes - 1.
- * [in] pages     how many pages of 4 KiB the store has, 8 to 16,384
+ * [in] pages     how many pages of 4 KiB the store has, 8 to 16,777,216
  * [in] passes    how many passes it has, 1 to 64
  * [in] commits   how many transactions its journal can have, 1 to 2^32 - 1
  * [out] pass     a closed handle, which is opened
  * BES_OPEN, BES_BAD_LIMITS, BES_NO_MEMORY.
- * Cost: the memory for all pages, which this call allocates. */
+ * Cost: this call writes all pages, which take memory meanwhile. Afterwards, only pages that have been used take memory, and 1 % of the
+ * size of the others. If the system then has no memory left for another page, it ends the process. */
 uint32_t bes_open(uint64_t pages, uint64_t passes, uint64_t commits, bes_pass *pass);
 
 /* Opens another handle, for another pass of the same store. The handle from bes_open holds the unused passes, and hands them out in
@@ -82,13 +86,14 @@ uint32_t bes_move(bes_pass *pass, bes_pass *other);
  * Cost: one step for each pass that goes back; for the last handle, the time to free all pages and the journal. */
 uint32_t bes_close(bes_pass *pass);
 
-/* Closes the store through its last handle, and writes the whole journal as text, as bes_journal does. For each pass, the text lists
- * exactly the transactions that were committed through that pass, with their commit numbers. If bytes_room is less than count, nothing is
- * written and the handle stays open; call again with a larger array. The handle may be pinned.
+/* Closes the store through its last handle, and writes the whole journal as text, as bes_journal does: each transaction with its commit
+ * number and the pass that wrote it. If bytes_room is less than count, nothing is written and the handle stays open; call again with a
+ * larger array. The handle may be pinned.
  * [in,out] pass  the store's last open handle, which this call closes
  * [out] bytes    the text. No zero byte follows it.
  * [out] count    how many bytes the text has
- * BES_CLOSED. BES_IN_USE: another handle is open. BES_NO_MEMORY. After BES_IN_USE and BES_NO_MEMORY the handle stays open.
+ * BES_CLOSED. BES_IN_USE: another handle is open. BES_NO_MEMORY. After BES_IN_USE and BES_NO_MEMORY the handle stays open: tests check
+ * this, but no contract states it.
  * Cost: time and memory for the whole text, and the time to free all pages. */
 uint32_t bes_finish(bes_pass *pass, uint8_t *bytes, size_t bytes_room, uint64_t *count);
 
@@ -155,8 +160,9 @@ uint32_t bes_unpin(bes_pass *pass);
  * refused an operation, and the error is that of the first operation refused.
  * BES_COMMITS_SPENT, BES_NO_MEMORY.
  * BES_FULL: no page is free, and number is the oldest version that a pass can still read; bes_status names the pass that holds it. If that
- * version is an older snapshot, the write succeeds once the snapshot is unpinned; bes_apply_or_retry keeps trying for a while. Otherwise,
- * the store is too small for the batch: write a smaller batch, remove nodes a few at a time, or copy the state into a larger store.
+ * version is an older snapshot, unpin it and write again; bes_apply_or_retry keeps trying for a while. The same batch may return BES_FULL
+ * again, with the number of the next snapshot, or because the store is too small even without snapshots. In that case, write a smaller
+ * batch, remove nodes a few at a time, or copy the state into a larger store.
  * Cost: memory for the operations and for their journal entry, and new pages along the path to each change in a tree. The call scans for
  * pages to reuse if no page is free, or if a page has been retired since the last scan (or 32 pages, if that scan had to leave some to
  * readers). A scan checks each pass, and does some work for each page that becomes free. If the call returns BES_BUSY, it costs one step

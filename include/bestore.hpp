@@ -11,9 +11,10 @@
 //
 // What bestore.h says about a call's errors, cost and threading rules applies here too. If a C function returns an error, the C++ call
 // throws a Refusal, which carries the number reported with the error. A call that throws has changed nothing. Store, Pass, Pin, State,
-// Prepared, Live and Witness are movable but not copyable. Destroy a Pin before its pass, and a State before its Pin. The pass may be moved
-// while the Pin exists. Give each thread its own Pass, and make only one call at a time on an object. In a forked child the parent's
-// objects are dead: their calls throw BES_CLOSED, and their destructors do nothing.
+// Prepared, Live and Witness are movable but not copyable. You may destroy objects in any order. Once a pass is closed or destroyed, calls
+// on what came from it throw BES_CLOSED: its Pin, State, Ordered and Entries. Once a Pin has ended, calls on its State and Ordered throw
+// BES_NOT_PINNED. Moving an object doesn't affect the others. Give each thread its own Pass, and make only one call at a time on an object.
+// In a forked child the parent's objects are dead: their calls throw BES_CLOSED, and their destructors do nothing.
 #ifndef BESTORE_HPP
 #define BESTORE_HPP
 
@@ -61,10 +62,10 @@ private:
     friend class Pass;
     friend class detail::Writes<Change>;
 
-    Change(bes_pass *pass, std::uint64_t store) : Snapshot(pass, store)
+    explicit Change(const std::shared_ptr<detail::Session> &pass) : Snapshot(pass)
     {
         std::uint64_t number = 0;
-        detail::check(bes_begin_change(pass, &draft_, &number, &next_));
+        detail::check(bes_begin_change(pass.get(), &draft_, &number, &next_));
         reads(&draft_);
     }
 
@@ -121,8 +122,8 @@ struct Entry {
     Batch batch;
 };
 
-// The entries of the journal, from a given index to the journal's end at the time when the loop reaches it. Iterate over them only while
-// the pass is open. Each entry is returned once: a later loop continues with the entries written since the previous loop.
+// The entries of the journal, from a given index to the journal's end at the time when the loop reaches it. Once the pass is closed, begin()
+// throws BES_CLOSED. Each entry is returned once: a later loop continues with the entries written since the previous loop.
 class Entries {
 public:
     using Iterator = detail::Iterator<Entries, Entry>;
@@ -131,11 +132,10 @@ public:
     Iterator begin()
     {
         std::uint64_t length = 0;
-        if (!detail::is_ours(made_in_))
-            throw Refusal(BES_CLOSED);
+        auto *const pass = detail::opened(pass_);
         const auto error = item_.batch.read([&](bes_counts *counts, auto... room) {
-            return detail::tried(pass_, BES_TRIES, length, [&] {
-                return bes_journal_from(pass_, item_.number, &item_.pass, counts, room..., &length);
+            return detail::tried(pass, detail::retry_of(BES_TRIES, detail::time_to_write, pass_->store.get()), length, [&] {
+                return bes_journal_from(pass, item_.number, &item_.pass, counts, room..., &length);
             });
         });
         detail::check(error, length);
@@ -150,10 +150,9 @@ private:
     friend Iterator;
     friend class Pass;
 
-    Entries(bes_pass *pass, std::uint64_t from) : pass_(pass), item_{from, 0, {}} {}
+    Entries(std::shared_ptr<detail::Session> pass, std::uint64_t from) : pass_(std::move(pass)), item_{from, 0, {}} {}
 
-    bes_pass *pass_;
-    unsigned made_in_ = detail::generation();
+    std::shared_ptr<detail::Session> pass_;
     Entry item_;
 };
 
@@ -184,7 +183,7 @@ public:
     // out one that was closed.
     Pass another()
     {
-        Pass other(store_);
+        Pass other(session()->store);
         detail::check(bes_another(handle(), other.handle()));
         return other;
     }
@@ -196,7 +195,7 @@ public:
     // thread, whose pass joins it.
     Witness witness()
     {
-        Witness witness(store_);
+        Witness witness(session()->store);
         detail::check(bes_witness_of(handle(), witness.handle()));
         return witness;
     }
@@ -206,15 +205,16 @@ public:
     // seen. Returns how many transactions both have now seen. Throws std::invalid_argument if the witness is from another store.
     std::uint64_t join(Witness &witness)
     {
-        if (witness.store_ != store_)
+        auto *const joined = witness.handle();
+        if (witness.store_ != session()->store)
             throw std::invalid_argument("the witness belongs to another store");
-        return detail::number_from(bes_join, handle(), witness.handle());
+        return detail::number_from(bes_join, handle(), joined);
     }
 
     // Reads and writes atomically. Pins the current snapshot, runs f on a Change, and writes the Change's operations as one transaction if
     // no other transaction has been committed in the meantime. If another transaction has been committed, if the store is busy, or if it is
-    // full and bes_again still waits for room, the call unpins and runs f again on a new snapshot. So f may run up to `attempts` times, and
-    // its only effects must be on its Change and its result.
+    // full and bes_again still waits for room, the call unpins and runs f again on a new snapshot. It gives up `within` after the first failed
+    // attempt, or after `attempts` attempts. So f may run several times, and its only effects must be on its Change and its result.
     //
     //     const auto [number, letter] = store.change([](bestore::Change &change) {
     //         const auto letter = change.create();
@@ -224,38 +224,42 @@ public:
     //
     // Returns the commit number, or a Changed with the commit number and f's result. If there are no operations, nothing is written, and
     // the number is the snapshot's. Throws BES_CONFLICT if another transaction committed first on the last attempt. An exception from f
-    // ends the change.
-    template <class F> auto change(F &&f, std::uint32_t attempts = BES_TRIES)
+    // ends the change. If f writes through this pass instead of its Change, that write throws BES_NESTED.
+    template <class F>
+    auto change(F &&f, std::uint32_t attempts = BES_TRIES, std::chrono::milliseconds within = detail::time_to_change)
     {
         using Result = std::invoke_result_t<F &, Change &>;
-        bes_retry retry{attempts > 0 ? attempts - 1 : 0, 1, 0};
+        auto retry = detail::retry_of(attempts, within, session()->store.get());
+        check_not_changing();
         if constexpr (std::is_void_v<Result>) {
             for (;;) {
-                Change change(handle(), store_);
-                f(change);
+                Change change(session());
+                run(f, change);
                 if (const auto number = committed(change, retry))
                     return *number;
             }
         } else {
             for (;;) {
-                Change change(handle(), store_);
-                std::decay_t<Result> result = f(change);
+                Change change(session());
+                std::decay_t<Result> result = run(f, change);
                 if (const auto number = committed(change, retry))
                     return Changed<std::decay_t<Result>>{*number, std::move(result)};
             }
         }
     }
 
-    // Writes either all operations or none. Like bes_apply_or_retry, it makes up to `tries` tries, and at least one.
-    Written apply(const Batch &batch, std::uint32_t tries = BES_TRIES)
+    // Writes either all operations or none. Like bes_apply_or_retry, it makes up to `tries` tries, and at least one. It gives up `within`
+    // after the first failed try.
+    Written apply(const Batch &batch, std::uint32_t tries = BES_TRIES, std::chrono::milliseconds within = detail::time_to_write)
     {
-        return written(batch, tries, [&](auto... list) { return bes_apply(handle(), list...); });
+        return written(batch, tries, within, [&](auto... list) { return bes_apply(handle(), list...); });
     }
 
     // Like apply, but throws BES_CONFLICT unless the journal has exactly `expected` entries.
-    Written apply_if(std::uint64_t expected, const Batch &batch, std::uint32_t tries = BES_TRIES)
+    Written apply_if(std::uint64_t expected, const Batch &batch, std::uint32_t tries = BES_TRIES,
+                     std::chrono::milliseconds within = detail::time_to_write)
     {
-        return written(batch, tries, [&](auto... list) { return bes_apply_if(handle(), expected, list...); });
+        return written(batch, tries, within, [&](auto... list) { return bes_apply_if(handle(), expected, list...); });
     }
 
     // Makes a node.
@@ -282,10 +286,10 @@ public:
     }
 
     // Returns the journal so far, one line per transaction.
-    std::string journal(std::uint32_t tries = BES_TRIES)
+    std::string journal(std::uint32_t tries = BES_TRIES, std::chrono::milliseconds within = detail::time_to_write)
     {
         return detail::whole<std::string>(1 << 16, detail::Place::none, [&](char *text, std::size_t room, std::uint64_t *count) {
-            return detail::tried(handle(), tries, *count, [&] {
+            return detail::tried(handle(), detail::retry_of(tries, within, session()->store.get()), *count, [&] {
                 return bes_journal(handle(), reinterpret_cast<std::uint8_t *>(text), room, count);
             });
         });
@@ -304,14 +308,17 @@ public:
     //
     //     for (const bestore::Entry &entry : pass.journal_from(seen))
     //         for (const bestore::Operation &operation : entry.batch.operations())
-    [[nodiscard]] Entries journal_from(std::uint64_t from = 0) { return Entries(handle(), from); }
+    [[nodiscard]] Entries journal_from(std::uint64_t from = 0) & { return Entries(session(), from); }
+    Entries journal_from(std::uint64_t from = 0) && = delete; // the pass would be closed before the loop begins
 
     // Returns how full the store is and which pass holds its oldest version.
-    Status status(std::uint32_t tries = BES_TRIES)
+    Status status(std::uint32_t tries = BES_TRIES, std::chrono::milliseconds within = detail::time_to_write)
     {
         bes_usage usage{};
         std::uint64_t number = 0;
-        const auto error = detail::tried(handle(), tries, number, [&] { return bes_status(handle(), &usage, &number); });
+        const auto error = detail::tried(handle(), detail::retry_of(tries, within, session()->store.get()), number, [&] {
+            return bes_status(handle(), &usage, &number);
+        });
         detail::check(error, number);
         Status status{usage.pages, usage.free, usage.retired, usage.entries, usage.commits, {}};
         if (usage.is_held)
@@ -319,19 +326,26 @@ public:
         return status;
     }
 
-    // Pins the current snapshot. A pass can have only one pin at a time.
-    [[nodiscard]] Pin pin() & { return Pin(handle(), store_); }
+    // Pins the current snapshot. A pass has at most one pin, so call unpin() on that pin before you replace it by another.
+    [[nodiscard]] Pin pin() & { return Pin(session()); }
 
     // Closes the pass, as the destructor does: the pass goes back to the store, and `another` may hand it out again.
     void close() noexcept { handle_.reset(); }
 
 protected:
-    explicit Pass(std::uint64_t store) : store_(store) {}
+    explicit Pass(detail::Identity store) : handle_(std::make_shared<detail::Session>(std::move(store))) {}
 
-    bes_pass *handle() const { return handle_.get(); }
+    bes_pass *handle() const { return detail::opened(handle_.shared()); }
 
 private:
     friend class detail::Writes<Pass>;
+
+    // Returns the handle, for an object that reads through it.
+    const std::shared_ptr<detail::Session> &session() const
+    {
+        handle(); // throws if it is closed
+        return handle_.shared();
+    }
 
     void write(const detail::Edit &edit)
     {
@@ -340,10 +354,11 @@ private:
         apply(batch);
     }
 
-    template <class Call> Written written(const Batch &batch, std::uint32_t tries, Call call)
+    template <class Call> Written written(const Batch &batch, std::uint32_t tries, std::chrono::milliseconds within, Call call)
     {
+        check_not_changing();
         Written written{0, std::vector<Node>(batch.size() + 1)};
-        const auto error = detail::tried(handle(), tries, written.number, [&] {
+        const auto error = detail::tried(handle(), detail::retry_of(tries, within, session()->store.get()), written.number, [&] {
             return call(detail::begin_of(batch.operations_), batch.size(), detail::bytes_of(batch.bytes_), batch.bytes_.size(),
                         written.made.data(), batch.size(), &written.number);
         });
@@ -352,37 +367,49 @@ private:
         return written;
     }
 
-    // Returns the commit number if the change was written. Returns nothing if the change must be run again; in that case, bes_stand_back
-    // has already been called.
+    // Returns the commit number if the change was written. Returns nothing if the change must be run again, after a pause that this call
+    // has made.
     std::optional<std::uint64_t> committed(Change &change, bes_retry &retry)
     {
         std::uint64_t number = 0;
-        const auto error = change.commit(&number);
+        const auto error = ended(change, retry, &number);
         if (error == BES_OK)
             return number;
-        if (error == BES_CONFLICT && retry.left > 0) {
-            retry.left--;
-            retry.turns = bes_stand_back(retry.turns);
-        } else if (!bes_again(handle(), error, number, &retry)) {
+        if (!(error == BES_CONFLICT ? bes_pause(&retry) : bes_again(handle(), error, number, &retry)))
             throw Refusal(error, number, detail::Place::operation);
-        }
         return std::nullopt;
     }
 
-    detail::Handle<bes_pass, bes_close> handle_;
-    std::uint64_t store_; // the number of its store
+    // Runs a change's function. Meanwhile, this pass doesn't write.
+    template <class F> decltype(auto) run(F &f, Change &change)
+    {
+        struct Ends {
+            bool &is_changing;
+            ~Ends() { is_changing = false; }
+        };
+        const Ends ends{is_changing_ = true};
+        return f(change);
+    }
+
+    void check_not_changing() const
+    {
+        if (is_changing_)
+            throw Refusal(BES_NESTED);
+    }
+
+    static std::uint32_t ended(Change &change, bes_retry &retry, std::uint64_t *number)
+    {
+        const detail::Turn turn(retry);
+        return change.commit(number);
+    }
+
+    detail::Owner<detail::Session, bes_close> handle_;
+    bool is_changing_ = false; // whether a change's function is running
 };
-
-namespace detail {
-
-// How many stores this process has opened.
-inline std::atomic<std::uint64_t> stores{0};
-
-} // namespace detail
 
 // A store's limits.
 struct Limits {
-    std::uint64_t pages = 4096;         // 8 to 16,384 pages of 4 KiB, all allocated at the start
+    std::uint64_t pages = 16384;        // 8 to 16,777,216 pages of 4 KiB, which take memory once they are used
     std::uint64_t passes = 63;          // 1 to 64. Each takes about 90 bytes, and adds 13 instructions to a write
     std::uint64_t commits = UINT32_MAX; // 1 to 2^32 - 1 transactions
 };
@@ -390,7 +417,7 @@ struct Limits {
 // A new store, which is also its first pass. Closing the last pass frees the store.
 class Store : public Pass {
 public:
-    explicit Store(const Limits &limits = {}) : Pass(detail::stores++)
+    explicit Store(const Limits &limits = {}) : Pass(std::make_shared<bes_turn>())
     {
         detail::check(bes_open(limits.pages, limits.passes, limits.commits, handle()));
     }
@@ -401,15 +428,16 @@ inline Updates Live::refresh(Snapshot &snapshot) { return refreshed(snapshot, be
 inline Updates Live::refresh_changed(Snapshot &snapshot)
 {
     // The last refresh must have been in this store; the library can't check this.
-    return refreshed(snapshot, store_ == snapshot.store_ ? bes_refresh_changed : bes_refresh);
+    return refreshed(snapshot, store_ == snapshot.handle()->store ? bes_refresh_changed : bes_refresh);
 }
 
 inline Updates Live::refreshed(Snapshot &snapshot, decltype(bes_refresh) *call)
 {
     bes_updates counts{};
     read_changes();
-    detail::check(call(snapshot.handle(), handle(), &counts));
-    store_ = snapshot.store_;
+    auto *const pass = snapshot.handle();
+    detail::check(call(pass, handle(), &counts));
+    store_ = pass->store;
     unread_ = counts;
     read_changes();
     return std::exchange(read_, {});

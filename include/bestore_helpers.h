@@ -8,9 +8,7 @@
 #ifndef BESTORE_HELPERS_H
 #define BESTORE_HELPERS_H
 
-#include <sched.h>
 #include <string.h>
-#include <time.h>
 
 #ifdef __cplusplus
 extern "C" {
@@ -190,93 +188,127 @@ static inline uint32_t bes_batch_remove_index(bes_batch *batch, const char *name
     return bes_batch_add(batch, BES_REMOVE_INDEX, 0, name, 0, 0, NULL, 0);
 }
 
-/* Yields the processor to other threads `turns` times. Returns how many times to yield before the next try, which is twice `turns` but at
- * most 1,024. When two passes alternate, each write has to wait for the memory that the other pass has just written. So after a failed try,
- * a pass lets the other pass keep writing for a while. */
-static inline unsigned bes_stand_back(unsigned turns)
-{
-    for (unsigned i = 0; i < turns; i++)
-        sched_yield();
-    return turns < 1024 ? 2 * turns : turns;
-}
+/* How many milliseconds after its first failed try a helper gives up, counted by the monotonic clock: after BES_BUSY and BES_FULL, and for
+ * bes_change, which also starts over after BES_CONFLICT. bes_reindex always uses 5,000. */
+#ifndef BES_WITHIN
+#define BES_WITHIN 2000u
+#endif
+#ifndef BES_CHANGE_WITHIN
+#define BES_CHANGE_WITHIN 5000u
+#endif
 
-/* How many tries a helper below makes if it has no parameter for the number of tries. On an idle machine, that many tries take a few
- * seconds. */
+/* How many tries a helper below makes at most if it has no parameter for the number of tries. The time is usually up first. */
 #ifndef BES_TRIES
 #define BES_TRIES 10000u
 #endif
 
-/* The number of seconds for which a write is retried after BES_FULL while another pass has an older snapshot pinned. bes_reindex always
- * uses 2. */
-#ifndef BES_FULL_SECONDS
-#define BES_FULL_SECONDS 2
-#endif
+/* Whose turn it is to write to a store. A thread that finds another thread's write in progress sleeps until that write is over, instead of
+ * trying again and again. Initialise it with BES_TURN_INIT, and name it in the bes_retry of each helper that writes to the store, in every
+ * thread. It must outlive those calls, and needs no cleanup. Without a bes_turn the helpers work too, but when several threads write at
+ * once, some writes take much longer. C++, Python and Rust have one for each store. */
+typedef struct bes_turn {
+    uint32_t state;  /* private: 0 if nobody's, 1 if taken, 2 if a thread may be waiting too, 3 if kept for one that has waited long */
+    uint32_t urgent; /* private: how many threads have waited long */
+} bes_turn;
 
-/* The state of bes_again between tries. */
+#define BES_TURN_INIT { 0, 0 }
+
+/* The state of a helper between tries. Initialise it with {tries - 1, 1, 0, BES_WITHIN, NULL}, before each call. */
 typedef struct bes_retry {
-    uint32_t left;     /* the number of tries that are left */
-    unsigned turns;    /* for bes_stand_back */
-    time_t full_since; /* when BES_FULL was first returned, or 0 */
+    uint32_t left;   /* the number of tries that are left */
+    unsigned turns;  /* for bes_stand_back */
+    uint64_t until;  /* when to give up, in nanoseconds of the monotonic clock, or 0 before the first failed try */
+    uint32_t within; /* how many milliseconds after the first failed try to give up; 0 stands for 2,000 */
+    bes_turn *turn;  /* whose turn it is to write to the store, or NULL */
 } bes_retry;
+
+/* Pauses before the next try. If `turns` is below 16, the thread yields the processor, and otherwise it sleeps for `turns` microseconds.
+ * Returns the argument for the next pause, which is twice `turns` but at most 1,024. */
+unsigned bes_stand_back(unsigned turns);
+
+/* Returns whether tries and time are left after a failed try. If so, it first counts the try and calls bes_stand_back. */
+bool bes_pause(bes_retry *retry);
 
 /* Returns whether a write that returned BES_FULL with this number may succeed later because another pass has an older snapshot pinned, or
  * had one pinned a moment ago. If the caller's own pin is the oldest, the result is false. */
-static inline bool bes_waits_for_other(bes_pass *pass, uint64_t oldest)
+bool bes_waits_for_other(bes_pass *pass, uint64_t oldest);
+
+/* Returns whether to repeat a call that returned this error and number, and pauses first, as bes_pause does. The result is true after
+ * BES_BUSY, and after BES_FULL while bes_waits_for_other returns true, as long as bes_pause returns true. */
+bool bes_again(bes_pass *pass, uint32_t error, uint64_t number, bes_retry *retry);
+
+/* Waits until the turn is free and takes it, but no longer than the retry allows. Returns whether it was taken. */
+bool bes_wait_for_turn_(bes_retry *retry);
+
+/* Gives the turn to a thread that waits for it. */
+void bes_wake_next_(bes_turn *turn);
+
+/* Takes the turn, if the retry has one. Returns whether it was taken; if so, call bes_end_turn. If not, the try may fail with BES_BUSY. */
+static inline bool bes_take_turn(bes_retry *retry)
 {
-    bes_usage usage;
-    uint64_t own = 0, number = 0;
-    uint32_t error = bes_status(pass, &usage, &number);
-    if (error == BES_BUSY)
+    uint32_t nobodys = 0;
+    if (retry->turn == NULL)
+        return false;
+    if (__atomic_compare_exchange_n(&retry->turn->state, &nobodys, 1, false, __ATOMIC_ACQUIRE, __ATOMIC_RELAXED))
         return true;
-    if (error != BES_OK || bes_number(pass, &own) != BES_OK || oldest >= usage.entries)
-        return false;
-    return !usage.is_held || (usage.holder != own && usage.oldest < usage.entries && usage.retired > 0);
+    return bes_wait_for_turn_(retry);
 }
 
-/* Returns whether to repeat a call that returned this error and number. If so, it first calls bes_stand_back. As long as tries are left,
- * the result is true after BES_BUSY; after BES_FULL it is true for up to BES_FULL_SECONDS, while bes_waits_for_other returns true. */
-static inline bool bes_again(bes_pass *pass, uint32_t error, uint64_t number, bes_retry *retry)
+static inline void bes_end_turn(bes_turn *turn)
 {
-    if ((error != BES_BUSY && error != BES_FULL) || retry->left == 0)
-        return false;
-    if (error == BES_FULL) {
-        time_t now = time(NULL);
-        if (retry->full_since == 0)
-            retry->full_since = now;
-        if (now - retry->full_since > BES_FULL_SECONDS || !bes_waits_for_other(pass, number))
-            return false;
-    }
-    retry->left--;
-    retry->turns = bes_stand_back(retry->turns);
-    return true;
+    uint32_t taken = 1;
+    if (!__atomic_compare_exchange_n(&turn->state, &taken, 0, false, __ATOMIC_RELEASE, __ATOMIC_RELAXED))
+        bes_wake_next_(turn);
 }
 
-/* Like bes_apply, but if the first try fails, it retries up to `retries` times, for as long as bes_again returns true. With 0 retries it is
- * the same as bes_apply. */
+/* Like bes_apply, but retries while bes_again returns true. */
+static inline uint32_t bes_apply_retrying(bes_pass *pass, bes_retry *retry, const bes_operation *operations, size_t operations_count,
+                                          const uint8_t *bytes, size_t bytes_count, uint64_t *made, size_t made_room,
+                                          uint64_t *number)
+{
+    uint32_t error;
+    do {
+        const bool has_turn = bes_take_turn(retry);
+        error = bes_apply(pass, operations, operations_count, bytes, bytes_count, made, made_room, number);
+        if (has_turn)
+            bes_end_turn(retry->turn);
+    } while (bes_again(pass, error, *number, retry));
+    return error;
+}
+
+/* Like bes_apply_retrying, but calls bes_apply_if. It doesn't retry after BES_CONFLICT, because what the caller read is no longer
+ * current. */
+static inline uint32_t bes_apply_if_retrying(bes_pass *pass, bes_retry *retry, uint64_t expected, const bes_operation *operations,
+                                             size_t operations_count, const uint8_t *bytes, size_t bytes_count, uint64_t *made,
+                                             size_t made_room, uint64_t *number)
+{
+    uint32_t error;
+    do {
+        const bool has_turn = bes_take_turn(retry);
+        error = bes_apply_if(pass, expected, operations, operations_count, bytes, bytes_count, made, made_room, number);
+        if (has_turn)
+            bes_end_turn(retry->turn);
+    } while (bes_again(pass, error, *number, retry));
+    return error;
+}
+
+/* Like bes_apply, but if the first try fails, it retries up to `retries` times, for BES_WITHIN at most, as long as bes_again returns true.
+ * With 0 retries it is the same as bes_apply. */
 static inline uint32_t bes_apply_or_retry(bes_pass *pass, const bes_operation *operations, size_t operations_count,
                                           const uint8_t *bytes, size_t bytes_count, uint32_t retries, uint64_t *made,
                                           size_t made_room, uint64_t *number)
 {
-    bes_retry retry = {retries, 1, 0};
-    uint32_t error;
-    do
-        error = bes_apply(pass, operations, operations_count, bytes, bytes_count, made, made_room, number);
-    while (bes_again(pass, error, *number, &retry));
-    return error;
+    bes_retry retry = {retries, 1, 0, BES_WITHIN, NULL};
+    return bes_apply_retrying(pass, &retry, operations, operations_count, bytes, bytes_count, made, made_room, number);
 }
 
-/* Like bes_apply_or_retry, but calls bes_apply_if. It doesn't retry after BES_CONFLICT, because what the caller read is no longer
- * current. */
+/* Like bes_apply_or_retry, but calls bes_apply_if. */
 static inline uint32_t bes_apply_if_or_retry(bes_pass *pass, uint64_t expected, const bes_operation *operations,
                                              size_t operations_count, const uint8_t *bytes, size_t bytes_count, uint32_t retries,
                                              uint64_t *made, size_t made_room, uint64_t *number)
 {
-    bes_retry retry = {retries, 1, 0};
-    uint32_t error;
-    do
-        error = bes_apply_if(pass, expected, operations, operations_count, bytes, bytes_count, made, made_room, number);
-    while (bes_again(pass, error, *number, &retry));
-    return error;
+    bes_retry retry = {retries, 1, 0, BES_WITHIN, NULL};
+    return bes_apply_if_retrying(pass, &retry, expected, operations, operations_count, bytes, bytes_count, made, made_room, number);
 }
 
 /* Applies a batch as bes_apply_or_retry does, making up to `tries` tries in all, and at least one. */
@@ -300,9 +332,24 @@ static inline uint32_t bes_batch_apply_if(bes_pass *pass, uint64_t expected, con
  * overwrite what the previous run stored in *with. The function returns BES_OK or an error; bes_change passes the error on. */
 typedef uint32_t bes_changer(bes_pass *pass, bes_batch *batch, uint64_t next, void *with);
 
+/* Returns whether the pass wrote one of the journal's entries from this snapshot on, up to this length. */
+bool bes_wrote_since_(bes_pass *pass, uint64_t snapshot, uint64_t length);
+
+/* Writes the batch of a change to this snapshot. */
+static inline uint32_t bes_end_attempt_(bes_pass *pass, bes_retry *retry, const bes_batch *batch, uint64_t snapshot, uint64_t *number)
+{
+    const bool has_turn = bes_take_turn(retry);
+    uint32_t error = bes_apply_change(pass, batch->operations, batch->count, batch->bytes, batch->used, number);
+    if (has_turn)
+        bes_end_turn(retry->turn);
+    if (error == BES_CONFLICT && bes_wrote_since_(pass, snapshot, *number))
+        error = BES_NESTED;
+    return error;
+}
+
 /* One attempt of bes_change. *is_over says whether the change is over before anything is written. If the changer exits through a longjmp or
  * an exception, only the pin remains. */
-static inline uint32_t bes_change_once_(bes_pass *pass, bes_changer *changer, void *with, uint64_t *number, bool *is_over)
+static inline uint32_t bes_change_once_(bes_pass *pass, bes_retry *retry, bes_changer *changer, void *with, uint64_t *number, bool *is_over)
 {
     bes_batch batch;
     uint64_t snapshot = 0, next = 0;
@@ -317,36 +364,37 @@ static inline uint32_t bes_change_once_(bes_pass *pass, bes_changer *changer, vo
         error = changer(pass, &batch, next, with);
     *is_over = error != BES_OK || batch.count == 0;
     if (!*is_over)
-        error = bes_apply_change(pass, batch.operations, batch.count, batch.bytes, batch.used, number);
+        error = bes_end_attempt_(pass, retry, &batch, snapshot, number);
     else if (error == BES_OK)
         *number = snapshot;
     bes_unpin(pass);
     return error;
 }
 
+/* Like bes_change, but with a retry of the caller's: it starts over after BES_CONFLICT while bes_pause returns true. */
+static inline uint32_t bes_change_retrying(bes_pass *pass, bes_retry *retry, bes_changer *changer, void *with, uint64_t *number)
+{
+    for (;;) {
+        bool is_over = false;
+        uint32_t error = bes_change_once_(pass, retry, changer, with, number, &is_over);
+        if (is_over || !(error == BES_CONFLICT ? bes_pause(retry) : bes_again(pass, error, *number, retry)))
+            return error;
+    }
+}
+
 /* Reads and writes atomically: pins the current snapshot, runs the changer, applies its batch if no other transaction has been committed in
- * the meantime, and unpins. If another transaction has been committed, or if bes_again returns true, bes_change starts over. It makes up to
- * `attempts` attempts in all, and at least one. If the batch is empty, nothing is written. An error that the changer returns ends the
+ * the meantime, and unpins. If another transaction has been committed, or if bes_again returns true, bes_change starts over. It gives up
+ * BES_CHANGE_WITHIN after the first failed attempt, or after `attempts` attempts, of which it makes at least one. If the batch is empty, nothing is written. An error that the changer returns ends the
  * change, even if it is one after which bes_change would start over.
  * [in] pass      a pass that isn't pinned
  * [out] number   the commit number; for an empty batch, the snapshot's number
- * BES_CONFLICT: another transaction committed first on the last attempt. BES_PINNED, the changer's errors, and the errors of
+ * BES_CONFLICT: another transaction committed first on the last attempt. BES_NESTED: the changer wrote through the change's own
+ * pass; what it wrote itself is in the store, and its batch isn't. The changer must not unpin the pass. BES_PINNED, the changer's errors, and the errors of
  * bes_apply_change except BES_BAD_COUNT, with number set as there. */
 static inline uint32_t bes_change(bes_pass *pass, uint32_t attempts, bes_changer *changer, void *with, uint64_t *number)
 {
-    bes_retry retry = {attempts > 0 ? attempts - 1 : 0, 1, 0};
-    for (;;) {
-        bool is_over = false;
-        uint32_t error = bes_change_once_(pass, changer, with, number, &is_over);
-        if (is_over)
-            return error;
-        if (error == BES_CONFLICT && retry.left > 0) {
-            retry.left--;
-            retry.turns = bes_stand_back(retry.turns);
-        } else if (!bes_again(pass, error, *number, &retry)) {
-            return error;
-        }
-    }
+    bes_retry retry = {attempts > 0 ? attempts - 1 : 0, 1, 0, BES_CHANGE_WITHIN, NULL};
+    return bes_change_retrying(pass, &retry, changer, with, number);
 }
 
 /* Replaces the batch with the next operations in the sequence that rebuilds the pinned snapshot. Apply the batch to another store with
@@ -367,7 +415,7 @@ static inline uint32_t bes_batch_state(bes_pass *pass, bes_place *place, bes_bat
  * [out] length   the journal's length; after an error, the number reported with the error */
 static inline uint32_t bes_batch_entry(bes_pass *pass, uint64_t from, bes_batch *batch, uint64_t *by, uint64_t *length)
 {
-    bes_retry retry = {BES_TRIES > 0 ? BES_TRIES - 1 : 0, 1, 0};
+    bes_retry retry = {BES_TRIES > 0 ? BES_TRIES - 1 : 0, 1, 0, BES_WITHIN, NULL};
     bes_counts counts;
     uint32_t error;
     do {

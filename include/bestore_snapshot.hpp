@@ -1,79 +1,20 @@
-// Handles, prepared queries and snapshots of bestore for C++17. Include bestore.hpp, which includes this file.
+// Prepared queries and snapshots of bestore for C++17. Include bestore.hpp, which includes this file.
 #ifndef BESTORE_SNAPSHOT_HPP
 #define BESTORE_SNAPSHOT_HPP
 
+#include "bestore_handles.hpp"
 #include "bestore_text.hpp"
 #include "bestore_values.hpp"
 
 #include <algorithm>
-#include <atomic>
+#include <chrono>
 #include <iterator>
 #include <memory>
-#include <new>
 #include <numeric>
-#include <pthread.h>
 
 namespace bestore {
 
 namespace detail {
-
-// The number of forks between the first process that used this library and this process.
-inline std::atomic<unsigned> forks{0};
-
-// Returns the number of forks. Counting starts with the first call.
-inline unsigned generation()
-{
-    static const bool is_counted = [] {
-        if (pthread_atfork(nullptr, nullptr, [] { forks++; }) != 0)
-            throw std::bad_alloc();
-        return true;
-    }();
-    (void)is_counted;
-    return forks;
-}
-
-// Returns whether an object created in this generation belongs to this process.
-inline bool is_ours(unsigned made_in) noexcept { return made_in == forks.load(std::memory_order_relaxed); }
-
-// A library handle. The handle keeps its address when the object that owns it is moved, and is closed together with that object.
-template <class T, std::uint32_t (*close)(T *)> class Handle {
-public:
-    Handle() : handle_(nullptr, Closes{generation()}) { handle_.reset(new T()); }
-
-    void reset() noexcept { handle_.reset(); }
-
-    T *get() const
-    {
-        if (!handle_ || !is_ours(handle_.get_deleter().made_in))
-            throw Refusal(BES_CLOSED);
-        return handle_.get();
-    }
-
-private:
-    struct Closes {
-        unsigned made_in;
-
-        void operator()(T *handle) const noexcept
-        {
-            if (!is_ours(made_in))
-                return;
-            close(handle);
-            delete handle;
-        }
-    };
-
-    std::unique_ptr<T, Closes> handle_;
-};
-
-struct Unpins {
-    unsigned made_in;
-
-    void operator()(bes_pass *pass) const noexcept
-    {
-        if (is_ours(made_in))
-            bes_unpin(pass);
-    }
-};
 
 // Returns the whole output of a call that counts the items and writes as many of them as fit. If some don't fit, repeats the call with a
 // larger list.
@@ -92,14 +33,41 @@ template <class List, class Call> List whole(std::size_t room, Place place, Call
     }
 }
 
-// Repeats a call for as long as bes_again returns true, up to `tries` times in all, and at least once. Returns the call's error. The call
-// writes the number reported with the error to `number`.
-template <class Call> std::uint32_t tried(bes_pass *pass, std::uint32_t tries, const std::uint64_t &number, Call call)
+// How long after its first failed try a call gives up, and how long a change does.
+inline constexpr std::chrono::milliseconds time_to_write{BES_WITHIN}, time_to_change{BES_CHANGE_WITHIN};
+
+// Returns the state of a helper that makes up to `tries` tries, and gives up this long after the first failed one.
+inline bes_retry retry_of(std::uint32_t tries, std::chrono::milliseconds within, bes_turn *turn)
 {
-    bes_retry retry{tries > 0 ? tries - 1 : 0, 1, 0};
-    std::uint32_t error = call();
-    while (bes_again(pass, error, number, &retry))
+    const auto most = std::clamp<std::chrono::milliseconds::rep>(within.count(), 1, UINT32_MAX);
+    return {tries > 0 ? tries - 1 : 0, 1, 0, static_cast<std::uint32_t>(most), turn};
+}
+
+// Takes the turn to write to a store, if it is free in time, and gives it back at the end.
+class Turn {
+public:
+    explicit Turn(bes_retry &retry) : turn_(bes_take_turn(&retry) ? retry.turn : nullptr) {}
+    Turn(const Turn &) = delete;
+    Turn &operator=(const Turn &) = delete;
+    ~Turn()
+    {
+        if (turn_ != nullptr)
+            bes_end_turn(turn_);
+    }
+
+private:
+    bes_turn *turn_;
+};
+
+// Repeats a call, at its turn, for as long as bes_again returns true. Returns the call's error. The call writes the number reported with
+// the error to `number`.
+template <class Call> std::uint32_t tried(bes_pass *pass, bes_retry retry, const std::uint64_t &number, Call call)
+{
+    std::uint32_t error = BES_OK;
+    do {
+        const Turn turn(retry);
         error = call();
+    } while (bes_again(pass, error, number, &retry));
     return error;
 }
 
@@ -138,7 +106,7 @@ public:
     explicit Prepared(std::string_view text)
     {
         std::uint64_t at = 0;
-        const auto error = bes_prepare(detail::bytes_of(text), text.size(), handle_.get(), &at);
+        const auto error = bes_prepare(detail::bytes_of(text), text.size(), handle(), &at);
         detail::check(error, at, detail::Place::byte);
     }
 
@@ -146,7 +114,7 @@ public:
     {
         std::uint64_t at = 0;
         const auto error = bes_prepare_items(detail::begin_of(predicate.items_), predicate.items_.size(),
-                                             detail::bytes_of(predicate.bytes_), predicate.bytes_.size(), handle_.get(), &at);
+                                             detail::bytes_of(predicate.bytes_), predicate.bytes_.size(), handle(), &at);
         detail::check(error, at, detail::Place::item);
     }
 
@@ -165,7 +133,7 @@ public:
 protected:
     friend class Snapshot;
 
-    bes_prepared *handle() const { return handle_.get(); }
+    bes_prepared *handle() const { return detail::opened(handle_.shared()); }
 
 private:
     detail::Handle<bes_prepared, bes_release> handle_;
@@ -177,12 +145,12 @@ class Witness {
 private:
     friend class Pass;
 
-    explicit Witness(std::uint64_t store) : store_(store) {}
+    explicit Witness(detail::Identity store) : store_(std::move(store)) {}
 
-    bes_witness *handle() const { return handle_.get(); }
+    bes_witness *handle() const { return detail::opened(handle_.shared()); }
 
     detail::Handle<bes_witness, bes_dismiss> handle_;
-    std::uint64_t store_; // the number of its store
+    detail::Identity store_;
 };
 
 // The nodes that a live query's result has gained, and those that it has lost, both in ascending order.
@@ -207,8 +175,8 @@ inline Updates combined(const Updates &first, Updates then)
     return {std::move(created), std::move(removed)};
 }
 
-// No store has more nodes: it has at most 16,384 pages, and a page has at most 12 nodes.
-inline constexpr Node most_nodes = 16384 * 12;
+// The largest room that is made for some of a query's nodes, before it is known how many the query finds.
+inline constexpr Node first_room = 1 << 18;
 
 // Returns an index's name as a string that ends at its first zero byte. Throws BES_NO_INDEX for a name that contains one, because no index
 // has such a name.
@@ -250,12 +218,23 @@ private:
     bool is_descending_ = false;
 };
 
-// A position in a query's ordered result: the position of a page's last node. The next page begins just after it, even in a later snapshot,
-// whatever was written in between.
+// A position in a query's ordered result: that of a page's last node, or of a value and a node. The next page begins just after it, even in
+// a later snapshot, whatever was written in between.
 class Cursor {
 public:
     // Creates a cursor at the beginning of the query's result.
     Cursor(const Prepared &query, const Order &order) : order_(order), query_(query.text()) {}
+
+    // Creates a cursor at the position of a value and a node, whether or not the node has this value. With node 0, the position is before all
+    // nodes that have the value; in the descending order, it is after them. Throws BES_NOT_INDEXABLE, BES_DATA_LENGTH or BES_HAS_NUL for a
+    // value that no index has. If the index is of another kind than the value, reading a page throws BES_BAD_CURSOR.
+    //
+    //     pin.page(query, bestore::Cursor(query, bestore::Order("name"), "ann"), 10) // the first names from "ann" on
+    Cursor(const Prepared &query, const Order &order, const Input &value, Node node = 0) : Cursor(query, order)
+    {
+        const bes_attribute raw{static_cast<std::uint32_t>(value.kind()), value.bytes().size(), value.number()};
+        detail::check(bes_cursor_at(&raw, detail::bytes_of(value.bytes()), node, &raw_));
+    }
 
     const Order &order() const noexcept { return order_; }
 
@@ -288,7 +267,7 @@ struct Page {
 };
 
 // A range of the nodes that a query finds, in a given order, as returned by Snapshot::ordered. It is read page by page, and can be iterated
-// over only once. The query and the snapshot must outlive the range.
+// over only once, while the query and the snapshot exist: after that, begin() throws BES_CLOSED or BES_NOT_PINNED.
 //
 //     for (bestore::Node node : pin.ordered(query, bestore::Order("MAIL:when").descending()))
 class Ordered {
@@ -305,10 +284,13 @@ private:
 
     static constexpr std::size_t first_page = 64, largest_page = 4096;
 
-    Ordered(Snapshot &snapshot, Prepared &query, const Cursor &after) : snapshot_(&snapshot), query_(&query), page_{{}, true, after} {}
+    Ordered(detail::Pinned pin, std::shared_ptr<detail::Opened<bes_prepared>> query, const Cursor &after)
+        : pin_(std::move(pin)), query_(std::move(query)), page_{{}, true, after}
+    {
+    }
 
-    Snapshot *snapshot_;
-    Prepared *query_;
+    detail::Pinned pin_;
+    std::shared_ptr<detail::Opened<bes_prepared>> query_;
     Page page_;
     std::size_t at_ = 0, most_ = first_page;
     Node item_ = 0;
@@ -336,9 +318,9 @@ private:
     // Reads the changes that the library found in the last refresh, unless they have been read. If memory runs out, nothing is changed.
     void read_changes();
 
-    std::optional<std::uint64_t> store_; // the store of the last refresh
-    std::optional<bes_updates> unread_;  // how many nodes the last refresh added and removed, until they are read
-    Updates read_;                       // the changes that have been read but not returned, because an exception was thrown
+    detail::Identity store_;            // the store of the last refresh
+    std::optional<bes_updates> unread_; // how many nodes the last refresh added and removed, until they are read
+    Updates read_;                      // the changes that have been read but not returned, because an exception was thrown
 };
 
 // The operations that rebuild a snapshot in an empty store, as batches of 1 to 64 operations. Each batch is written in one transaction. The
@@ -353,7 +335,8 @@ public:
     // Starts at the next batch.
     Iterator begin()
     {
-        detail::check(item_.read([&](auto... room) { return bes_state(pass_, place_.get(), room...); }));
+        auto *const place = detail::opened(place_.shared());
+        detail::check(item_.read([&](auto... room) { return bes_state(pin_.get(), place, room...); }));
         return Iterator(item_.empty() ? nullptr : this);
     }
     Iterator end() { return Iterator(nullptr); }
@@ -362,9 +345,9 @@ private:
     friend Iterator;
     friend class Pin;
 
-    explicit State(bes_pass *pass) : pass_(pass) {}
+    explicit State(detail::Pinned pin) : pin_(std::move(pin)) {}
 
-    bes_pass *pass_;
+    detail::Pinned pin_;
     detail::Handle<bes_place, bes_leave> place_;
     Batch item_;
 };
@@ -404,35 +387,36 @@ public:
     // query.
     Page page(Prepared &query, const Cursor &after, std::size_t most)
     {
-        if (after.query_ != query.text())
-            throw Refusal(BES_BAD_CURSOR);
-        Page page{{}, false, after};
-        const bes_name &by = after.order_.name_;
-        const std::uint32_t descending = after.order_.is_descending_ ? 1 : 0;
-        std::uint32_t more = 0;
-        page.nodes = part(most, [&](auto... nodes) {
-            return bes_ordered(handle(), query.handle(), &by, descending, &page.cursor.raw_, nodes..., &more);
-        });
-        page.more = more != 0;
-        return page;
+        check_cursor(query, after);
+        return read_page(handle(), query.handle(), after, most);
     }
 
-    // Returns all these nodes in order, read page by page.
-    Ordered ordered(Prepared &query, const Order &order) { return ordered(query, Cursor(query, order)); }
-    Ordered ordered(Prepared &query, const Cursor &after) { return Ordered(*this, query, after); }
+    // Returns all these nodes in order, read page by page. The second call also throws BES_BAD_CURSOR if the cursor belongs to another
+    // query.
+    Ordered ordered(Prepared &query, const Order &order) & { return ordered(query, Cursor(query, order)); }
+    Ordered ordered(Prepared &query, const Cursor &after) &
+    {
+        check_cursor(query, after);
+        return Ordered(pinned(), query.handle_.shared(), after);
+    }
+    template <class After> Ordered ordered(Prepared &query, const After &after) && = delete; // the pin would end before the loop begins
 
     // Returns the first `most` nodes that match the query, in ascending order, starting from a given number. Throws BES_NO_ROOM if `most`
     // is 0.
     std::vector<Node> first(Prepared &query, Node from, std::size_t most)
     {
-        return part(most, [&](auto... nodes) { return bes_first(handle(), query.handle(), from, nodes...); });
+        auto *const pass = handle();
+        auto *const prepared = query.handle();
+        return part(pass, prepared, most, [&](auto... nodes) { return bes_first(pass, prepared, from, nodes...); });
     }
 
     // Returns any `most` nodes that match the query, or all of them if there are fewer, in no particular order. Throws BES_NO_ROOM if
     // `most` is 0.
     std::vector<Node> any(Prepared &query, std::size_t most)
     {
-        return part(most, [&](auto... nodes) { return bes_any(handle(), query.handle(), nodes...); });
+        auto *const pass = handle();
+        auto *const prepared = query.handle();
+        return part(pass, prepared, most, [&](auto... nodes) { return bes_any(pass, prepared, nodes...); });
     }
 
     // Returns how many nodes match the query, without listing them.
@@ -576,31 +560,35 @@ public:
 
 protected:
     friend class Live;
+    friend class Ordered;
 
-    Snapshot(bes_pass *pass, std::uint64_t store) : pass_(nullptr, detail::Unpins{detail::generation()}), store_(store)
+    explicit Snapshot(const std::shared_ptr<detail::Session> &pass) : pin_(pinned(pass, &number_)) {}
+
+    detail::Session *handle() const { return detail::opened(pin_.shared(), BES_NOT_PINNED); }
+
+    // Returns the pin, for an object that reads through it.
+    detail::Pinned pinned() const
     {
-        detail::check(bes_pin(pass, &number_));
-        pass_.reset(pass);
+        handle(); // throws if there is none
+        return detail::Pinned(pin_.shared());
     }
 
-    bes_pass *handle() const
-    {
-        if (!pass_)
-            throw Refusal(BES_NOT_PINNED);
-        if (!detail::is_ours(pass_.get_deleter().made_in))
-            throw Refusal(BES_CLOSED);
-        return pass_.get();
-    }
-
-    void release() noexcept { pass_.reset(); }
+    void release() noexcept { pin_.reset(); }
 
     // Returns whether the snapshot is pinned and was created in this process.
-    bool is_ours() const noexcept { return pass_ && detail::is_ours(pass_.get_deleter().made_in); }
+    bool is_ours() const noexcept { return pin_.is_ours(); }
 
     // From now on, get() sees this draft's operations.
     void reads(bes_draft *draft) noexcept { draft_ = draft; }
 
 private:
+    // Pins the pass, and returns it.
+    static std::shared_ptr<detail::Session> pinned(const std::shared_ptr<detail::Session> &pass, std::uint64_t *number)
+    {
+        detail::check(bes_pin(pass.get(), number));
+        return pass;
+    }
+
     std::uint32_t asked(std::string_view text, Node *nodes, std::size_t room, std::uint64_t *count)
     {
         return located(bes_query(handle(), detail::bytes_of(text), text.size(), nodes, room, count), text, count);
@@ -617,22 +605,42 @@ private:
         return bes_query_prepared(handle(), prepared.handle(), nodes, room, count);
     }
 
-    // Returns how many of the requested nodes can exist. If any are requested, the result is at least 1.
-    std::size_t room(std::size_t most)
+    static void check_cursor(const Prepared &query, const Cursor &after)
     {
-        Node next = 0;
-        detail::check(bes_next(handle(), &next));
-        return std::min<std::size_t>(most, std::clamp<Node>(next, 1, detail::most_nodes));
+        if (after.query_ != query.text())
+            throw Refusal(BES_BAD_CURSOR);
     }
 
-    // Returns the nodes that a call writes. The room that it doesn't need is never touched, so it takes no memory.
-    template <class Call> std::vector<Node> part(std::size_t most, Call call)
+    static Page read_page(bes_pass *pass, bes_prepared *query, const Cursor &after, std::size_t most)
     {
-        const std::size_t places = room(most);
-        const std::unique_ptr<Node[]> nodes(new Node[places]); // not cleared
-        std::uint64_t count = 0;
-        detail::check(call(nodes.get(), places, &count));
-        return std::vector<Node>(nodes.get(), nodes.get() + count);
+        Page page{{}, false, after};
+        const bes_name &by = after.order_.name_;
+        const std::uint32_t descending = after.order_.is_descending_ ? 1 : 0;
+        std::uint32_t more = 0;
+        page.nodes = part(pass, query, most, [&](auto... nodes) {
+            page.cursor.raw_ = after.raw_;
+            return bes_ordered(pass, query, &by, descending, &page.cursor.raw_, nodes..., &more);
+        });
+        page.more = more != 0;
+        return page;
+    }
+
+    // Returns the nodes that a call writes, up to `most`. The room that it doesn't need is never touched, so it takes no memory. If the first
+    // room is filled, the call is repeated with room for all nodes that the query finds.
+    template <class Call> static std::vector<Node> part(bes_pass *pass, bes_prepared *query, std::size_t most, Call call)
+    {
+        Node next = 0, none = 0;
+        detail::check(bes_next(pass, &next));
+        for (std::uint64_t room = std::min<std::uint64_t>(most, std::clamp<Node>(next, 1, detail::first_room));;) {
+            const std::unique_ptr<Node[]> nodes(new Node[room]); // not cleared
+            std::uint64_t count = 0, all = 0;
+            detail::check(call(nodes.get(), room, &count));
+            if (count == room && room < most)
+                detail::check(bes_query_prepared(pass, query, &none, 0, &all));
+            if (count >= all)
+                return std::vector<Node>(nodes.get(), nodes.get() + count);
+            room = std::min<std::uint64_t>(most, all + 1);
+        }
     }
 
     template <class Call> std::vector<Node> found(Call call, detail::Place place)
@@ -668,15 +676,14 @@ private:
     }
 
     std::uint64_t number_ = 0;
-    std::unique_ptr<bes_pass, detail::Unpins> pass_;
-    std::uint64_t store_;        // the number of its store
+    detail::Owner<detail::Session, detail::unpin> pin_;
     bes_draft *draft_ = nullptr; // in a Change
 };
 
 inline Ordered::Iterator Ordered::begin()
 {
     if (at_ == page_.nodes.size() && page_.more) {
-        page_ = snapshot_->page(*query_, page_.cursor, most_);
+        page_ = Snapshot::read_page(pin_.get(), detail::opened(query_), page_.cursor, most_);
         most_ = std::min(2 * most_, largest_page);
         at_ = 0;
     }
@@ -693,7 +700,8 @@ public:
     void unpin() noexcept { release(); }
 
     // Returns the operations that rebuild the snapshot in an empty store.
-    [[nodiscard]] State state() { return State(handle()); }
+    [[nodiscard]] State state() & { return State(pinned()); }
+    State state() && = delete; // the pin would end before the loop begins
 
 private:
     friend class Pass;

@@ -44,7 +44,7 @@ static inline uint32_t bes_list_comparisons(const char *text, size_t length, bes
 
 /* Finds the next comparison in a query. Each call parses the whole text; bes_list_comparisons lists all comparisons in one call.
  * [in,out] at    the offset to start from, which is 0 in the first call; on return, the offset just past the comparison
- * Returns whether there is another comparison. If the text isn't a query, the result is false. */
+ * Returns whether there is another comparison. If the text isn't a query, or memory runs out, the result is false. */
 bool bes_next_comparison(const char *text, size_t length, size_t *at, bes_comparison *found);
 
 /* A snapshot's indices, in ascending order of their names. */

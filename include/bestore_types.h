@@ -77,8 +77,8 @@ enum {
     BES_NAME_LENGTH = 18,     /* a name is empty or has more than 63 bytes */
     BES_DATA_LENGTH = 19,     /* a value has more than 255 bytes */
     BES_HAS_NUL = 20,         /* a name or a text has a zero byte; only a raw value may have one */
-    BES_BAD_LIMITS = 21,      /* a limit of the store is out of range; a store has 8 to 16,384
-                               * pages, 1 to 64 passes and 1 to 4,294,967,295 commits */
+    BES_BAD_LIMITS = 21,      /* a limit of the store is out of range; a store has 8 to
+                               * 16,777,216 pages, 1 to 64 passes and 1 to 4,294,967,295 commits */
     BES_BAD_RPN = 22,         /* the items don't form a query; each operator takes the items
                                * before it, and exactly one query must remain at the end */
     BES_CLOSED = 64,          /* the handle is closed; use an open one */
@@ -103,8 +103,11 @@ enum {
     BES_BAD_CURSOR = 78,      /* the cursor doesn't belong to this index; start without a cursor,
                                * or use one from a page in this index's order */
     BES_NO_ROOM = 79,         /* a page has at least one node; ask for one or more */
-    BES_WRONG_KIND = 80       /* the index of this name takes values of another kind; set a value
+    BES_WRONG_KIND = 80,      /* the index of this name takes values of another kind; set a value
                                * of the index's kind */
+    BES_NESTED = 81           /* a change's function wrote through the change's own pass, or
+                               * unpinned it; add the operation to the change, or use another
+                               * pass */
     /* surface.toml: end */
 };
 

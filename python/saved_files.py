@@ -6,7 +6,7 @@ import subprocess
 import sys
 import tempfile
 import unittest
-from contextlib import closing
+from contextlib import closing, contextmanager, suppress
 
 import bestore
 from bestore import saved
@@ -73,6 +73,17 @@ class Files(unittest.TestCase):
         except saved.SavedError as error:
             return error
         self.fail("the file is opened")
+
+    @contextmanager
+    def stopping(self, pages=64, **options):
+        """Opens a store on which a commit fails in the block, so that closing it raises `Stopped`. That doesn't hide what the block
+        itself raises."""
+        store = saved.open(self.path, pages, **options)
+        try:
+            yield store
+        finally:
+            with self.assertRaises(saved.Stopped) if sys.exc_info()[0] is None else suppress(saved.Stopped):
+                store.close()
 
     def skip(self, reason):
         """Skips the test, and prints a line that even a quiet run shows."""

@@ -60,6 +60,21 @@ class Operations(unittest.TestCase):
         self.assertEqual(list(bestore.Batch([bestore.SetAttribute(1, "a", 5)])), [bestore.SetAttribute(1, "a", 5, bestore.INT64)])
         self.assertNotEqual(bestore.NewNode(5), bestore.RemoveNode(5))
 
+    def test_equal(self):
+        """Batches with the same operations are equal, whichever class stores them."""
+        class Plain(bestore.Batch):
+            """Not stored by the extension."""
+        bestore.open(64).close()
+        self.assertIsNot(type(bestore.Batch()).__mro__[1], bestore.Batch)
+        for kind in bestore.Batch, Plain:
+            self.assertEqual(kind(EACH), bestore.Batch(EACH))
+            self.assertEqual(kind(), bestore.Batch())
+            for place in range(len(EACH)):
+                self.assertNotEqual(kind(EACH), bestore.Batch(EACH[:place] + EACH[place + 1:]))
+            self.assertNotEqual(kind([bestore.NewNode(5)]), bestore.Batch([bestore.RemoveNode(5)]))
+            self.assertNotEqual(kind().new_node(), [bestore.NewNode()])
+            self.assertRaises(TypeError, hash, kind())
+
     def test_what_isnt_an_operation(self):
         """Something else with a name doesn't remove the index of this name."""
         for other in pathlib.PurePath("size"), bestore.INT64, "size", 5:
@@ -104,7 +119,7 @@ class Bytes(unittest.TestCase):
         reasons = {
             "beginning": "don't begin with BEB", "version": "a version other than 1", "count": "a batch has 1 to 64 operations",
             "operation": "no operation has the number", "name": "a name has 1 to 63 bytes, and this one",
-            "kind": "no kind has the type code", "end": "more bytes",
+            "kind": "no kind has the type code", "end": "more bytes", "cut": "is cut off",
         }
         rows = table("!")
         self.assertGreater(len(rows), 12)
@@ -126,7 +141,7 @@ class Bytes(unittest.TestCase):
         whole = bestore.Batch([bestore.SetAttribute(1, "ab", 5, bestore.INT32)]).to_bytes()
         for data, offset, reason in [
             (b"", 0, "don't begin with BEB"), (whole[:3], 3, "a version other than 1"), (whole[:4], 4, "is cut off"),
-            (whole[:9], 6, "a node is cut off"), (whole[:16], 15, "a name is cut off"), (whole[:-1], 21, "a number is cut off"),
+            (whole[:9], 6, "a node is cut off"), (whole[:16], 14, "a name is cut off"), (whole[:-1], 21, "a number is cut off"),
         ]:
             with self.assertRaises(bestore.BadBytes) as fault:
                 bestore.Batch.from_bytes(data)

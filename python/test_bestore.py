@@ -48,6 +48,13 @@ class Values(unittest.TestCase):
                     version.query_items(bestore.Name("size"), 1, bestore.Name(""))
                 self.assertEqual(fault.exception.item, 2)
 
+    def test_repr_of_what_cant_be_read(self):
+        """A debugger and a traceback show objects at any time, so this doesn't raise."""
+        with bestore.open(64, 1, 100) as store:
+            with store.pin() as version:
+                self.assertTrue(repr(version[7]).startswith("<attributes of node 7, which can't be read: "), repr(version[7]))
+            self.assertIn("which can't be read: no snapshot is pinned", repr(version[7]))
+
     def test_as_dicts(self):
         with bestore.open(64, 1, 100) as store:
             store.apply(bestore.Batch().new_node().new_node().set(1, "MAIL:from", "ann").set(1, "size", 5))
@@ -121,6 +128,34 @@ class OutOfRange(unittest.TestCase):
             others = [store.another() for _ in range(62)]
             self.assertEqual(len({other.number for other in others}), 62)
             self.assertRaises(bestore.NoPass, store.another)
+
+    def test_passes_from_any_pass(self):
+        """Each pass, in any thread, can create the passes that were never used, and those that were closed."""
+        passes = [bestore.open(64, 6)]
+
+        def add():
+            passes.append(passes[-1].another())
+        for _ in range(2):
+            add()
+            adding = threading.Thread(target=add)
+            adding.start()
+            adding.join()
+        self.assertEqual(len({user.number for user in passes}), 5)
+        passes.pop(0).close()
+        add()
+        add()
+        self.assertEqual({user.number for user in passes}, set(range(6)))
+        self.assertRaises(bestore.NoPass, passes[0].another)
+        passes.pop(0).close()
+        add()
+        for user in passes:
+            user.close()
+            self.assertRaises(bestore.Closed, user.another)
+
+    def test_dropped_opener(self):
+        others = [bestore.open(64, 3).another()]
+        others += [others[0].another() for _ in range(2)]
+        self.assertRaises(bestore.NoPass, others[0].another)
 
 
 class Versions(unittest.TestCase):

@@ -1,5 +1,6 @@
 """Tests of writes that depend on reads: `change`, `apply_if`, and the functions built on them."""
 
+import functools
 import sys
 import threading
 import unittest
@@ -91,7 +92,7 @@ class Changes(unittest.TestCase):
                 store.change(disturbed, attempts=5)
             conflict = fault.exception.__cause__
             self.assertEqual((fault.exception.attempts, conflict.expected, conflict.found), (5, 6, 7))
-            self.assertEqual(str(fault.exception), "another write came first at each of 5 attempts; try again, or allow more attempts")
+            self.assertEqual(str(fault.exception), "another write came first at each of 5 attempts; shorten the function, or allow more time (within) or more attempts")
             with store.pin() as version:
                 self.assertEqual(version.get(node, "count"), 0)
 
@@ -113,6 +114,26 @@ class Changes(unittest.TestCase):
             self.assertEqual(store.status().entries, 0)
             self.assertEqual(store.change(lambda change: [change.new() for _ in range(64)]), list(range(1, 65)))
 
+    def test_unpinned_by_its_function(self):
+        with bestore.open(64, 3, 100) as store, store.another() as other:
+            node, seen = counted(store), []
+
+            def unpins(change, pins):
+                seen.append(change.get(node, "count"))
+                change.set(node, "count", 5)
+                change.unpin()
+                other.set(node, "count", 6)
+                if pins:
+                    seen.append(store.pin())
+            for pins in (False, True):
+                with self.assertRaises(bestore.Nested) as fault:
+                    store.change(lambda change: unpins(change, pins))
+            self.assertIn("a change's function wrote through the change's own pass, or unpinned it", str(fault.exception))
+            self.assertEqual(seen[:2], [0, 6])
+            seen.pop().unpin()
+            with store.pin() as version:
+                self.assertEqual((version.get(node, "count"), version.number), (6, 4))
+
     def test_wrong_use(self):
         with bestore.open(64, 1, 100) as store:
             for write in (store.new_node, lambda: store.change(lambda change: change.new()), lambda: store.set(1, "a", 1)):
@@ -125,6 +146,21 @@ class Changes(unittest.TestCase):
                 with self.assertRaises(bestore.NotPinned):
                     use()
             self.assertEqual(store.status().entries, 0)
+
+    def test_functions_that_a_call_doesnt_run(self):
+        async def wait(change):
+            change.new()
+
+        def generate(change):
+            yield change.new()
+
+        async def generate_later(change):
+            yield change.new()
+        with bestore.open(64) as store:
+            for function in wait, generate, generate_later, functools.partial(wait), functools.partial(functools.partial(generate)):
+                with self.assertRaisesRegex(TypeError, "is async or a generator, .* a plain function"):
+                    store.change(function)
+            self.assertEqual((store.status().entries, store.change(lambda change: change.new())), (0, 1))
 
     def test_indices(self):
         with bestore.open(64, 1, 100) as store:
@@ -355,10 +391,10 @@ class AtFull(unittest.TestCase):
     def test_waits_no_longer_than_that(self):
         with bestore.open(16, 2, 10000) as store, store.another() as reader, reader.pin():
             self.fill(store)
-            with mock.patch("time.sleep") as sleep, self.assertRaises(bestore.Full):
-                store.new_node()
-            self.assertEqual(sleep.call_count, bestore.store.PAUSES)
-            self.assertLess(sum(call.args[0] for call in sleep.call_args_list), 6)
+            with mock.patch("time.monotonic", side_effect=range(100)), mock.patch("time.sleep") as sleep, self.assertRaises(bestore.Full):
+                store.apply(bestore.Batch().new_node(), within=20)
+            self.assertEqual(sleep.call_count, 20)
+            self.assertLessEqual(max(call.args[0] for call in sleep.call_args_list), 0.001)
 
 
 if __name__ == "__main__":

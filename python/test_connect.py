@@ -19,7 +19,7 @@ import test_fork
 import test_language
 import test_native
 import test_ordered
-from bestore import _connection
+from bestore import _connection, connected
 from servers import PATIENCE, OverServer, Server, WithServer
 
 _open = bestore.open
@@ -300,6 +300,28 @@ class Held(WithServer):
         self.assertEqual((fault.exception.path, fault.exception.name), (self.server.path, "Expired"))
         with self.store.pin() as version:
             self.assertEqual(version.indices(), {"size": bestore.INT64})
+
+
+class Confirmed(WithServer):
+    """Reads that wait until what they show is in the server's file."""
+
+    options = ("--keep", "FOLDER/file")
+
+    def test_reads(self):
+        with self.server.connect(confirmed=True) as store, store.another() as other:
+            self.assertIn("confirmed", store.server.features)
+            node = store.new_node()
+            store.set(node, "size", 5)
+            for reader in store, other:
+                with reader.pin() as version:
+                    self.assertEqual(version[node]["size"], 5)
+
+    def test_server_is_asked(self):
+        for options, greeting in ({}, {"protocol": 1}), ({"confirmed": True}, {"protocol": 1, "confirmed": True}):
+            with mock.patch.object(connected.ConnectedPass, "_ask", side_effect=bestore.Closed) as ask:
+                with self.assertRaises(bestore.Closed):
+                    self.server.connect(**options)
+            self.assertEqual(ask.call_args.args[1], greeting)
 
 
 class Writing(WithServer):

@@ -128,6 +128,20 @@ class Dying(WithServer):
                 self.assertRaises(bestore.Pinned, self.store.pin)
                 self.assertEqual(list(version), [])
 
+    def test_unpin(self):
+        """A pass can be unpinned without its version, and keeps a later pin when an earlier version goes."""
+        self.store.unpin()
+        version = self.store.pin()
+        self.store.unpin()
+        self.assertRaises(bestore.NotPinned, version.nodes)
+        with self.store.pin() as later:
+            version.unpin()
+            del version
+            self.assertEqual(later.nodes(), [])
+            self.store.unpin()
+            self.assertRaises(bestore.NotPinned, later.nodes)
+        self.assertEqual(self.store.new_node(), 1)
+
 
 if __name__ == "__main__":
     unittest.main()

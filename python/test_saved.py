@@ -137,6 +137,34 @@ class Kept(Files):
             self.assertEqual(sizes(store), [1, 2, 4])
         self.assertEqual(os.listdir(self.folder), ["test.bestore"])
 
+    def test_is_due(self):
+        with saved.open(self.path, 256, every=3600) as store, store.another() as other:
+            node = store.new_node()
+
+            def fill(entries):
+                """Writes about 16 KiB in each entry."""
+                for _ in range(entries):
+                    batch = bestore.Batch()
+                    for place in range(60):
+                        batch.set(node, f"k{place}", bytes(255))
+                    other.apply(batch)
+                store.flush()
+            fill(15)
+            self.assertFalse(store.is_due)
+            fill(2)
+            self.assertTrue(store.is_due and other.is_due)
+            with mock.patch.object(bestore.Batch, "to_bytes", side_effect=saved.DiskFull(self.path)):
+                self.assertRaises(saved.DiskFull, store.compact)
+            self.assertFalse(store.is_due)
+            fill(17)
+            self.assertTrue(store.is_due)
+            store.compact()
+            self.assertFalse(store.is_due)
+            fill(18)
+        self.assertFalse(store.is_due)
+        with saved.open(self.path, 256) as store:  # which compacts
+            self.assertFalse(store.is_due)
+
     def test_compact_comes_first(self):
         """A state that is waiting to be written goes before the waiting writers, and saves their writes too."""
         ran, append, write_state = [], File.append, File.write_state
@@ -272,13 +300,13 @@ class Timed(Files):
 
     def test_saving_that_ends(self):
         """After an error, the saving thread ends and writes are refused."""
-        with self.assertRaises(saved.Stopped), saved.open(self.path, every=0) as store:
+        with self.stopping(4096, every=0) as store:
             with mock.patch.object(saved._Saver, "_save_all", side_effect=bestore.NoMemory()):
                 with self.assertRaises(saved.Stopped) as stopped:
                     while True:
                         store.new_node()
             self.assertIsInstance(stopped.exception.__cause__, bestore.NoMemory)
-            store.flush()
+            self.assertRaises(saved.Stopped, store.flush)
 
     def test_many_in_one_commit(self):
         with mock.patch.object(saved, "_MOST_ROWS", 7), saved.open(self.path, 64, every=3600) as store:

@@ -133,6 +133,42 @@ class Refused(Files):
         self.assertEqual((type(small), small.entry), (saved.TooLarge, 4))
         self.assertIsInstance(small.__cause__, bestore.CommitsSpent)
 
+    def fill(self):
+        """Fills a store of 64 pages until no page is free. Rebuilding its state takes more pages than the store had."""
+        with saved.open(self.path, 64, every=3600) as store, self.assertRaises(bestore.Full):
+            store.make_index("size", bestore.INT64)
+            while True:
+                node = store.new_node()
+                store.apply(bestore.Batch().set(node, "size", node * 7919 % 1000).set(node, "name", f"file number {node}"))
+        saved.open(self.path, 64).close()
+
+    def test_too_few_pages(self):
+        """The error says how many are enough, from now on."""
+        self.fill()
+        small = self.refusal()
+        self.assertEqual((type(small), type(small.__cause__)), (saved.TooLarge, bestore.Full))
+        self.assertTrue(str(small).endswith(f"the file needs more pages than the store has; open it with pages={small.pages} or more"))
+        self.assertIsInstance(self.refusal(pages=small.pages * 4 // 5), saved.TooLarge)
+        for _ in range(3):
+            with saved.open(self.path, small.pages) as store, store.pin() as version:
+                self.assertGreater(len(version.query("size>=0")), 100)
+
+    def test_no_store_has_enough_pages(self):
+        self.fill()
+        opened, needed = saved._local.open, self.refusal().pages
+
+        def limited(pages, *limits):
+            if pages > most:
+                raise bestore.BadLimits()
+            return opened(pages, *limits)
+        with mock.patch.object(saved._local, "open", limited):
+            for most in (needed, needed + 1):
+                self.assertLessEqual(self.refusal().pages, most)
+            most = needed * 4 // 5 - 1
+            small = self.refusal()
+        self.assertIsNone(small.pages)
+        self.assertTrue(str(small).endswith("the file needs more pages than the store has, and than a store can have"), small)
+
     def test_errors_of_older_pythons(self):
         """Before Python 3.11, an SQLite error has only a message."""
         for message, kind in [
@@ -194,7 +230,7 @@ class Failures(Files):
     def test_wakes(self):
         """A write that isn't saved wakes the threads that wait for writes, because snapshots show it."""
         found, limit = [], 10
-        with self.assertRaises(saved.Stopped), saved.open(self.path, 64) as store:
+        with self.stopping() as store:
             for write in store.new_node, lambda: store.change(lambda change: change.new()):
                 with store.another() as other, other.watch() as watch:
                     waiting = threading.Thread(target=lambda: found.append(watch.wait(limit)))
@@ -207,11 +243,11 @@ class Failures(Files):
                     waiting.join()
                     self.assertLess(time.monotonic() - begun, limit)
             with self.broken(saved.DiskFull(self.path)):
-                store.flush()
+                self.assertRaises(saved.Stopped, store.flush)
         self.assertEqual(found, [([], [])] * 2)
 
     def test_each_that_waits(self):
-        with self.assertRaises(saved.Stopped), saved.open(self.path, 64) as store:
+        with self.stopping() as store:
             with self.broken(saved.DiskFull(self.path), 10):
                 running, refused = four_writers(store)
                 for thread in running:
@@ -296,10 +332,16 @@ class Failures(Files):
             self.assertEqual(version.nodes(), [1])
 
     def test_each_of_one_commit(self):
-        """If a commit of several rows fails, each of its writers gets an error, and none hangs."""
-        with self.assertRaises(saved.Stopped), saved.open(self.path, 64) as store:
+        """No write counts as saved before a commit of several rows. If it fails, each of its writers gets an error, and none
+        hangs."""
+        commits = []
+
+        def fail(_, rows):
+            commits.append((store._saver._line.saved, len(rows)))
+            raise saved.DiskFull(self.path)
+        with self.stopping() as store:
             running, refused = four_writers(store)
-            with self.broken(saved.DiskFull(self.path)):
+            with mock.patch.object(File, "append", fail):
                 with store._saver._line.turn():
                     for thread in running:
                         thread.start()
@@ -307,8 +349,10 @@ class Failures(Files):
                         time.sleep(0.001)
                 for thread in running:
                     thread.join()
+            self.assertEqual({type(error) for error in refused}, {saved.NotSaved})
             found = sorted((error.number, type(error.__cause__)) for error in refused)
             self.assertEqual(found, [(number, saved.DiskFull) for number in range(1, 5)])
+        self.assertEqual(commits, [(0, 4)])
         self.assertEqual(sql(self.path, "SELECT count(*) FROM entry"), [(0,)])
 
     def test_interrupted_before_it_is_handed_in(self):

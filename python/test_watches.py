@@ -13,7 +13,7 @@ import unittest
 from unittest import mock
 
 import bestore
-from bestore import commits, local, saved
+from bestore import commits, local, saved, watches
 from servers import BESTORED, MEMORY, PATIENCE, Server
 
 
@@ -142,6 +142,28 @@ class OfThisProcess(Watches):
         with mock.patch.object(local.LocalPass, "status", autospec=True, side_effect=local.LocalPass.status) as status:
             self.assertRaises(bestore.NotReached, self.store.reach, [2**40] * self.store.volumes, 0.2)
             self.assertLessEqual(status.call_count, 3 * self.store.volumes)
+
+    def written_after(self, owner, check):
+        """Writes once, through the other pass, directly after this method of a class has checked the store."""
+        original, left = getattr(owner, check), [1]
+
+        def checked(*arguments):
+            found = original(*arguments)
+            while left:
+                left.pop()
+                self.other.apply(bestore.Batch().new_node(), volume=0)
+            return found
+        return mock.patch.object(owner, check, checked)
+
+    def test_write_between_a_check_and_the_wait(self):
+        """It ends the wait."""
+        begun = time.monotonic()
+        with self.store.watch() as watch, self.written_after(watches.LocalWatch, "_look"):
+            self.assertEqual(watch.wait(PATIENCE), ([], []))
+        expected = self.numbers()[0] + 1, *self.numbers()[1:]
+        with self.written_after(type(self.store), "statuses"):
+            self.assertEqual(self.store.reach(expected, PATIENCE), expected)
+        self.assertLess(time.monotonic() - begun, PATIENCE / 2)
 
     def test_each_call_that_writes_wakes(self):
         node = self.sized(1)

@@ -32,7 +32,9 @@ def powers(least: int, most: int) -> list[int]:
 
 def sizes_of(words: str, least: int, most: int) -> list[int]:
     """Returns the sizes that a line specifies: `each`, `powers`, `bound`, `powers to N`, or `each to N`, which is every size up
-    to N and then powers."""
+    to N and then powers. `at most N` after these replaces the row's maximum."""
+    words, _, cap = words.partition(" at most ")
+    most = int(cap or most)
     which, _, last = words.partition(" to ")
     if which == "bound":
         return [most]

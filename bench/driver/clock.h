@@ -33,4 +33,16 @@ static inline int by_size(const void *left, const void *right) {
 }
 
 static inline void sort_times(double *times, size_t count) { qsort(times, count, sizeof *times, by_size); }
+
+/* Prints the median, the 99th percentile and the maximum of some times. */
+static inline void say_spread(const char *what, double *times, size_t count) {
+    char name[40];
+    sort_times(times, count);
+    snprintf(name, sizeof name, "%s-50", what);
+    say_value(name, times[count / 2]);
+    snprintf(name, sizeof name, "%s-99", what);
+    say_value(name, times[count - (count < 200 ? 1 : count / 100)]);
+    snprintf(name, sizeof name, "%s-max", what);
+    say_value(name, times[count - 1]);
+}
 #endif

@@ -1,4 +1,4 @@
-/* The driver: `PEER writes|reads|indices|patterns|order|shared|held|mixed NODES`, `PEER import FILES`, `PEER sets NODES INDICES`,
+/* The driver: `PEER writes|reads|indices|patterns|order|shared|held|mixed|writers NODES`, `PEER import FILES`, `PEER sets NODES INDICES`,
  * `PEER threads NODES MILLISECONDS`, `PEER open PAGES`, `PEER journal LISTS OPERATIONS`, `PEER pauses NODES COMMITS`.
  *
  * A fourth word, after a second number that may be 0, says how small a part of each case to run: 20 for a twentieth. A fifth word
@@ -22,6 +22,7 @@ static int run(const char *workload, const struct data *data, uint64_t other) {
     else if (!strcmp(workload, "sets")) run_sets(data, other);
     else if (!strcmp(workload, "held")) run_held(data);
     else if (!strcmp(workload, "mixed")) run_mixed(data);
+    else if (!strcmp(workload, "writers")) run_writers(data);
     else if (!strcmp(workload, "threads")) run_threads(data, other / 1000.0);
     else if (!strcmp(workload, "pauses")) run_pauses(data, other);
     else return 2;

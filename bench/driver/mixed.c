@@ -62,18 +62,6 @@ static void start_worker(struct worker *worker, struct pass *pass, const struct 
     *worker = (struct worker){pass, data, random, blocks, 0, 0, malloc(room), malloc(room)};
 }
 
-/* Prints the median, the 99th percentile and the maximum of some times. */
-static void say_spread(const char *what, double *times, size_t count) {
-    char name[32];
-    sort_times(times, count);
-    snprintf(name, sizeof name, "mixed-%s-50", what);
-    say_value(name, times[count / 2]);
-    snprintf(name, sizeof name, "mixed-%s-99", what);
-    say_value(name, times[count - (count < 200 ? 1 : count / 100)]);
-    snprintf(name, sizeof name, "mixed-%s-max", what);
-    say_value(name, times[count - 1]);
-}
-
 static void say_all(struct worker *workers) {
     size_t room = THREADS * workers[0].blocks * TEXTS * sizeof(double), reads = 0, writes = 0;
     double *all_reads = malloc(room), *all_writes = malloc(room);
@@ -83,8 +71,8 @@ static void say_all(struct worker *workers) {
         free(workers[i].reads);
         free(workers[i].writes);
     }
-    say_spread("read", all_reads, reads);
-    say_spread("write", all_writes, writes);
+    say_spread("mixed-read", all_reads, reads);
+    say_spread("mixed-write", all_writes, writes);
     free(all_reads);
     free(all_writes);
 }

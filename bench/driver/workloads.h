@@ -10,6 +10,7 @@ void run_patterns(const struct data *data);
 void run_order(const struct data *data);
 void run_shared(const struct data *data);
 void run_mixed(const struct data *data);
+void run_writers(const struct data *data);
 void run_import(const struct data *data);
 void run_sets(const struct data *data, uint64_t indices);
 void run_held(const struct data *data);

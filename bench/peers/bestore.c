@@ -13,12 +13,14 @@
 
 struct pass {
     _Alignas(64) bes_pass held;
+    bes_turn *turn;
     bool is_open;
     bes_batch batch;
 };
 
 struct store {
     int count;
+    bes_turn turn;
     struct pass passes[PASSES];
 };
 
@@ -41,6 +43,7 @@ struct store *store_open(uint64_t pages, int passes) {
     memset(store, 0, sizeof *store);
     store->count = passes;
     must_do(bes_open(pages, passes, COMMITS, &store->passes[0].held));
+    for (int i = 0; i < passes; i++) store->passes[i].turn = &store->turn;
     for (int i = 1; i < passes; i++) must_do(bes_another(&store->passes[0].held, &store->passes[i].held));
     return store;
 }
@@ -71,7 +74,8 @@ static bes_operation operation_of(uint32_t kind, uint64_t node, size_t name_leng
 
 static enum outcome apply(struct pass *pass, const bes_operation *it, const uint8_t *bytes, uint64_t *made) {
     uint64_t number;
-    return outcome_of(bes_apply_or_retry(&pass->held, it, 1, bytes, it->value_at + it->value_length, TRIES - 1, made, 1, &number));
+    bes_retry retry = {TRIES - 1, 1, 0, BES_WITHIN, pass->turn};
+    return outcome_of(bes_apply_retrying(&pass->held, &retry, it, 1, bytes, it->value_at + it->value_length, made, 1, &number));
 }
 
 enum outcome begin(struct pass *pass) {

@@ -64,7 +64,7 @@ static const meaning meanings[] = {
       "only a raw value may have one" },
     { BES_BAD_LIMITS, BES_CLASS_MINE, "BES_BAD_LIMITS",
       "a limit of the store is out of range; "
-      "a store has 8 to 16,384 pages, 1 to 64 passes and 1 to 4,294,967,295 commits" },
+      "a store has 8 to 16,777,216 pages, 1 to 64 passes and 1 to 4,294,967,295 commits" },
     { BES_BAD_RPN, BES_CLASS_MINE, "BES_BAD_RPN",
       "the items don't form a query; "
       "each operator takes the items before it, and exactly one query must remain at the end" },
@@ -115,6 +115,9 @@ static const meaning meanings[] = {
     { BES_WRONG_KIND, BES_CLASS_MINE, "BES_WRONG_KIND",
       "the index of this name takes values of another kind; "
       "set a value of the index's kind" },
+    { BES_NESTED, BES_CLASS_MINE, "BES_NESTED",
+      "a change's function wrote through the change's own pass, or unpinned it; "
+      "add the operation to the change, or use another pass" },
     /* surface.toml: end */
 };
 

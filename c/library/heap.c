@@ -8,33 +8,92 @@
 #include <errno.h>
 #include <stdint.h>
 #include <stdlib.h>
+#include <string.h>
 #ifdef __linux__
 #include <sys/mman.h>
 #endif
 
 enum {
     PAGE = 4096,
-    LARGE = 4 << 20, /* a request of at least this many bytes gets huge pages */
+    LARGE = 1 << 20, /* the zeros in a block of at least this many bytes are returned */
+    HUGE = 4 << 20,  /* a block of at least this many bytes gets huge pages */
 };
 
-/* Asks the kernel to use huge pages for this memory. The kernel may refuse, which changes only how fast the memory is. */
-static void ask_for_huge_pages(void *memory, size_t size)
+/* Whether this thread is opening a store, and the large block that it requested last for it, or NULL. */
+static _Thread_local struct {
+    bool is_begun;
+    unsigned char *block;
+    size_t size;
+} opening;
+
+#ifdef __linux__
+/* Advises the kernel about the whole pages between two addresses. The kernel may refuse. That changes only how fast the memory is,
+ * or how much of it is used. */
+static void advise(const unsigned char *from, const unsigned char *to, int advice)
 {
-#ifdef MADV_HUGEPAGE
-    uintptr_t begin = ((uintptr_t)memory + PAGE - 1) / PAGE * PAGE, end = ((uintptr_t)memory + size) / PAGE * PAGE;
+    uintptr_t begin = ((uintptr_t)from + PAGE - 1) / PAGE * PAGE, end = (uintptr_t)to / PAGE * PAGE;
     int error = errno;
-    madvise((void *)begin, end - begin, MADV_HUGEPAGE);
+    if (begin < end)
+        madvise((void *)begin, end - begin, advice);
     errno = error;
+}
 #else
-    (void)memory;
-    (void)size;
+enum { MADV_HUGEPAGE, MADV_DONTNEED };
+
+static void advise(const unsigned char *from, const unsigned char *to, int advice)
+{
+    (void)from;
+    (void)to;
+    (void)advice;
+}
 #endif
+
+/* Returns the memory of a page or more of zeros to the system. */
+static void return_zeros(unsigned char *block, size_t size)
+{
+    static const unsigned char zeros[PAGE];
+    unsigned char *from = block + (PAGE - (uintptr_t)block % PAGE) % PAGE, *end = block + size, *to;
+    for (; end - from >= PAGE; from = to + PAGE) {
+        for (to = from; end - to >= PAGE && memcmp(to, zeros, PAGE) == 0;)
+            to += PAGE;
+        advise(from, to, MADV_DONTNEED);
+    }
+}
+
+/* Makes this block the last one. The zeros of the one before have been written. */
+static void follow(unsigned char *block, size_t size)
+{
+    if (opening.block != NULL)
+        return_zeros(opening.block, opening.size);
+    opening.block = block;
+    opening.size = size;
+}
+
+/* A store's block starts as zeros, so `return_zeros` may also read what the proved code hasn't written. */
+static void *request_large(size_t size)
+{
+    unsigned char *block = opening.is_begun ? calloc(1, size) : malloc(size);
+    if (block != NULL && size >= HUGE)
+        advise(block, block + size, MADV_HUGEPAGE);
+    if (opening.is_begun)
+        follow(block, size);
+    return block;
 }
 
 void *bes_request_memory(size_t size)
 {
-    void *memory = malloc(size);
-    if (memory != NULL && size >= LARGE)
-        ask_for_huge_pages(memory, size);
-    return memory;
+    return size < LARGE ? malloc(size) : request_large(size);
+}
+
+void bes_begin_opening(void)
+{
+    opening.is_begun = true;
+}
+
+void bes_end_opening(bool is_open)
+{
+    if (is_open)
+        follow(NULL, 0);
+    opening.block = NULL;
+    opening.is_begun = false;
 }

@@ -8,19 +8,19 @@ import bestore
 LETTERS = 100
 
 
-def file_letters(store, counter, sender):
+def file_letters(store: bestore.Pass, counter: int, sender: str) -> None:
     """Files a sender's letters, each in the same write as the new count."""
-    def file(change):
+    def file(change: bestore.Change) -> None:
         letter = change.new()
         change[letter]["MAIL:from"] = sender
-        change[counter]["letters"] += 1
+        change[counter]["letters"] = change.int(counter, "letters") + 1
 
     for _ in range(LETTERS):
         store.change(file)
     store.close()
 
 
-def main():
+def main() -> None:
     with bestore.open() as store:
         store.make_index("MAIL:from", bestore.STRING)
         counter = store.new_node()

@@ -3,7 +3,7 @@
 import bestore
 
 
-def file(change):
+def file(change: bestore.Change) -> None:
     letter = change.new()
     change[letter]["MAIL:from"] = "ann"
 

@@ -3,7 +3,7 @@
 import bestore
 
 
-def print_changes(store, unread, seen):
+def print_changes(store: bestore.Pass, unread: bestore.Prepared, seen: int) -> int:
     """Prints which letters became unread and which no longer are, and what was written after the last commit number seen.
     Returns the newest number."""
     with store.pin() as version:
@@ -15,7 +15,7 @@ def print_changes(store, unread, seen):
     return seen
 
 
-def carry_on(store):
+def carry_on(store: bestore.Pass) -> bestore.Pass:
     """Returns a store with the same contents and its own journal."""
     other = bestore.open()
     with store.pin() as version:
@@ -24,7 +24,7 @@ def carry_on(store):
     return other
 
 
-def main():
+def main() -> None:
     with bestore.open(passes=1) as store, bestore.prepare("MAIL:status==New") as unread:
         store.make_index("MAIL:status", bestore.STRING)
         letters = store.new_nodes(2)

@@ -8,7 +8,7 @@ import threading
 import bestore
 
 
-def letter(change):
+def letter(change: bestore.Change) -> None:
     change[change.new()]["MAIL:status"] = "New"
 
 

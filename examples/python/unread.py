@@ -8,7 +8,7 @@ import sys
 import bestore
 
 
-def main(path):
+def main(path: str) -> None:
     with bestore.connect(path) as store:
         with store.watch("MAIL:status==New") as unread:
             for came, went in unread:

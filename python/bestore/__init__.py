@@ -12,8 +12,8 @@
             print(version.query("MAIL:from==ann"))
 
 A `Pass` is a session: one thread's handle on the store. Give each thread its own pass, because calls on the same pass wait for
-each other. The thread that opened the store creates each pass with `another`, before that pass's thread starts. Errors are
-raised as subclasses of `Error`; each of the library's error numbers has its own class, such as `Busy` or `QuerySyntax`.
+each other. `another` creates further passes, from any pass and in any thread. Errors are raised as subclasses of `Error`; each of
+the library's error numbers has its own class, such as `Busy` or `QuerySyntax`.
 
 For a store that programs share through the server bestored, use `connect` instead of `open`: see `help(bestore.connected)`. A
 function that takes a `Pass` or a `Version` works with either kind of store. The module `bestore.saved` keeps a store in a file.
@@ -42,12 +42,12 @@ from .connected import connect
 from .errors import (
     # surface.toml: exceptions
     BadCount, BadCursor, BadItems, BadLimits, BadPart, BadPattern, Busy, Closed, CommitsSpent,
-    Conflict, DataLength, Full, HasNul, InUse, IndexExists, NameLength, NoAttribute, NoIndex,
-    NoItem, NoKind, NoMemory, NoNode, NoOperation, NoPass, NoRoom, NoValue, NotCovered,
+    Conflict, DataLength, Full, HasNul, InUse, IndexExists, NameLength, Nested, NoAttribute,
+    NoIndex, NoItem, NoKind, NoMemory, NoNode, NoOperation, NoPass, NoRoom, NoValue, NotCovered,
     NotIndexable, NotPinned, NotUTF8, Opened, Pinned, QuerySyntax, TooDeep, TooLong, TooMany,
     TooManyAttributes, TooManyIndices, WrongKind,
     # surface.toml: end
-    BadBytes, Error, Forked, Nested, NotReached, NoVolume, OtherStore, OtherVolume, PartialIndex,
+    BadBytes, Error, Forked, NotReached, NoVolume, OtherStore, OtherVolume, PartialIndex,
     QueryError, QueryNotUTF8, Refusal, TooManyAttempts,
 )
 from .language import Comparison, Hint, any_case, escape
@@ -83,18 +83,18 @@ __all__ = [
     # surface.toml: names
     "BadCount", "BadCursor", "BadItems", "BadLimits", "BadPart", "BadPattern", "BadRequest", "Busy",
     "Closed", "CommitsSpent", "Conflict", "DataLength", "Expired", "Full", "HasNul", "INT32",
-    "INT64", "InUse", "IndexExists", "Int32", "Int64", "MIME", "NameLength", "NoAttribute",
-    "NoClient", "NoIndex", "NoItem", "NoKind", "NoLog", "NoMemory", "NoNode", "NoOperation",
-    "NoPass", "NoRoom", "NoValue", "NoWatch", "NotAllowed", "NotCovered", "NotIndexable", "NotKept",
-    "NotLeader", "NotPinned", "NotUTF8", "Opened", "Pinned", "PushesLost", "QuerySyntax", "RAW",
-    "STRING", "TooDeep", "TooLong", "TooMany", "TooManyAttributes", "TooManyCopies",
-    "TooManyIndices", "TooManyWatches", "UINT32", "UINT64", "UInt32", "UInt64", "Unexpected",
-    "WrongKind",
+    "INT64", "InUse", "IndexExists", "Int32", "Int64", "MIME", "NameLength", "Nested",
+    "NoAttribute", "NoClient", "NoIndex", "NoItem", "NoKind", "NoLog", "NoMemory", "NoNode",
+    "NoOperation", "NoPass", "NoRoom", "NoValue", "NoWatch", "NotAllowed", "NotCovered",
+    "NotIndexable", "NotKept", "NotLeader", "NotPinned", "NotUTF8", "Opened", "Pinned",
+    "PushesLost", "QuerySyntax", "RAW", "STRING", "TooDeep", "TooLong", "TooMany",
+    "TooManyAttributes", "TooManyCopies", "TooManyIndices", "TooManyWatches", "UINT32", "UINT64",
+    "UInt32", "UInt64", "Unexpected", "WrongKind",
     # surface.toml: end
     "Attributes", "BadBytes", "Batch", "BrokenConnection", "Change", "ChangedAttributes", "Changes",
     "Comparison", "Cursor", "Disconnected", "Entry", "Error", "ErrorClass", "ErrorNumber", "Forked", "Held",
     "Hint", "Integer", "Item", "Kind", "LineTooLong",
-    "MOST_OPERATIONS", "MakeIndex", "Name", "Nested", "NewNode", "NoServer", "NoVolume",
+    "MOST_OPERATIONS", "MakeIndex", "Name", "NewNode", "NoServer", "NoVolume",
     "NotReached", "NotSaved", "Operation", "Operator", "Order", "OtherStore", "OtherUser", "OtherVolume", "PartialIndex",
     "Page", "Pass", "Prepared", "ProtocolError", "QueryError", "QueryNotUTF8", "Refusal",
     "RemoveIndex", "RemoveNode", "ServerError", "ServerRefusal", "SetAttribute", "Shelf",

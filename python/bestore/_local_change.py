@@ -21,6 +21,7 @@ class LocalChange(Change):
 
     def __init__(self, snapshot: LocalVersion, check_kinds: bool) -> None:
         self._snapshot = snapshot
+        self.unpin = snapshot.unpin  # type: ignore  # the extension's call, which no signal handler can keep from unpinning
         if not check_kinds:
             snapshot._take_any_kind()
 

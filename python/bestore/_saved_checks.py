@@ -70,11 +70,12 @@ class LastEntry:
             with suppress(OSError):  # the check is then weaker
                 os.pwrite(self._file, _line(self._identity, number), 0)
 
-    def close(self) -> None:
-        """Call this after the store's file has been closed. The number is then no longer needed, unless a WAL remains."""
+    def close(self, is_in_place: bool) -> None:
+        """Call this after the store's file has been closed. The number is then no longer needed, unless a WAL remains, or the file
+        isn't at its path any more."""
         file, self._file = self._file, None
         if file is not None:
             os.close(file)
-            if not os.path.exists(self._wal):
+            if is_in_place and not os.path.exists(self._wal):
                 with suppress(OSError):
                     os.remove(self._path)

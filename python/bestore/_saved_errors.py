@@ -51,6 +51,21 @@ class Held(SavedError):
     _summary = "the file is open in another process or store; close it there first"
 
 
+@dataclass(eq=False, repr=False)
+class Moved(SavedError):
+    """The open file is no longer at its path, so the next opening wouldn't find what is written now."""
+
+    error_class = ErrorClass.GONE
+
+    is_replaced: bool
+    """Whether another file is at the path now."""
+
+    @property
+    def summary(self) -> str:
+        what = "another file has taken the open file's place" if self.is_replaced else "the open file was moved or removed"
+        return f"{what}; put the file back with its -wal and -last and open it again, or copy the store, which can still be read"
+
+
 class DiskFull(SavedError):
     """The disk is full."""
 
@@ -119,10 +134,18 @@ class Differs(_AtPlace):
     error_class = ErrorClass.GONE
 
 
+@dataclass(eq=False, repr=False)
 class TooLarge(_AtPlace):
     """The file's contents exceed the store's limits. The store's error is in `__cause__`."""
 
     error_class = ErrorClass.FULL
+
+    pages: Optional[int] = None
+    """How many pages are enough to open the file. None if the file needs something else, or more pages than a store can have."""
+
+    @property
+    def summary(self) -> str:
+        return super().summary if self.pages is None else f"{super().summary}; open it with pages={self.pages} or more"
 
 
 @dataclass(eq=False, repr=False)
@@ -233,6 +256,8 @@ def of_reading(path: str, error: sqlite3.Error, entry: Optional[int] = None, bat
 
 def refused(path: str, error: Error, entry: Optional[int] = None, batch: Optional[int] = None) -> SavedError:
     """Converts an error from the store that is replaying the file's contents to one of this module's errors."""
-    if isinstance(error, (Full, CommitsSpent, NoMemory)):
+    if isinstance(error, Full):
+        return TooLarge(path, "the file needs more pages than the store has", entry, batch)
+    if isinstance(error, (CommitsSpent, NoMemory)):
         return TooLarge(path, f"the file doesn't fit the limits of the store: {error}", entry, batch)
     return Differs(path, f"the file contains something that no store wrote: {error}", entry, batch)

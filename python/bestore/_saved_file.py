@@ -15,7 +15,7 @@ from random import SystemRandom
 from typing import Any, Callable, ClassVar, Dict, Iterable, Iterator, List, NamedTuple, Optional, Sequence, Tuple
 
 from ._saved_checks import LastEntry, of_about, of_entry, of_state, of_token
-from ._saved_errors import CutOff, Damaged, Differs, Foreign, Held, Newer, of_reading, of_sqlite
+from ._saved_errors import CutOff, Damaged, Differs, Foreign, Held, Moved, Newer, of_reading, of_sqlite
 
 APPLICATION = 0x62657374
 """"best" in ASCII: the number in SQLite's header that identifies the file."""
@@ -23,8 +23,10 @@ FORMAT = 2
 """The version of the format."""
 _WITHOUT_CHECKSUMS = 1  # the previous version, whose rows have no checksums
 
-_TRIES = 6  # how many more times a held file is tried
+_TRIES = 6  # how many more times a file is tried that is held, or was moved while it was opened
 _PAUSE = 0.04  # the longest pause before each of these tries, in seconds
+_LEAST_DUE = 256 * 1024  # the fewest bytes of entries that are worth rewriting the state
+_ROW_BYTES = 20  # the approximate size of a row without its batch
 _LAST_NUMBER = 2**63 - 1  # the highest entry number: SQLite's integers end there
 
 # After 1,000 pages (4.1 MB), the WAL is overwritten from its start, so the limit truncates only what a large commit added. The
@@ -68,6 +70,16 @@ def _make_private(path: str) -> None:
         raise sqlite3.OperationalError(f"unable to open database file: {error.strerror}") from error
 
 
+def _at(path: str) -> Optional[Tuple[int, int]]:
+    """Returns the device and the inode of the file at a path, or None if there is no file. SQLite keeps its file open, so no other
+    file can have the same two in the meantime."""
+    try:
+        found = os.stat(path)
+    except OSError:
+        return None
+    return found.st_dev, found.st_ino
+
+
 class File:
     """The file, which only this process may use until `close`. Only one thread uses it at a time."""
 
@@ -80,10 +92,11 @@ class File:
         self._last: Optional[LastEntry] = None
         self.has_checksums = True
         """Whether the file's rows have checksums. Rows in the earlier format have none."""
+        self._entry_bytes, self._due_bytes = 0, _LEAST_DUE
         for _ in range(_TRIES):
             # Programs that open the file at the same moment can keep each other from locking it. After pauses of different
             # lengths, one of them is the first.
-            with suppress(Held):
+            with suppress(Held, Moved):
                 self._open_once()
                 return
             time.sleep(SystemRandom().uniform(0, _PAUSE))
@@ -95,13 +108,22 @@ class File:
             # SQLite doesn't treat ":memory:" or an empty name as a file unless a folder precedes the name.
             within = os.path.join(os.curdir, self.path)
             _make_private(within)
+            self._place = within if os.path.isabs(within) else os.path.join(os.getcwd(), within)
+            self._opened = _at(self._place)
             self._connection = sqlite3.connect(within, timeout=0, isolation_level=None, check_same_thread=False)
         File._open.add(self)
         try:
             self._take()
+            self.check_place()
         except BaseException:
             self.close()
             raise
+
+    def check_place(self) -> None:
+        """Raises `Moved` if the open file is no longer at its path. The next opening wouldn't find what is written now."""
+        found = _at(self._place)
+        if found is None or found != self._opened:
+            raise Moved(self.path, found is not None)
 
     @contextmanager
     def _translated(self) -> Iterator[None]:
@@ -227,6 +249,18 @@ class File:
             self._last = LastEntry(self.path, self._about("file"))
             self._last.begin(last)
 
+    @property
+    def is_due(self) -> bool:
+        """Whether the entries take more than half as many bytes as the state, and enough to be worth rewriting it."""
+        return self._entry_bytes > self._due_bytes
+
+    def measure(self) -> None:
+        """Measures the state and the entries."""
+        sums = (f"SELECT coalesce(sum(length(batch) + {_ROW_BYTES}), 0) FROM {table}" for table in ("state", "entry"))
+        with self._translated():
+            state, self._entry_bytes = map(self._number, sums)
+        self._due_bytes = max(state // 2, _LEAST_DUE)
+
     def commits_within(self, commits: int) -> int:
         """Returns how many of `commits` transactions a store opened from this file may accept without running out of entry
         numbers. The transactions that rebuild the state are included in the count. Returns 0 if no number is left and the state
@@ -279,6 +313,7 @@ class File:
     def append(self, rows: Sequence[Row]) -> None:
         """Adds all entries in one commit. If the file already has an entry with the same number, the two entries are identical,
         and the old entry is kept."""
+        self.check_place()
         if self.has_checksums and len(rows) < len(_INSERTS):
             self._append_by_one_statement(rows)
         else:
@@ -288,6 +323,7 @@ class File:
                     self._connection.executemany(_INSERTS[1], map(_checked, rows))
                 else:
                     self._connection.executemany(_INSERT_WITHOUT, rows)
+        self._entry_bytes += sum(len(batch) + _ROW_BYTES for _, _, batch in rows)
         if self._last is not None and rows:
             self._last.set(rows[-1][0])
 
@@ -306,6 +342,7 @@ class File:
     def write_state(self, number: int, next_node: int, batches: Iterable[bytes]) -> None:
         """Replaces the old state and the entries up to `number` with this state, which includes them. After an error the file
         is unchanged."""
+        self._due_bytes = max(self._due_bytes, self._entry_bytes) + _LEAST_DUE  # so that another attempt isn't due at once
         with self._transaction():
             assert self._connection is not None
             self._run("DELETE FROM state")
@@ -316,6 +353,7 @@ class File:
             self._connection.executemany("INSERT INTO state VALUES (?, ?, ?)", rows)
             self._set_about(entries=number, next=next_node)
         self.has_checksums = True
+        self.measure()
 
     def _add_checksums(self) -> None:
         """Adds checksums to the rows of a file in an earlier format, except to the rows in `about`."""
@@ -335,6 +373,7 @@ class File:
 
     def close(self) -> None:
         """Closes and unlocks the file."""
+        is_in_place = _at(self._place) == self._opened
         connection, self._connection = self._connection, None
         if connection is not None:
             with self._translated():
@@ -342,7 +381,7 @@ class File:
                     rows.close()
                 connection.close()
         if self._last is not None:
-            self._last.close()
+            self._last.close(is_in_place)
 
     def _leave_to_parent(self) -> None:
         """In a forked child, keeps SQLite from closing the file, which would remove the parent's WAL."""

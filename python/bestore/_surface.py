@@ -62,6 +62,7 @@ class ErrorNumber(enum.IntEnum):
     BAD_CURSOR = 78
     NO_ROOM = 79
     WRONG_KIND = 80
+    NESTED = 81
 
 
 class Form(enum.IntEnum):
@@ -124,7 +125,7 @@ MEANINGS: Dict[int, Meaning] = {
     ErrorNumber.HAS_NUL: Meaning(ErrorClass.MINE, "a name or a text has a zero byte",
                          "only a raw value may have one"),
     ErrorNumber.BAD_LIMITS: Meaning(ErrorClass.MINE, "a limit of the store is out of range",
-                         "a store has 8 to 16,384 pages, 1 to 64 passes and 1 to 4,294,967,295 commits"),
+                         "a store has 8 to 16,777,216 pages, 1 to 64 passes and 1 to 4,294,967,295 commits"),
     ErrorNumber.BAD_RPN: Meaning(ErrorClass.MINE, "the items don't form a query",
                          "each operator takes the items before it, and exactly one query must remain at the end"),
     ErrorNumber.CLOSED: Meaning(ErrorClass.GONE, "the handle is closed",
@@ -161,6 +162,8 @@ MEANINGS: Dict[int, Meaning] = {
                          "ask for one or more"),
     ErrorNumber.WRONG_KIND: Meaning(ErrorClass.MINE, "the index of this name takes values of another kind",
                          "set a value of the index's kind"),
+    ErrorNumber.NESTED: Meaning(ErrorClass.MINE, "a change's function wrote through the change's own pass, or unpinned it",
+                         "add the operation to the change, or use another pass"),
 }
 """The library's errors, by number."""
 

@@ -3,7 +3,9 @@
 from __future__ import annotations
 
 from abc import abstractmethod
-from typing import Dict, Iterable, Iterator, List, MutableMapping, Optional, Tuple
+from functools import partial
+from inspect import CO_ASYNC_GENERATOR, CO_COROUTINE, CO_GENERATOR
+from typing import Callable, Dict, Iterable, Iterator, List, MutableMapping, Optional, Tuple
 
 from .language import Hint
 from .operations import MOST_OPERATIONS, Batch
@@ -138,6 +140,19 @@ class Change(Version):
 
     def state(self, volume: Optional[int] = None) -> Iterator[Batch]:
         return self._snapshot.state(volume)
+
+
+_RUN_LATER = CO_GENERATOR | CO_COROUTINE | CO_ASYNC_GENERATOR
+
+
+def check_function(function: Callable[..., object]) -> None:
+    """Raises a TypeError for a change's function that is async or a generator. Calling it wouldn't run it, so nothing would be written."""
+    called = function
+    while isinstance(called, partial):
+        called = called.func
+    code = getattr(called, "__code__", None)
+    if code is not None and code.co_flags & _RUN_LATER:
+        raise TypeError(f"{function!r} is async or a generator, so a call doesn't run it: a change takes a plain function")
 
 
 class ChangedAttributes(Attributes, MutableMapping[str, Value]):

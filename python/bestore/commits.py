@@ -1,4 +1,4 @@
-"""Waiting, without polling, for writes by other passes in this process."""
+"""Waiting, without polling, for writes by other passes in this process, and for a turn to write."""
 
 from __future__ import annotations
 
@@ -7,6 +7,8 @@ import threading
 from contextlib import contextmanager, suppress
 from typing import Iterator, Optional, Sequence, Tuple
 from weakref import WeakSet
+
+from ._waits import Waits
 
 PAUSE = 0.002
 """The number of seconds between checks of a store whose commits wake no threads."""
@@ -41,6 +43,7 @@ class Commits:
 
     def __init__(self) -> None:
         self._lock = threading.RLock()
+        self._turn = threading.RLock()  # so that of the threads that find another one writing, only one tries again and again
         self._waiting: Tuple[Waiter, ...] = ()  # replaced as a whole, so that a writer reads it without the lock
         _all.add(self)
 
@@ -48,6 +51,17 @@ class Commits:
         """Wakes all waiting threads."""
         for waiter in self._waiting:
             waiter.wake()
+
+    @contextmanager
+    def turn(self, waits: Waits) -> Iterator[None]:
+        """Waits until no other thread is waiting to write to the store, or until time is up."""
+        turn = self._turn
+        has_turn = turn.acquire(timeout=min(max(waits.left(), 0), threading.TIMEOUT_MAX))
+        try:
+            yield
+        finally:
+            if has_turn:
+                turn.release()
 
     def _add(self, waiter: Waiter) -> None:
         with self._lock:
@@ -65,6 +79,7 @@ def _unlock_in_child() -> None:
     """In a forked child, replaces the locks, because a thread that isn't in the child may hold them."""
     for store in list(_all):
         store._lock = threading.RLock()
+        store._turn = threading.RLock()
 
 
 os.register_at_fork(after_in_child=_unlock_in_child)

@@ -6,7 +6,8 @@
 The server is bestored, described in docs/SERVER.md. A pass is a connection. Use these passes, versions, changes, batches and
 prepared queries just like those of `bestore.open`.
 
-**What differs.** A call takes a round trip. The server itself retries on `Busy` and `Full`, so `tries` has no effect. The
+**What differs.** A call takes a round trip. The server itself retries on `Busy` and `Full`, so `tries` has no effect,
+and `within` only on a change. The
 server revokes a snapshot that is kept too long; reading that snapshot then raises `Expired`. `another` may be called in any
 thread. `finish`, `meet`, `witness` and `join` raise `Unavailable`. There are two more calls, `flush` and `compact`. `watch` waits
 for other clients' writes.
@@ -28,7 +29,7 @@ from contextlib import suppress
 from functools import partial
 from typing import Any, Callable, Dict, Iterable, Iterator, List, NamedTuple, Optional, Sequence, Tuple, TypeVar, Union
 from uuid import uuid4
-from weakref import WeakValueDictionary
+from weakref import WeakValueDictionary, ref
 
 from ._asked_query import AskedQuery
 from ._connected_change import ConnectedChange
@@ -42,6 +43,7 @@ from ._journal import line_of
 from ._refreshes import refreshed_by_all
 from ._saved_errors import NotSaved, Stopped
 from ._socket_path import SocketPath
+from ._waits import Waits
 from ._wire import (
     JSON, PROTOCOL, operations_of, read_comparisons, read_entry, read_indices, read_nodes, read_operation, read_row, read_value)
 from .errors import (
@@ -52,7 +54,7 @@ from .handles import LockOwner
 from .nodes import indices_in, node_number, within
 from .operations import MOST_OPERATIONS, NEW, Batch
 from .queries import Prepared
-from .store import ATTEMPTS, TRIES, Entry, Held, Status, ThreadPass, Witness, numbers_of_volumes
+from .store import ATTEMPTS, CHANGE_WITHIN, TRIES, WITHIN, Entry, Held, Status, ThreadPass, Witness, numbers_of_volumes
 from .values import RANGES, Kind, Typed, Value
 from .versions import Version
 from .watches import Changes, Watch
@@ -314,17 +316,19 @@ class ConnectedPass(LockOwner, ThreadPass):
     """A pass of a server's store, which is a connection. Calls from several threads wait for each other, so give each thread
     its own pass."""
 
-    def __init__(self, path: SocketPath, timeout: Optional[float], run: Optional[str] = None, repeat: Optional[float] = None) -> None:
+    def __init__(self, path: SocketPath, timeout: Optional[float], run: Optional[str] = None, repeat: Optional[float] = None,
+                 confirmed: bool = False) -> None:
         self._connection: Optional[Connection] = None
         super().__init__()
         self._committed = 0
         self._is_asking = self._has_pin = self._is_left = self._is_closed = False
+        self._last_pinned: Optional[ref[ConnectedVersion]] = None
         self._watches: "WeakValueDictionary[int, ConnectedWatch]" = WeakValueDictionary()
         self._ended: List[int] = []  # watches that are gone here and that the server still has
         self.path = path.path
         """The server's socket."""
         self._socket_path = path
-        self._timeout, self._repeat = timeout, repeat
+        self._timeout, self._repeat, self._confirmed = timeout, repeat, confirmed
         self._connect()
         if run is not None and self.server.run != run:
             self.close()
@@ -338,8 +342,9 @@ class ConnectedPass(LockOwner, ThreadPass):
                 connection.close()
                 raise Closed()
             self._connection, self._has_pin = connection, False
+            greeting = {"protocol": PROTOCOL, "confirmed": True} if self._confirmed else {"protocol": PROTOCOL}
             try:
-                self.server, self._number = self._ask("hello", {"protocol": PROTOCOL}, _read_server)
+                self.server, self._number = self._ask("hello", greeting, _read_server)
             except BaseException:
                 connection.close()
                 raise
@@ -416,6 +421,7 @@ class ConnectedPass(LockOwner, ThreadPass):
             if self._has_pin:
                 self._begin().fileno()  # raises the connection's error if that pin was lost with it
                 raise Pinned()
+            self._last_pinned = ref(version)
             self._has_pin = version._is_pinned = True  # set first, because an interrupt may come after the reply
             try:
                 return self._ask("pin", {}, _read_pin)
@@ -459,10 +465,12 @@ class ConnectedPass(LockOwner, ThreadPass):
 
     def another(self) -> ConnectedPass:
         """Returns a pass of the same store for another thread, which is a new connection. Any thread may call this. Raises
-        `NoPass` if the server has reached its maximum number of clients, `NoServer`, or `Disconnected` if the server has been
-        restarted since."""
+        `NoPass` if the server has reached its maximum number of clients, `NoServer`, `Disconnected` if the server has been
+        restarted since, or `Closed` if this pass is closed."""
         self._check_process()
-        return ConnectedPass(self._socket_path, self._timeout, self.server.run, self._repeat)
+        if self._is_closed:
+            raise Closed()
+        return ConnectedPass(self._socket_path, self._timeout, self.server.run, self._repeat, self._confirmed)
 
     def close(self) -> None:
         """Closes the connection if it is open, which returns the pass. The store remains on the server. If another thread is
@@ -498,11 +506,17 @@ class ConnectedPass(LockOwner, ThreadPass):
     def pin(self) -> ConnectedVersion:
         return ConnectedVersion(self)
 
+    def unpin(self) -> None:
+        version = None if self._last_pinned is None else self._last_pinned()
+        if version is not None:
+            version.unpin()
+
     def change(self, function: Callable[[Change], _Result], attempts: int = ATTEMPTS, *, check_kinds: bool = True,
-               tries: int = TRIES, volume: Optional[int] = None) -> _Result:
+               tries: int = TRIES, volume: Optional[int] = None, within: float = CHANGE_WITHIN) -> _Result:
         def run() -> _Result:
             # The server itself retries on Busy and Full.
-            return super(ConnectedPass, self).change(function, attempts, check_kinds=check_kinds, tries=1, volume=volume)
+            return super(ConnectedPass, self).change(function, attempts, check_kinds=check_kinds, tries=1, volume=volume,
+                                                     within=within)
         return self._until_answered(run, has_token=False)
 
     def _begin_change(self, check_kinds: bool, volume: Optional[int]) -> Change:
@@ -523,7 +537,7 @@ class ConnectedPass(LockOwner, ThreadPass):
             raise PartialIndex(0)
         return self.apply_if(change.numbers[volume], batch, volume=volume)[0]
 
-    def _write(self, batch: Batch, tries: int, expected: Optional[int]) -> Tuple[int, List[int]]:
+    def _write(self, batch: Batch, waits: Waits, expected: Optional[int]) -> Tuple[int, List[int]]:
         if expected is None or self.server.volumes == 1:
             return self._write_batch(batch, expected)
         volume, _ = within(batch)
@@ -531,7 +545,7 @@ class ConnectedPass(LockOwner, ThreadPass):
             raise NoVolume(None, self.server.volumes)
         return self._write_batch(batch, expected, volume)
 
-    def _write_in(self, volume: int, batch: Batch, tries: int, expected: Optional[int]) -> Tuple[int, List[int]]:
+    def _write_in(self, volume: int, batch: Batch, waits: Waits, expected: Optional[int]) -> Tuple[int, List[int]]:
         return self._write_batch(batch, expected, volume)
 
     def _write_batch(self, batch: Batch, expected: Optional[int], volume: Optional[int] = None) -> Tuple[int, List[int]]:
@@ -557,10 +571,11 @@ class ConnectedPass(LockOwner, ThreadPass):
             batch.to_bytes()  # raises an error if the batch isn't valid
             raise
 
-    def journal(self, tries: int = TRIES) -> str:
+    def journal(self, tries: int = TRIES, *, within: float = WITHIN) -> str:
         return "".join(map(line_of, self.journal_from()))
 
-    def journal_from(self, number: int = 0, tries: int = TRIES, volume: Optional[int] = None) -> Iterator[Entry]:
+    def journal_from(self, number: int = 0, tries: int = TRIES, volume: Optional[int] = None, *,
+                     within: float = WITHIN) -> Iterator[Entry]:
         """Yields the journal entries after the first `number` entries, up to the last entry that exists when the last page is
         read. So `store.journal_from(version.number)` yields what was written after a snapshot. Each round trip reads a page of
         a few thousand entries."""
@@ -569,10 +584,10 @@ class ConnectedPass(LockOwner, ThreadPass):
             entries, more = self._ask("journal", {"from": more, **_in_volume(volume, self.volumes)}, _read_journal)
             yield from entries
 
-    def status(self, tries: int = TRIES) -> Status:
+    def status(self, tries: int = TRIES, *, within: float = WITHIN) -> Status:
         return self._ask("status", {}, _read_status)
 
-    def statuses(self, tries: int = TRIES) -> List[Status]:
+    def statuses(self, tries: int = TRIES, *, within: float = WITHIN) -> List[Status]:
         return self._ask("status", {}, _read_statuses)
 
     def reach(self, numbers: Union[int, Sequence[int]], within: float = 5) -> Tuple[int, ...]:
@@ -668,7 +683,7 @@ class ConnectedPass(LockOwner, ThreadPass):
 
 
 def connect(path: Union[str, bytes, "os.PathLike[Any]", None] = None, timeout: Optional[float] = TIMEOUT,
-            repeat: Optional[float] = None) -> ConnectedPass:
+            repeat: Optional[float] = None, confirmed: bool = False) -> ConnectedPass:
     """Connects to the server at this socket, or at the socket that `SocketPath.find` finds, and returns a pass. Use it like the
     pass that `open` returns; `help(bestore.connected)` explains the differences.
 
@@ -681,6 +696,10 @@ def connect(path: Union[str, bytes, "os.PathLike[Any]", None] = None, timeout: O
     connection would have neither the pin nor the watches. A batch that creates or removes indices in several volumes is repeated
     only if nothing was written. Numbers for `apply_if` are valid only in the server run that `server.run` names.
 
+    With `confirmed`, a read returns only once everything that it shows is in the server's file or log, and raises `NotSaved` if it
+    can't be. Otherwise, a read may show a write that is lost when the server is killed or another server takes over its log. An
+    earlier server, whose `server.features` lack `confirmed`, refuses the connection.
+
     Raises `NoServer`; `OtherUser` if the socket wasn't named explicitly and the server runs neither as the effective user nor as root;
     `NoPass` if the server has reached its maximum number of clients; `NotAllowed` if the server refuses this user;
     `ProtocolError` or `TimedOut`; and a ValueError unless `timeout` and `repeat` are above 0."""
@@ -688,4 +707,4 @@ def connect(path: Union[str, bytes, "os.PathLike[Any]", None] = None, timeout: O
         raise ValueError(f"a timeout can't be {timeout} seconds; give more than 0")
     if repeat is not None and not repeat > 0:
         raise ValueError(f"writes can't be repeated for {repeat} seconds; give more than 0")
-    return ConnectedPass(SocketPath.find(path), timeout, repeat=repeat)
+    return ConnectedPass(SocketPath.find(path), timeout, repeat=repeat, confirmed=confirmed)

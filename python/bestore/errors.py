@@ -50,13 +50,6 @@ class Forked(Error):
         return "the handle belongs to the process that this one was forked from; open a store here"
 
 
-class Nested(Error):
-    """A change's function wrote through the change's own pass, so the change could never be committed."""
-
-    def __str__(self) -> str:
-        return "this pass is in a change: add the operation to the change, or write through another pass"
-
-
 @dataclass(eq=False, repr=False)
 class TooManyAttempts(_Detailed):
     """On every attempt, another write came between the change's snapshot and its commit. Nothing was written. `__cause__` is
@@ -68,7 +61,8 @@ class TooManyAttempts(_Detailed):
     """The number of attempts that were made."""
 
     def __str__(self) -> str:
-        return f"another write came first at each of {self.attempts} attempts; try again, or allow more attempts"
+        return (f"another write came first at each of {self.attempts} attempts; "
+                "shorten the function, or allow more time (within) or more attempts")
 
 
 @dataclass(eq=False, repr=False)
@@ -314,6 +308,7 @@ class NoValue(_OfList, ValueError, number=ErrorNumber.NO_VALUE): ...
 class BadPart(_OfList, ValueError, number=ErrorNumber.BAD_PART): ...
 class NoItem(_OfList, QueryError, ValueError, number=ErrorNumber.NO_ITEM): ...
 class InUse(Refusal, number=ErrorNumber.IN_USE): ...
+class Nested(Refusal, number=ErrorNumber.NESTED): ...
 # surface.toml: end
 
 

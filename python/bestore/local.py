@@ -6,6 +6,7 @@ import ctypes
 import operator
 import sys
 from typing import Any, Callable, Dict, Iterator, List, Optional, Tuple, TypeVar
+from weakref import ref
 
 from . import _native
 from ._engine import CURSOR, PASS, WITNESS, HandleOwner, NativeBatch, native
@@ -14,6 +15,7 @@ from ._local_change import LocalChange
 from ._prepared import encode_items
 from ._refreshes import refreshed
 from ._surface import ErrorNumber
+from ._waits import Waits
 from .change import Change
 from .commits import Commits
 from .errors import (
@@ -23,7 +25,7 @@ from .nodes import name_missing
 from .operations import Batch
 from .pages import Cursor, Order, Page
 from .queries import Prepared, prepare
-from .store import PASSES, PAUSES, TRIES, Entry, Held, Pass, StandingBack, Status, Witness, pause_at_full
+from .store import PASSES, TRIES, WITHIN, Entry, Held, Pass, Status, Witness
 from .values import RANGES, Kind, Typed, Value
 from .versions import Asked, Query, Row, Version
 
@@ -196,60 +198,52 @@ class LocalPass(HandleOwner, Pass):
     """A pass of a store in this process."""
 
     _store: Commits  # shared by all passes of a store
+    _opener: ref[LocalPass]  # the pass that opened the store
 
     def __init__(self) -> None:
         super().__init__(PASS)
 
     def _open_by(self, user: LocalPass) -> None:
-        """Opens the handle as another pass of the store that `user` belongs to."""
-        self._store = user._store
-        check(user._call(calls.bes_another, self._pointer))
+        """Opens the handle as another pass of the store that `user` belongs to. Only the pass that opened the store holds passes that
+        were never used. Once it is closed, any pass can take them."""
+        self._store, self._opener = user._store, user._opener
+        answer, opener = user._call(calls.bes_another, self._pointer), user._opener()
+        if answer == ErrorNumber.NO_PASS and opener is not None and opener is not user:
+            answer = opener._call(calls.bes_another, self._pointer)
+            if answer == ErrorNumber.CLOSED:
+                answer = user._call(calls.bes_another, self._pointer)
+        check(answer)
 
-    def _tried(self, tries: int, call: Callable[..., int], *arguments: Any) -> int:
-        """Makes a call at least once, and repeats it while another pass is writing, up to this number of tries in all."""
+    def _tried(self, waits: Waits, call: Callable[..., int], *arguments: Any) -> int:
+        """Makes a call at least once, and repeats it while another pass is writing and `waits` allows it."""
         answer = self._call(call, *arguments)
         if answer == _BUSY:
-            back = StandingBack()
-            while answer == _BUSY and tries > 1:
-                back.wait()
-                tries, answer = tries - 1, self._call(call, *arguments)
+            with self._store.turn(waits):
+                while answer == _BUSY and waits.pause():
+                    answer = self._call(call, *arguments)
         return answer
 
-    def _repeated(self, tries: int, call: Callable[..., _Answered], *arguments: Any) -> _Answered:
+    def _repeated(self, waits: Waits, call: Callable[..., _Answered], *arguments: Any) -> _Answered:
         """Makes a call in the extension, with retries as in `_tried`. Such a call also returns the details of the library's
         error number."""
         answered = call(*arguments)
         if answered[0] == _BUSY:
-            back = StandingBack()
-            while answered[0] == _BUSY and tries > 1:
-                back.wait()
-                tries, answered = tries - 1, call(*arguments)
+            with self._store.turn(waits):
+                while answered[0] == _BUSY and waits.pause():
+                    answered = call(*arguments)
         return answered
 
-    def _write(self, batch: Batch, tries: int, expected: Optional[int]) -> Tuple[int, List[int]]:
-        """Writes a batch, trying up to `tries` times while another pass is writing. With more than one try, it also waits for
-        other passes to unpin older snapshots if no page is free."""
+    def _write(self, batch: Batch, waits: Waits, expected: Optional[int]) -> Tuple[int, List[int]]:
+        """Writes a batch, and retries while another pass is writing. If no page is free, it also waits for other passes to unpin
+        older snapshots."""
         taken = native(batch)
         if expected is None:
             before: Tuple[int, ...] = ()
         else:
             before = (expected if expected in RANGES[Kind.UINT64] else 2**64 - 1,)  # a number that no journal has
-        answer, number, made = self._apply(taken, *before)
-        if answer != 0:
-            return self._written_at_last(tries, answer, number, taken, *before)
-        return number, made
-
-    def _written_at_last(self, tries: int, answer: int, number: int, batch: NativeBatch, *before: int) -> Tuple[int, List[int]]:
-        """Continues `_write` after its first attempt has failed with this error."""
-        pauses = 0
-        made: List[int] = []
-        if answer == _BUSY and tries > 1:
-            StandingBack().wait()
-            answer, number, made = self._repeated(tries - 1, self._apply, batch, *before)
-        while answer == _FULL and tries > 1 and pauses < PAUSES and self._is_kept_by_another(number):
-            pause_at_full(pauses)
-            pauses += 1
-            answer, number, made = self._repeated(tries, self._apply, batch, *before)
+        answer, number, made = self._repeated(waits, self._apply, taken, *before)
+        while answer == _FULL and waits.tries > 1 and self._is_kept_by_another(number) and waits.pause():
+            answer, number, made = self._repeated(waits, self._apply, taken, *before)
         if answer != 0:
             raise refusal(answer, number, listed="operation")
         return number, made
@@ -257,7 +251,12 @@ class LocalPass(HandleOwner, Pass):
     def _begin_change(self, check_kinds: bool, volume: Optional[int]) -> Change:
         if volume:
             check_one_volume(volume)
-        return LocalChange(LocalVersion(self), check_kinds)
+        version = LocalVersion(self)
+        try:
+            return LocalChange(version, check_kinds)
+        except BaseException:  # an interrupt, whose traceback would keep the version pinned
+            version.unpin()
+            raise
 
     def _change_on(self, version: Version, check_kinds: bool) -> Change:
         assert isinstance(version, LocalVersion)
@@ -321,7 +320,7 @@ class LocalPass(HandleOwner, Pass):
         self._store.wake()  # a thread waiting with this pass finds the pass closed
 
     def finish(self) -> str:
-        return self._text(1, calls.bes_finish)
+        return self._text(Waits(1, 0), calls.bes_finish)
 
     def meet(self) -> int:
         seen = ctypes.c_uint64()
@@ -345,33 +344,37 @@ class LocalPass(HandleOwner, Pass):
     def pin(self) -> LocalVersion:
         return LocalVersion(self)
 
-    def journal(self, tries: int = TRIES) -> str:
-        return self._text(tries, calls.bes_journal)
+    def unpin(self) -> None:
+        self._unpin()
 
-    def _text(self, tries: int, call: Callable[..., int]) -> str:
+    def journal(self, tries: int = TRIES, *, within: float = WITHIN) -> str:
+        return self._text(Waits(tries, within), calls.bes_journal)
+
+    def _text(self, waits: Waits, call: Callable[..., int]) -> str:
         """Returns the text that a call writes. Repeats the call until the buffer is large enough for the whole text."""
         count, room = ctypes.c_uint64(), 65536
         while True:
             written = ctypes.create_string_buffer(room)
-            check(self._tried(tries, call, written, room, ctypes.byref(count)), count.value)
+            check(self._tried(waits, call, written, room, ctypes.byref(count)), count.value)
             if count.value <= room:
                 return written.raw[:count.value].decode()
             room = 2 * count.value
 
-    def journal_from(self, number: int = 0, tries: int = TRIES, volume: Optional[int] = None) -> Iterator[Entry]:
+    def journal_from(self, number: int = 0, tries: int = TRIES, volume: Optional[int] = None, *,
+                     within: float = WITHIN) -> Iterator[Entry]:
         check_one_volume(volume)
         number = max(operator.index(number), 0)
         while number < 2**64:
-            answer, carried, by, batch = self._repeated(tries, self._journal_entry, number)
+            answer, carried, by, batch = self._repeated(Waits(tries, within), self._journal_entry, number)
             check(answer, carried)
             if batch is None:
                 return
             number += 1
             yield Entry(number, by, tuple(batch))
 
-    def status(self, tries: int = TRIES) -> Status:
+    def status(self, tries: int = TRIES, *, within: float = WITHIN) -> Status:
         usage, number = Usage(), ctypes.c_uint64()
-        check(self._tried(tries, calls.bes_status, ctypes.byref(usage), ctypes.byref(number)), number.value)
+        check(self._tried(Waits(tries, within), calls.bes_status, ctypes.byref(usage), ctypes.byref(number)), number.value)
         oldest = Held(usage.oldest, usage.holder) if usage.is_held else None
         return Status(usage.pages, usage.free, usage.retired, usage.entries, usage.commits, oldest)
 
@@ -379,11 +382,11 @@ class LocalPass(HandleOwner, Pass):
 _native.know(user=LocalPass, page=Page)
 
 
-def open(pages: int = 4096, passes: int = PASSES, commits: int = 2**32 - 1) -> LocalPass:
+def open(pages: int = 16_384, passes: int = PASSES, commits: int = 2**32 - 1) -> LocalPass:
     """Like `opening.open`."""
     if not all(0 <= operator.index(limit) < 2**64 for limit in (pages, passes, commits)):
         raise BadLimits()
     user = LocalPass()
-    user._store = Commits()
+    user._store, user._opener = Commits(), ref(user)
     check(calls.bes_open(pages, passes, commits, user._pointer))
     return user

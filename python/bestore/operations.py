@@ -79,7 +79,7 @@ class Batch:
     """Up to 64 operations. `Pass.apply` applies either all of them or none. A batch's methods return the batch, so calls can be chained.
 
     `for operation in batch` iterates over the operations, `len(batch)` is the number of operations, and `Batch(operations)`
-    makes a batch from operations."""
+    makes a batch from operations. Batches with the same operations are equal."""
 
     _made: ClassVar[Optional[Type[Batch]]] = None
     """The class of new batches after a store has been opened in this process: the extension's class, which is faster."""
@@ -98,6 +98,14 @@ class Batch:
     def __iter__(self) -> Iterator[Operation]:
         for parts in self._parts():
             yield _read_back(*parts)
+
+    def __eq__(self, other: object) -> bool:
+        """Returns whether the batches have the same operations in the same order."""
+        if not isinstance(other, Batch):
+            return NotImplemented
+        return self._parts() == other._parts()
+
+    __hash__ = None  # type: ignore[assignment]  # a batch can change
 
     def __repr__(self) -> str:
         return f"<batch of {len(self)} operations>"
@@ -297,8 +305,11 @@ class _Reader:
         return int.from_bytes(self._take(count, what), "little")
 
     def _counted(self, what: str) -> bytes:
-        """Reads a length, and returns that many bytes."""
-        return self._take(self._number(1, f"the length of {what}"), what)
+        """Reads a length, and returns that many bytes. If they are cut off, the error is at the length."""
+        begin, count = self._at, self._number(1, f"the length of {what}")
+        if len(self._data) - self._at < count:
+            raise BadBytes(begin, f"{what} is cut off")
+        return self._take(count, what)
 
     def _name(self) -> bytes:
         name = self._counted("a name")

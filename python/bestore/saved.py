@@ -9,7 +9,8 @@
 The store is in memory, and each accepted write is saved in the file before its call returns. The write survives `kill -9`.
 It also survives a power failure, provided that the disk stores data before confirming it. Opening the file rebuilds the store by
 replaying each write. If an outcome differs, the file is refused. Only one store at a time can have a file open. docs/KEPT.md
-describes the promises and the format, which is the same as the Rust crate's.
+describes the promises and the format, which is the same as the Rust crate's. If the open file was removed, moved or replaced, the
+next write fails like a failed commit, because the next opening wouldn't find it.
 
 Concurrent writers share a commit: one writer saves what all of them have written, in the journal's order. While a write's call
 waits, a snapshot may already show the write, although the write isn't in the file yet. Call `flush` before you pass a
@@ -24,6 +25,7 @@ would mistake the parent's handle for the child's own.
 from __future__ import annotations
 
 import atexit
+import math
 import operator
 import os
 import threading
@@ -36,19 +38,20 @@ from . import local as _local
 from . import shelf as _shelf
 from ._library import check
 from ._saved_errors import (
-    CutOff, Damaged, Differs, DiskFull, Fewer, Foreign, Held, Newer, NoFile, NotSaved, SavedError, SqliteError, Stopped, TooLarge,
-    is_of_writing, refused, said)
+    CutOff, Damaged, Differs, DiskFull, Fewer, Foreign, Held, Moved, Newer, NoFile, NotSaved, SavedError, SqliteError, Stopped,
+    TooLarge, is_of_writing, refused, said)
 from ._saved_file import File, Row
 from ._saved_line import Line, Turn
 from ._saved_rows import Repeater
+from ._waits import Waits
 from .change import Change
-from .errors import BadLimits, CommitsSpent, Error
+from .errors import BadLimits, CommitsSpent, Error, Full, NoMemory
 from .operations import Batch
 from .store import PASSES
 
 __all__ = [
-    "CutOff", "Damaged", "Differs", "DiskFull", "Fewer", "Foreign", "Held", "Newer", "NoFile", "NotSaved", "Saved", "SavedError",
-    "SavedPass", "SavedShelf", "SqliteError", "Stopped", "TooLarge", "open", "open_shelf",
+    "CutOff", "Damaged", "Differs", "DiskFull", "Fewer", "Foreign", "Held", "Moved", "Newer", "NoFile", "NotSaved", "Saved",
+    "SavedError", "SavedPass", "SavedShelf", "SqliteError", "Stopped", "TooLarge", "open", "open_shelf",
 ]
 
 _ENDING = ".bestore"  # the suffix of a volume's file
@@ -65,7 +68,7 @@ class _Reader:
 
     def read(self, number: int) -> Tuple[int, bytes]:
         """Returns the pass and the batch from the entry with this commit number."""
-        answer, carried, by, batch = self._user._repeated(_TRIES, self._user._journal_entry, number - 1)
+        answer, carried, by, batch = self._user._repeated(Waits(_TRIES, math.inf), self._user._journal_entry, number - 1)
         check(answer, carried)
         assert batch is not None
         return by, batch.to_bytes()
@@ -92,6 +95,12 @@ class _Saver:
         if every is not None:
             threading.Thread(target=self._save_now_and_then, args=(every,), name="bestore-saving", daemon=True).start()
             atexit.register(self.close)
+
+    @property
+    def is_due(self) -> bool:
+        """Whether it is time to rewrite the file's state."""
+        file = self._file
+        return file is not None and file.is_due
 
     def number_in_file(self, commit: int) -> int:
         """Returns the number that the entry with this commit number has in the file."""
@@ -169,6 +178,7 @@ class _Saver:
         """Saves everything that was written before the call."""
         with self._line.turn():
             self._save_all()
+            self._check_place()
 
     def _save_all(self) -> None:
         self.check()
@@ -176,12 +186,22 @@ class _Saver:
             number = version.number
         self._save_up_to(number)
 
+    def _check_place(self) -> None:
+        """Stops all saving, and raises `Stopped`, if the file is no longer at its path."""
+        assert self._file is not None
+        try:
+            self._file.check_place()
+        except Moved as error:
+            self._failed = error
+            self.check()
+
     def compact(self) -> None:
         """Writes the current snapshot into the file, replacing the state and the entries that the snapshot includes."""
         with self._line.turn():
             self.check()
             with self.own.pin() as version:
                 self._save_up_to(version.number)
+                self._check_place()
                 assert self._file is not None
                 number = self.number_in_file(version.number)
                 self._file.write_state(number, version.next_node, (batch.to_bytes() for batch in version.state()))
@@ -246,13 +266,13 @@ class SavedPass(_local.LocalPass):
         self._saver, self._first = saver, first  # this reference keeps the file from being closed
         self._own_number: Optional[int] = None
 
-    def _write(self, batch: Batch, tries: int, expected: Optional[int]) -> Tuple[int, List[int]]:
+    def _write(self, batch: Batch, waits: Waits, expected: Optional[int]) -> Tuple[int, List[int]]:
         self._check_process()
         saver = self._saver
         saver.check()
         if self._own_number is None:
             self._own_number = self.number
-        written = super()._write(batch, tries, expected)
+        written = super()._write(batch, waits, expected)
         self._keep(written[0], self._own_number, batch, written[1])
         return written
 
@@ -295,6 +315,12 @@ class SavedPass(_local.LocalPass):
         self._check_process()
         self._saver.compact()
 
+    @property
+    def is_due(self) -> bool:
+        """Whether it is time to call `compact`, to make the file smaller and faster to open: the entries since the state take more
+        than half as many bytes as the state, and at least 256 KiB. After a call that failed, another 256 KiB must be written."""
+        return self._saver.is_due
+
     def number_in_file(self, commit: int) -> int:
         """Returns the number that the entry with this commit number has in the file. Numbers in the file continue from
         one opening to the next."""
@@ -336,7 +362,7 @@ class Saved(SavedPass):
             super().close()
 
 
-def open(path: Union[str, bytes, "os.PathLike[Any]"], pages: int = 4096, passes: int = PASSES, commits: int = 2**32 - 1,
+def open(path: Union[str, bytes, "os.PathLike[Any]"], pages: int = 16_384, passes: int = PASSES, commits: int = 2**32 - 1,
          every: Optional[float] = None) -> Saved:
     """Opens or creates the file, and rebuilds the store. The limits are those of `bestore.open`, except that `passes` is at
     most 63. The journal begins with the file's contents, so `commits` must allow for them.
@@ -361,8 +387,9 @@ def open(path: Union[str, bytes, "os.PathLike[Any]"], pages: int = 4096, passes:
         if most < commits:
             own.close()
             own = opened.enter_context(_few_commits(file, pages, passes + 1, most))
-        last = _load(file, own)
+        last = _load_or_advise(file, own, pages, passes + 1, min(most, commits))
         file.check(last)
+        file.measure()
         has_entries = last != file.about().entries
         saver = _Saver(file, own, last, every)
         opened.callback(saver.close)
@@ -417,6 +444,11 @@ class SavedShelf(_shelf.Shelf):
         with ExitStack() as calls_of_all:
             for user in self._saved:  # as in `flush`
                 calls_of_all.callback(user.compact)
+
+    @property
+    def is_due(self) -> bool:
+        """Whether it is time to call `compact`, as `SavedPass.is_due` says of each volume."""
+        return any(user.is_due for user in self._saved)
 
     def _index_new(self) -> None:
         """In volumes that have never had a node, creates the indices that all other volumes have."""
@@ -493,6 +525,55 @@ def _load(file: File, own: _local.LocalPass) -> int:
             raise Differs(file.path, "it makes different nodes now", entry=number)
         last = number
     return last
+
+
+def _load_or_advise(file: File, own: _local.LocalPass, pages: int, passes: int, commits: int) -> int:
+    """Does the same. If the store has too few pages, the error says how many are enough."""
+    try:
+        return _load(file, own)
+    except TooLarge as error:
+        if isinstance(error.__cause__, Full):
+            own.close()
+            error.pages = _enough_pages(file, pages, passes, commits)
+            if error.pages is None:
+                error.reason += ", and than a store can have"
+        raise
+
+
+def _enough_pages(file: File, few: int, passes: int, commits: int) -> Optional[int]:
+    """Returns how many pages are enough to open the file, or None if no store can have so many. A fifth fewer aren't enough. `few`
+    pages aren't. Rebuilds the store with several numbers of pages, because nothing else shows how many it takes."""
+    above: Optional[int] = None  # enough, or more than a store can have
+    enough: Optional[int] = None
+    while above is None or above - few > max(few // (100 if enough is None else 5), 1):
+        tried = 2 * few if above is None else (few + above) // 2
+        try:
+            fits = _fits(file, tried, passes, commits)
+        except (BadLimits, NoMemory):
+            above = tried
+            continue
+        if fits:
+            above = enough = tried
+        else:
+            few = tried
+    return enough
+
+
+def _fits(file: File, pages: int, passes: int, commits: int) -> bool:
+    """Returns whether this many pages are enough to open the file, and to open it again once its state was rewritten."""
+    try:
+        with _local.open(pages, passes, commits) as own:
+            if _load(file, own) != file.about().entries:
+                with own.pin() as version, _local.open(pages) as other:
+                    for batch in version.state():
+                        other.apply(batch)
+        return True
+    except Full:
+        return False
+    except TooLarge as error:
+        if isinstance(error.__cause__, Full):
+            return False
+        raise
 
 
 def _repeat(path: str, repeater: Repeater, data: bytes, entry: Optional[int] = None,

@@ -31,6 +31,7 @@ from typing import Callable, Dict, Iterable, Iterator, List, Optional, Sequence,
 
 from ._refreshes import refreshed_by_all
 from ._shelf_change import ShelfChange
+from ._waits import Waits
 from .change import Change
 from .commits import Commits
 from .errors import (
@@ -40,7 +41,7 @@ from .nodes import MOST_VOLUMES, NUMBERS, indices_in, name_missing, node_in, nod
 from .operations import MOST_OPERATIONS, Batch, MakeIndex, Operation
 from .pages import Cursor, Order, Page, decode_key, encode_key
 from .queries import Prepared, prepare
-from .store import PASSES, TRIES, Entry, Pass, Status, ThreadPass, Witness
+from .store import PASSES, TRIES, WITHIN, Entry, Pass, Status, ThreadPass, Witness
 from .values import Kind, Typed, Value
 from .versions import Asked, Query, Version
 
@@ -370,6 +371,10 @@ class Shelf(ThreadPass):
     def pin(self) -> ShelfVersion:
         return ShelfVersion(self, taken(user.pin for user in self._passes))
 
+    def unpin(self) -> None:
+        for user in self._passes:
+            user.unpin()
+
     def _begin_change(self, check_kinds: bool, volume: Optional[int]) -> Change:
         if volume is not None or len(self._passes) == 1:
             volume = self._checked(volume)
@@ -398,56 +403,59 @@ class Shelf(ThreadPass):
     def _may_be_given_pages(self, error: Full) -> bool:
         return self._passes[error.volume or 0]._may_be_given_pages(error)
 
-    def status(self, tries: int = TRIES) -> Status:
-        found = self.statuses(tries)
+    def status(self, tries: int = TRIES, *, within: float = WITHIN) -> Status:
+        found = self.statuses(tries, within=within)
         pages, free, retired, entries, commits = (sum(numbers) for numbers in zip(*(status[:5] for status in found)))
         oldest = next((status.oldest for status in found if status.oldest is not None), None)
         return Status(pages, free, retired, entries, commits, oldest)
 
-    def statuses(self, tries: int = TRIES) -> List[Status]:
-        return [user.status(tries) for user in self._passes]
+    def statuses(self, tries: int = TRIES, *, within: float = WITHIN) -> List[Status]:
+        return [user.status(tries, within=within) for user in self._passes]
 
     def _roomiest(self) -> int:
         """Returns the volume with the most free pages, or the first of them if there is a tie."""
         free = [status.free for status in self.statuses()]
         return free.index(max(free))
 
-    def _write(self, batch: Batch, tries: int, expected: Optional[int]) -> Tuple[int, List[int]]:
+    def _write(self, batch: Batch, waits: Waits, expected: Optional[int]) -> Tuple[int, List[int]]:
         if not 1 <= len(batch) <= MOST_OPERATIONS:
             raise BadCount()
         indices = indices_in(batch)
         if indices and len(self._passes) > 1:
             if len(indices) < len(batch) or expected is not None:
                 raise PartialIndex(indices[0])
-            return self._write_indices(batch, tries)
+            return self._write_indices(batch, waits)
         volume, moved = within(batch)
         if volume is None:
             volume = self._checked(None) if expected is not None else self._roomiest()
         if not 0 <= volume < len(self._passes):
             raise NoNode()
-        return self._write_moved(volume, moved, tries, expected)
+        return self._write_moved(volume, moved, waits, expected)
 
-    def _write_in(self, volume: int, batch: Batch, tries: int, expected: Optional[int]) -> Tuple[int, List[int]]:
-        return self._write_moved(self._checked(volume), within(batch, volume)[1], tries, expected)
+    def _write_in(self, volume: int, batch: Batch, waits: Waits, expected: Optional[int]) -> Tuple[int, List[int]]:
+        return self._write_moved(self._checked(volume), within(batch, volume)[1], waits, expected)
 
-    def _write_moved(self, volume: int, moved: Batch, tries: int, expected: Optional[int]) -> Tuple[int, List[int]]:
+    def _write_moved(self, volume: int, moved: Batch, waits: Waits, expected: Optional[int]) -> Tuple[int, List[int]]:
         """Writes a batch to a volume. The batch uses the nodes' numbers within that volume."""
         user = self._passes[volume]
         try:
-            written = user.apply(moved, tries) if expected is None else user.apply_if(expected, moved, tries)
+            if expected is None:
+                written = user.apply(moved, waits.tries, within=waits.within)
+            else:
+                written = user.apply_if(expected, moved, waits.tries, within=waits.within)
         except Refusal as error:
             if len(self._passes) > 1:
                 error.volume = volume
             raise
         return written[0], [node and node_in(volume, node) for node in written[1]]
 
-    def _write_indices(self, batch: Batch, tries: int) -> Tuple[int, List[int]]:
+    def _write_indices(self, batch: Batch, waits: Waits) -> Tuple[int, List[int]]:
         """Creates and removes indices in each volume, one operation after another."""
         for operation in batch:
             if isinstance(operation, MakeIndex):
                 self._check_kind(operation)
-            self._write_each(operation, tries)
-        return sum(status.entries for status in self.statuses(tries)), [0] * len(batch)
+            self._write_each(operation, waits)
+        return sum(status.entries for status in self.statuses(waits.tries, within=waits.within)), [0] * len(batch)
 
     def _check_kind(self, wanted: MakeIndex) -> None:
         """Raises `IndexExists` if a volume has the index with a different kind. In that case, the index isn't created in the other volumes
@@ -460,12 +468,12 @@ class Shelf(ThreadPass):
                 error.volume = volume
                 raise error
 
-    def _write_each(self, operation: Operation, tries: int) -> None:
+    def _write_each(self, operation: Operation, waits: Waits) -> None:
         """Creates an index in each volume that lacks it, or removes an index from each volume that has it."""
         done, last = 0, None
         for volume in range(len(self._passes)):
             try:
-                self._write_moved(volume, Batch([operation]), tries, None)
+                self._write_moved(volume, Batch([operation]), waits, None)
                 done += 1
             except (IndexExists if isinstance(operation, MakeIndex) else NoIndex) as error:
                 last = error
@@ -473,13 +481,14 @@ class Shelf(ThreadPass):
             last.volume = None
             raise last
 
-    def journal(self, tries: int = TRIES) -> str:
+    def journal(self, tries: int = TRIES, *, within: float = WITHIN) -> str:
         """Returns the journals of all volumes, one after another."""
-        return "".join(user.journal(tries) for user in self._passes)
+        return "".join(user.journal(tries, within=within) for user in self._passes)
 
-    def journal_from(self, number: int = 0, tries: int = TRIES, volume: Optional[int] = None) -> Iterator[Entry]:
+    def journal_from(self, number: int = 0, tries: int = TRIES, volume: Optional[int] = None, *,
+                     within: float = WITHIN) -> Iterator[Entry]:
         asked = self._checked(volume)
-        for entry in self._passes[asked].journal_from(number, tries):
+        for entry in self._passes[asked].journal_from(number, tries, within=within):
             yield entry._replace(operations=tuple(of_volume(Batch(entry.operations), asked)))
 
 

@@ -3,7 +3,6 @@
 from __future__ import annotations
 
 import operator
-import random
 import threading
 import time
 from abc import ABC, abstractmethod
@@ -11,7 +10,8 @@ from functools import partial
 from itertools import groupby
 from typing import Callable, Iterator, List, NamedTuple, Optional, Sequence, Tuple, TypeVar, Union
 
-from .change import Change
+from ._waits import Waits
+from .change import Change, check_function
 from .commits import Commits, waiting
 from .errors import Busy, Conflict, Full, Nested, NoAttribute, NoIndex, NoNode, NotReached, NoVolume, Refusal, TooManyAttempts
 from .handles import Owner
@@ -28,13 +28,14 @@ _Result = TypeVar("_Result")
 PASSES = 63
 """The default number of passes in a store. Each pass takes about 90 bytes and adds 13 instructions to a write, so 55 passes add
 700 instructions to about 21,000. The cost of a pin doesn't depend on the number of passes."""
+WITHIN = 2.0
+"""How many seconds after its first failed try a call gives up by default, if another pass is writing or no page is free."""
+CHANGE_WITHIN = 5.0
+"""How many seconds after its first failed attempt a change gives up by default."""
 TRIES = 10_000
-"""The default number of tries for a call while another pass is writing. Making all of them takes at least a few seconds."""
-PAUSES = 50
-"""The number of times that a write waits for another pass to unpin its snapshot when no page is free: about 2 seconds in
-total."""
+"""The default limit on how many times a call is tried. The time is usually up first."""
 ATTEMPTS = 10_000
-"""The default limit on how many times a change's function may run."""
+"""The default limit on how many times a change's function may run. The time is usually up first."""
 
 
 class Held(NamedTuple):
@@ -70,53 +71,6 @@ class Entry(NamedTuple):
     """The pass that wrote it."""
     operations: Tuple[Operation, ...]
     """Its operations. A `NewNode` has the number of the node that it created."""
-
-
-class StandingBack:
-    """Yields to other threads, twice as many times on each call as on the previous one, up to 1,024 times. Without this, two
-    passes that alternate their writes would each wait for the memory that the other has just written."""
-
-    def __init__(self) -> None:
-        self._turns = 1
-
-    def wait(self, turns: Optional[int] = None) -> None:
-        for _ in range(self._turns if turns is None else turns):
-            time.sleep(0)
-        self._turns = min(2 * self._turns, 1024)
-
-    def wait_by_chance(self) -> None:
-        """Yields a random number of times, up to as many as `wait` would, so that threads that arrived together return at
-        different times."""
-        self.wait(random.randint(1, self._turns))
-
-
-class _Waits:
-    """Decides how a change waits after an attempt that wrote nothing."""
-
-    def __init__(self, user: Pass, tries: int) -> None:
-        self._user, self._tries, self._pauses = user, tries, 0
-        self._back = StandingBack()
-
-    def wait_after(self, error: Refusal) -> bool:
-        """Waits. Returns whether another attempt may succeed."""
-        if isinstance(error, Full):
-            if self._tries <= 1 or self._pauses == PAUSES or not self._user._may_be_given_pages(error):
-                return False
-            pause_at_full(self._pauses)
-            self._pauses += 1
-        elif isinstance(error, Busy):
-            self._tries -= 1
-            if self._tries < 1:
-                return False
-            self._back.wait()
-        else:
-            self._back.wait_by_chance()
-        return True
-
-
-def pause_at_full(pauses: int) -> None:
-    """Waits 1 to 50 milliseconds for pages. `pauses` is the number of earlier pauses."""
-    time.sleep(min(0.001 * 2**pauses, 0.05))
 
 
 class Witness(Owner, ABC):
@@ -160,9 +114,8 @@ class Pass(Owner, ABC):
 
     @abstractmethod
     def another(self) -> Pass:
-        """Returns a pass of the same store for another thread. Unused passes belong to the pass that `open` returned, so the
-        thread of that pass calls this for every other thread before the other thread starts. Any pass can return a pass that
-        was closed. Raises `NoPass` if no pass is left."""
+        """Returns a pass of the same store for another thread. Any pass can do this, in any thread. If another thread is in a call
+        on the pass that `open` returned, this may wait for that call. Raises `NoPass` if no pass is left."""
 
     @abstractmethod
     def close(self) -> None:
@@ -199,38 +152,44 @@ class Pass(Owner, ABC):
         the block. Raises `Pinned` if the pass is already pinned. Takes constant time."""
 
     @abstractmethod
-    def _write(self, batch: Batch, tries: int, expected: Optional[int]) -> Tuple[int, List[int]]:
+    def unpin(self) -> None:
+        """Unpins the pass if it is pinned, even if its version is out of reach, such as in another function or a traceback. Reading
+        that version then raises `NotPinned`."""
+
+    @abstractmethod
+    def _write(self, batch: Batch, waits: Waits, expected: Optional[int]) -> Tuple[int, List[int]]:
         """Writes a batch. If `expected` is given, writes the batch only if the journal has `expected` entries. Returns the
         commit number and, for each operation, the new node's number or 0."""
 
     @abstractmethod
-    def journal(self, tries: int = TRIES) -> str:
+    def journal(self, tries: int = TRIES, *, within: float = WITHIN) -> str:
         """Returns the journal so far: a line for each write, with the pass that wrote it, its operations and their outcomes.
-        Tries up to `tries` times while another pass is writing. Uses memory for the whole journal. In the meantime, other
-        writes raise `Busy`."""
+        Retries like `apply` while another pass is writing. Uses memory for the whole journal. In the meantime, other writes raise
+        `Busy`."""
 
-    def _write_in(self, volume: int, batch: Batch, tries: int, expected: Optional[int]) -> Tuple[int, List[int]]:
+    def _write_in(self, volume: int, batch: Batch, waits: Waits, expected: Optional[int]) -> Tuple[int, List[int]]:
         """Writes a batch to this volume, like `_write`. Raises `NoVolume` if there is no such volume."""
         if volume != 0:
             raise NoVolume(volume, 1)
-        return self._write(batch, tries, expected)
+        return self._write(batch, waits, expected)
 
     @abstractmethod
-    def journal_from(self, number: int = 0, tries: int = TRIES, volume: Optional[int] = None) -> Iterator[Entry]:
+    def journal_from(self, number: int = 0, tries: int = TRIES, volume: Optional[int] = None, *,
+                     within: float = WITHIN) -> Iterator[Entry]:
         """Yields the journal entries after the first `number` entries, until there are no more. So
         `store.journal_from(version.number)` yields what was written after a snapshot. Each entry is read by a separate call,
-        which is tried up to `tries` times while another pass is writing, and then raises `Busy`. If there are several volumes,
+        which retries like `apply` while another pass is writing, and then raises `Busy`. If there are several volumes,
         reads the journal of `volume`, and raises `NoVolume` if that isn't given."""
 
     @abstractmethod
-    def status(self, tries: int = TRIES) -> Status:
-        """Returns how full the store is, and which pass is the oldest active reader. Tries up to `tries` times while another
+    def status(self, tries: int = TRIES, *, within: float = WITHIN) -> Status:
+        """Returns how full the store is, and which pass is the oldest active reader. Retries like `apply` while another
         pass is writing. With several volumes, the numbers are sums, and the reader is that of the first volume that has a
         reader."""
 
-    def statuses(self, tries: int = TRIES) -> List[Status]:
+    def statuses(self, tries: int = TRIES, *, within: float = WITHIN) -> List[Status]:
         """Returns how full each volume is."""
-        return [self.status(tries)]
+        return [self.status(tries, within=within)]
 
     def reach(self, numbers: Union[int, Sequence[int]], within: float = 5) -> Tuple[int, ...]:
         """Waits up to `within` seconds until the journal, or each volume's journal, has at least the given number of entries.
@@ -262,7 +221,7 @@ class Pass(Owner, ABC):
         return LocalWatch(self, query)
 
     def change(self, function: Callable[[Change], _Result], attempts: int = ATTEMPTS, *, check_kinds: bool = True,
-               tries: int = TRIES, volume: Optional[int] = None) -> _Result:
+               tries: int = TRIES, volume: Optional[int] = None, within: float = CHANGE_WITHIN) -> _Result:
         """Makes a write that depends on reads. Runs the function on a new snapshot, and commits the operations that the
         function collected, but only if nothing else has been written since that snapshot. Otherwise, runs the function again on
         a newer snapshot.
@@ -275,8 +234,9 @@ class Pass(Owner, ABC):
             node = store.change(file)
 
         Returns what the function's last run returned; `committed` is then the commit number. If the function collects no
-        operation, nothing is written. The function may run up to `attempts` times, so it shouldn't have other effects that must
-        not be repeated. If the function raises, nothing is written.
+        operation, nothing is written. The function may run several times, so it shouldn't have other effects that must not be
+        repeated. The last run begins within `within` seconds after the first one that failed, and there are at most `attempts`
+        runs. If the function raises, nothing is written.
 
         With several volumes, a change reads all volumes and writes to one: `volume` if it is given, otherwise the volume of the
         first operation. If the change creates a node before that volume is known, it does so in the volume with the most free
@@ -284,13 +244,13 @@ class Pass(Owner, ABC):
         changed. Raises `OtherVolume` if the function writes to a different volume.
 
         The function also runs again if another pass is writing, up to `tries` times. With more than one try, it also runs again
-        on `Full` while another pass has the oldest snapshot, for about 2 seconds; after that, the change's snapshot is usually
-        no longer current.
+        on `Full` while another pass has the oldest snapshot.
 
-        Raises `TooManyAttempts` if another write came first on every attempt; `Pinned` if this pass is pinned; `Nested` if the
-        function writes through this pass; and the errors of `apply`. `Change.set` explains `check_kinds`."""
-        waits: Optional[_Waits] = None
-        left = max(attempts, 1)
+        Raises `TooManyAttempts` if another write came first on every attempt in that time; `Pinned` if this pass is pinned; `Nested` if the
+        function writes through this pass or unpins it; a TypeError if the function is async or a generator; and the errors of `apply`.
+        `Change.set` explains `check_kinds`."""
+        check_function(function)
+        waits = Waits(attempts, within)
         while True:
             change = self._begin_change(check_kinds, volume)
             try:
@@ -299,6 +259,8 @@ class Pass(Owner, ABC):
                     result = function(change)
                 finally:
                     self._is_changing = False
+                if not change._is_pinned:
+                    raise Nested()
                 if change._count == 0:
                     return result
                 try:
@@ -309,12 +271,13 @@ class Pass(Owner, ABC):
                     failed = error
             finally:
                 change.unpin()
-            left -= 1
-            if left == 0 and isinstance(failed, Conflict):
-                raise TooManyAttempts(max(attempts, 1)) from failed
-            waits = waits or _Waits(self, tries)
-            if left == 0 or not waits.wait_after(failed):
-                raise failed
+            if isinstance(failed, Busy):
+                tries -= 1
+            if self._may_succeed_later(failed, tries) and waits.pause():
+                continue
+            if isinstance(failed, Conflict):
+                raise TooManyAttempts(waits.failed) from failed
+            raise failed
 
     def _begin_change(self, check_kinds: bool, volume: Optional[int]) -> Change:
         """Begins a change on the current version. Raises `NoVolume` if there is no such volume to write to."""
@@ -332,17 +295,24 @@ class Pass(Owner, ABC):
         that snapshot. Returns the commit number. Doesn't wait, but raises `Busy` immediately if another pass is writing, and
         `Full` if no page is free."""
 
+    def _may_succeed_later(self, error: Refusal, tries: int) -> bool:
+        """Returns whether another attempt at a change may succeed after this error, if another pass is writing at most this often."""
+        if isinstance(error, Full):
+            return tries > 1 and self._may_be_given_pages(error)
+        return isinstance(error, Conflict) or tries > 0
+
     def _may_be_given_pages(self, error: Full) -> bool:
         """Returns whether pages may become free for a write that found no free page, because another pass can still unpin its snapshot."""
         return False
 
-    def apply(self, batch: Batch, tries: int = TRIES, volume: Optional[int] = None) -> Tuple[int, List[int]]:
+    def apply(self, batch: Batch, tries: int = TRIES, volume: Optional[int] = None, *,
+              within: float = WITHIN) -> Tuple[int, List[int]]:
         """Applies all operations of a batch or none, whatever other passes have written in the meantime. Returns the commit
         number and, for each operation, the new node's number or 0. For a write that depends on reads, use `change`.
 
-        While another pass is writing, the call is tried up to `tries` times. With more than one try, it also waits up to about
-        two seconds on `Full` while another pass has the oldest snapshot. Uses memory for the operations, and new pages on the
-        path to each change in a tree.
+        While another pass is writing, and on `Full` while another pass has the oldest snapshot, the call is tried again, up to
+        `tries` times in all. It gives up `within` seconds after the first failed try. Uses memory for the operations, and new
+        pages on the path to each change in a tree.
 
         With several volumes the batch is written to one of them: `volume` if it is given, otherwise the volume of the nodes
         that the batch names, otherwise the volume with the most free pages. The commit number is that volume's. A batch with
@@ -354,28 +324,29 @@ class Pass(Owner, ABC):
         the first invalid operation; `NoNode`, `NoAttribute`, `TooManyAttributes`, `IndexExists`, `NoIndex`, `TooManyIndices` or
         `NotIndexable`; `CommitsSpent` or `Full`. With several volumes, may also raise `NoVolume`, `OtherVolume` or
         `PartialIndex`."""
-        return self._written(batch, tries, volume=volume)
+        return self._written(batch, Waits(tries, within), volume=volume)
 
-    def apply_if(self, number: int, batch: Batch, tries: int = TRIES, volume: Optional[int] = None) -> Tuple[int, List[int]]:
+    def apply_if(self, number: int, batch: Batch, tries: int = TRIES, volume: Optional[int] = None, *,
+                 within: float = WITHIN) -> Tuple[int, List[int]]:
         """Applies a batch like `apply`, but only if the journal has exactly `number` entries, that is, if nothing was written
         after the snapshot with this number. Otherwise raises `Conflict`, and nothing is written. With several volumes, the
         journal is that of the batch's volume. Raises `NoVolume` if the batch names no node and `volume` isn't given."""
         expected = operator.index(number)
         try:
-            return self._written(batch, tries, expected, volume)
+            return self._written(batch, Waits(tries, within), expected, volume)
         except Conflict as conflict:
             conflict.expected = expected
             raise
 
-    def _written(self, batch: Batch, tries: int, expected: Optional[int] = None,
+    def _written(self, batch: Batch, waits: Waits, expected: Optional[int] = None,
                  volume: Optional[int] = None) -> Tuple[int, List[int]]:
         if self._is_changing:
             raise Nested()
         try:
             if volume is None:
-                written = self._write(batch, tries, expected)
+                written = self._write(batch, waits, expected)
             else:
-                written = self._write_in(volume, batch, tries, expected)
+                written = self._write_in(volume, batch, waits, expected)
         except (NoNode, NoAttribute) as error:
             name_missing(error, batch)
             raise

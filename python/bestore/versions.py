@@ -8,7 +8,8 @@ from bisect import bisect_left
 from types import TracebackType
 from typing import Dict, Iterable, Iterator, List, Literal, Mapping, Optional, Tuple, Type, TypeVar, Union, overload
 
-from .errors import NoAttribute, NoNode, NotCovered, NoVolume, no_index, no_room
+from ._typed_reads import TypedReads
+from .errors import Error, NoAttribute, NoNode, NotCovered, NoVolume, no_index, no_room
 from .handles import Uncopied
 from .language import Hint, all_in, comparisons, hints_in
 from .operations import Batch
@@ -41,7 +42,7 @@ def not_covered(asked: Query, indices: Iterable[str]) -> NotCovered:
     return error
 
 
-class Version(Uncopied, ABC):
+class Version(TypedReads, Uncopied, ABC):
     """A snapshot: the store as it was when the pass was pinned, whatever is written in the meantime. A version can be read
     until it is unpinned, which happens at the end of a `with` block, by `unpin`, or when the object is destroyed. After that,
     each read raises `NotPinned`. `version[node]` returns a node's attributes, `node in version` says whether the node exists,
@@ -429,4 +430,7 @@ class Attributes(Mapping[str, Value]):
         return len(self._version.attributes(self.node))
 
     def __repr__(self) -> str:
-        return f"<attributes of node {self.node}: {self._version.attributes(self.node)}>"
+        try:
+            return f"<attributes of node {self.node}: {self._version.attributes(self.node)}>"
+        except Error as error:  # such as NotPinned: a debugger and a traceback show objects at any time
+            return f"<attributes of node {self.node}, which can't be read: {error}>"

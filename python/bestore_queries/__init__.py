@@ -15,6 +15,8 @@ leave the answer.
 | `sources`, `own_server` | the store that is queried: a server's, or one in this process |
 | `folder`, `mail` | importing a folder into a store in this process |
 | `asker` | the thread that runs queries, reads and writes |
-| `window`, `find_row`, `query_menu`, `hit_list`, `attribute_editor`, `theme` | the user interface, in tkinter |
+| `mime_types` | MIME types as people say them |
+| `window`, `find_row`, `query_menu`, `hit_list`, `hit_menu`, `attribute_editor`, `tip`, `cut_texts`, `theme` | the user interface, in tkinter |
+| `desktop` | whether the desktop prefers dark windows |
 | `pauses` | keeping Python itself from causing pauses in the window |
 """

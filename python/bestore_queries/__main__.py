@@ -9,6 +9,7 @@ from typing import List, Optional
 
 import bestore
 
+from . import desktop
 from .mail import is_maildir
 from .own_server import CannotStart
 from .sources import FolderSource, ServerSource, Source
@@ -23,7 +24,10 @@ def parser() -> argparse.ArgumentParser:
     where = made.add_mutually_exclusive_group()
     where.add_argument("--socket", metavar="PATH", help="the socket of the server to search")
     where.add_argument("--folder", metavar="FOLDER", help="read this folder, or Maildir, into the window's own store")
-    made.add_argument("--geometry", default="940x560", metavar="WxH", help="the size in pixels, optionally followed by the position as +X+Y")
+    made.add_argument("--geometry", metavar="WxH", help="the size in pixels, optionally followed by the position as +X+Y")
+    colours = made.add_mutually_exclusive_group()
+    colours.add_argument("--dark", action="store_true", default=None, help="dark colours; by default, the window asks the desktop")
+    colours.add_argument("--light", action="store_false", dest="dark", help="light colours")
     made.add_argument("query", nargs="?", metavar="QUERY", help="the first query; bestore-query(7) describes the language")
     return made
 
@@ -42,6 +46,7 @@ def main(words: Optional[List[str]] = None) -> int:
     options = parser().parse_args(words)
     try:
         import tkinter
+        from . import theme
         from .pauses import short_pauses
         from .window import Window
     except ImportError as error:
@@ -49,13 +54,15 @@ def main(words: Optional[List[str]] = None) -> int:
         return 1
     try:
         root = tkinter.Tk(className="bestore-queries")
-        root.geometry(options.geometry)
+        root.geometry(options.geometry or theme.first_size(root))
         source = source_of(options)
     except (tkinter.TclError, CannotStart, bestore.Error, OSError) as error:
         print(f"bestore-queries: {error}", file=sys.stderr)
         return 1
     try:
-        window = Window(root, source, is_mail=options.folder is not None and is_maildir(options.folder))
+        is_dark = desktop.prefers_dark() if options.dark is None else options.dark
+        is_mail = options.folder is not None and is_maildir(options.folder)
+        window = Window(root, source, is_mail=is_mail, palette=theme.DARK if is_dark else theme.LIGHT)
         if options.query is not None:
             window.ask(options.query)
         with short_pauses(root):

@@ -12,6 +12,7 @@ from contextlib import suppress
 from typing import Deque, Dict, Iterable, List, Mapping, NamedTuple, Optional, Sequence, Set, Union
 
 import bestore
+from bestore.language import comparisons
 from bestore.pages import Order
 
 from . import columns, find
@@ -26,6 +27,9 @@ PAUSE = 0.2     # seconds between checks for new writes
 RETRY = 1.0     # seconds between attempts to open the store
 NAMED = 20      # hits whose attribute names are reported
 COUNTING = 1.0  # seconds between counts of all nodes
+CHECKING = 1.0  # seconds between checks whether the store still replies
+LOOKED_AT = 65_536  # nodes to read in order to find a name, which limits how long that takes
+MOST_NAMES = 64     # names to look for, because a request can't have more
 ENDING = 5.0    # seconds to wait for the thread to end
 
 
@@ -100,6 +104,13 @@ class Named(NamedTuple):
     names: List[str]
 
 
+class Unknown(NamedTuple):
+    """A report: the query finds nothing, and neither an index nor a node has these names that are in it."""
+
+    turn: int
+    names: List[str]
+
+
 class First(NamedTuple):
     """A report: the first hits in an order that an index provides."""
 
@@ -139,7 +150,7 @@ class Written(NamedTuple):
     fault: Optional[str]
 
 
-Report = Union[Opened, Lost, Accepted, Refused, Named, First, Came, Went, Counted, Written]
+Report = Union[Opened, Lost, Accepted, Refused, Named, Unknown, First, Came, Went, Counted, Written]
 
 
 class NotWritten(Exception):
@@ -159,6 +170,7 @@ class _Following:
         self.gone: List[Node] = []  # hits that have left but haven't been reported yet
         self.seen: Optional[Numbers] = None
         self.is_named = False
+        self.is_checked = False  # whether the query has found something, or its names have been looked for
 
     def refresh(self, version: bestore.Version, changed: Iterable[Node]) -> None:
         """Advances to a snapshot in which these nodes' attributes may have changed."""
@@ -203,6 +215,21 @@ class _Following:
 def _names(ask: Ask) -> List[str]:
     """Returns the attributes that the window needs for each hit."""
     return list(dict.fromkeys([*ask.names, *PLACE_NAMES]))
+
+
+def unknown_names(query: str, version: bestore.Version) -> List[str]:
+    """Returns the names in a query that neither an index nor any of the first nodes has, so that they are probably mistyped. Reads nodes until
+    one has the name, so call it only if the query finds nothing."""
+    indices, first, count = version.indices(), 0, 0
+    names = list(dict.fromkeys(it.name for it in comparisons(query) if it.name not in indices))[:MOST_NAMES]
+    while names and count < LOOKED_AT:
+        nodes = version.nodes(first, SLICE)
+        columns_of_names = version.columns(nodes, names)
+        names = [name for name, values in zip(names, columns_of_names) if all(value is None for value in values)]
+        if len(nodes) < SLICE:
+            break
+        first, count = nodes[-1] + 1, count + len(nodes)
+    return names
 
 
 class _Requests:
@@ -270,7 +297,14 @@ class Asker(threading.Thread):
         self._places = Places()
         self._store: Optional[str] = None  # the last store that was open
         self._has_news = False
-        self._all, self._counted_at = 0, 0.0
+        self._all, self._counted_at, self._checked_at = 0, 0.0, 0.0
+        self._waits_since: Optional[float] = None  # when the store was last asked for something, until it has replied
+
+    @property
+    def waits_for(self) -> float:
+        """How many seconds the thread has been waiting for the store, or 0 if it isn't waiting."""
+        since = self._waits_since  # read once, because the thread sets it
+        return 0.0 if since is None else time.monotonic() - since
 
     def send(self, request: Union[Ask, Sort, Write]) -> None:
         """Sends a request. A query replaces an earlier query that hasn't been run yet."""
@@ -292,9 +326,11 @@ class Asker(threading.Thread):
                     with suppress(OSError):  # the terminal may be gone
                         traceback.print_exc()
                 self._report(Lost(reason_of(error)))
+                self._waits_since = None
                 self._ended.wait(RETRY)
 
     def _open_and_serve(self) -> None:
+        self._waits_since = time.monotonic()
         session = self._source.open()
         try:
             self._serve(session)
@@ -304,6 +340,7 @@ class Asker(threading.Thread):
 
     def _report(self, *reports: Report) -> None:
         """Reports to the window once it has taken the earlier reports."""
+        self._waits_since = None
         for report in reports:
             while not self._ended.is_set():
                 try:
@@ -311,6 +348,7 @@ class Asker(threading.Thread):
                     break
                 except queue.Full:
                     continue
+        self._waits_since = time.monotonic()
 
     def _serve(self, session: Session) -> None:
         """Carries out the window's requests, and follows the query."""
@@ -321,7 +359,10 @@ class Asker(threading.Thread):
         self._report(Opened(self._indices))
         while not self._ended.is_set():
             is_busy = self._following is not None and (self._following.waiting or self._following.seen is None)
+            self._waits_since = None
             self._requests.wait(0 if is_busy else PAUSE)
+            self._waits_since = time.monotonic()
+            self._check(session)
             for write in iter(self._requests.take_write, None):
                 self._write(session, write)
             ask = self._requests.take_ask()
@@ -332,6 +373,12 @@ class Asker(threading.Thread):
                 self._sort(session, self._following, sort)
             if self._following is not None:
                 self._step(session, self._following)
+
+    def _check(self, session: Session) -> None:
+        """Checks at intervals whether the store still replies, since a store without news is otherwise asked for nothing."""
+        if time.monotonic() >= self._checked_at + CHECKING:
+            session.check()
+            self._checked_at = time.monotonic()
 
     def _check_store(self, store: str) -> None:
         """Rejects the pending writes if their nodes belong to another store."""
@@ -415,6 +462,10 @@ class Asker(threading.Thread):
         reports: List[Report] = []
         if hits and not following.is_named:
             reports.append(Named(turn, sorted({name for hit in hits[:NAMED] for name in version.attributes(hit.node)})))
+        if not following.is_checked and not following.known:
+            unknown = unknown_names(following.ask.text, version)
+            reports += [Unknown(turn, unknown)] if unknown else []
+        following.is_checked = True
         count = self._count(version)
         following.is_named, self._has_news = bool(hits) or following.is_named, False
         reports += following.reports(hits)

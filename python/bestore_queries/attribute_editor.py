@@ -22,10 +22,11 @@ class Cell(NamedTuple):
 
 
 class AttributeEditor:
-    """An entry over a cell of the list. Return or a click elsewhere accepts the text; Escape discards it."""
+    """An entry over a cell of the list. Return or a click elsewhere accepts the text; Escape discards it. Tab accepts it too, and calls `go_on`
+    with the number of columns to move by."""
 
-    def __init__(self, tree: ttk.Treeview, take: Callable[[Cell, str], None]) -> None:
-        self._tree, self._take = tree, take
+    def __init__(self, tree: ttk.Treeview, take: Callable[[Cell, str], None], go_on: Callable[[Cell, int], None]) -> None:
+        self._tree, self._take, self._go_on = tree, take, go_on
         self.entry: Optional[ttk.Entry] = None
         """The entry that the user types in."""
         self._before = ""
@@ -43,6 +44,8 @@ class AttributeEditor:
         for key in ("<Return>", "<KP_Enter>"):
             entry.bind(key, lambda _: self._finish(True))
         entry.bind("<Escape>", lambda _: self._finish(False))
+        for key, steps in (("<Tab>", 1), ("<F2>", 1), ("<Shift-Tab>", -1), ("<ISO_Left_Tab>", -1)):
+            entry.bind(key, lambda _, steps=steps: self._step(steps))  # type: ignore[misc]
         entry.bind("<FocusOut>", lambda _: self._finish(True, keeps_focus=True))
         self.entry = entry
         self.move(box)
@@ -61,7 +64,7 @@ class AttributeEditor:
             self.entry.place_forget()
         else:
             x, y, width, height = box
-            self.entry.place(x=x, y=y, width=max(width, 60), height=height)
+            self.entry.place(x=x, y=y, width=width, height=height)
 
     def _finish(self, takes: bool, keeps_focus: bool = False) -> str:
         cell, text, before = self.cell, self.text, self._before
@@ -70,6 +73,13 @@ class AttributeEditor:
             self._tree.focus_set()
         if takes and cell is not None and text != before:
             self._take(cell, text)
+        return "break"
+
+    def _step(self, steps: int) -> str:
+        cell = self.cell
+        self._finish(True)
+        if cell is not None:
+            self._go_on(cell, steps)
         return "break"
 
     def end(self) -> None:

@@ -10,10 +10,10 @@ from typing import Callable, Dict, Iterable, List, Literal, Mapping, NamedTuple,
 import bestore
 from bestore.values import RANGES
 
-from . import dates
+from . import dates, mime_types
 
-MAIL_TYPE = "text/x-email"
-FOLDER_TYPE = "application/x-vnd.Be-directory"
+TYPE = "BEOS:TYPE"
+"""The attribute with a file's MIME type."""
 HIDDEN = frozenset({"FILE:parent", "FILE:root", "FILE:name", "FILE:stat", "FILE:xattrs"})
 """The attributes by which an import recognises files. Users don't need to see these attributes."""
 OF_FILES = HIDDEN | {"name", "size", "last_modified", "created", "folder", "path"}
@@ -57,6 +57,11 @@ def time_in_words(seconds: bestore.Value) -> str:
         return text_of(seconds)
 
 
+def type_in_words(value: bestore.Value) -> str:
+    """Returns a MIME type as people say it, or the type itself if it is unknown."""
+    return isinstance(value, str) and mime_types.words_of(value) or text_of(value)
+
+
 def text_of(value: bestore.Value) -> str:
     """Returns a value on one line."""
     if isinstance(value, bytes):
@@ -87,7 +92,7 @@ class Column(NamedTuple):
 _KNOWN = {it.attribute: it for it in [
     Column("name", "Name", 240), Column("size", "Size", 90, "e", size_in_words),
     Column("last_modified", "Modified", 160, "w", time_in_words), Column("created", "Created", 160, "w", time_in_words),
-    Column("BEOS:TYPE", "Type", 150), Column("folder", "Folder", 270), Column("path", "Path", 330),
+    Column(TYPE, "Type", 150, "w", type_in_words), Column("folder", "Folder", 270), Column("path", "Path", 330),
     Column("MAIL:subject", "Subject", 330), Column("MAIL:from", "From", 230), Column("MAIL:to", "To", 200),
     Column("MAIL:when", "When", 160, "w", time_in_words), Column("MAIL:status", "Status", 80),
 ]}

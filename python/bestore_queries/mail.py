@@ -13,7 +13,7 @@ from typing import Dict, Match
 
 import bestore
 
-from .columns import MAIL_TYPE
+from .mime_types import MAIL_TYPE
 
 _WORD = r"=\?[^?\s]+\?[bq]\?[^?]*\?="
 _ENCODED = re.compile(rf"{_WORD}(?:\s+{_WORD})*", re.IGNORECASE)  # a header's words that aren't ASCII

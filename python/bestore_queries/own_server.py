@@ -16,6 +16,8 @@ from bestore.connected import SocketPath
 
 PATIENCE = 10.0
 """The number of seconds that a server may take to start listening."""
+REPLYING = 1.0
+"""The number of seconds that a server that listens may take to reply before the window opens without its reply."""
 
 _PR_SET_PDEATHSIG = 1  # from <linux/prctl.h>
 
@@ -31,9 +33,9 @@ def kept_path() -> str:
 
 
 def listens(path: SocketPath) -> bool:
-    """Returns whether a server is listening at a socket, even one that refuses this client."""
+    """Returns whether a server is listening at a socket, even one that refuses this client or hangs."""
     try:
-        bestore.connect(path, PATIENCE).close()
+        bestore.connect(path, REPLYING).close()
     except bestore.NoServer:
         return False
     except bestore.Error:

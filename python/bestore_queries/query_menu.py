@@ -7,7 +7,7 @@ from tkinter import ttk
 from typing import Callable, Dict, List, Sequence
 
 from .saved_queries import BadFile, Saved, SavedQueries
-from .theme import FACE
+from .theme import Look
 
 
 class QueryMenu(ttk.Menubutton):
@@ -73,14 +73,14 @@ class AttributeMenu(ttk.Menubutton):
 class NameRow(tk.Frame):
     """A row that asks for the name under which to save a query."""
 
-    def __init__(self, parent: tk.Misc, save: Callable[[str], None]) -> None:
-        super().__init__(parent, background=FACE)
-        self._save, self._typed = save, tk.StringVar(self)
-        tk.Label(self, text="Save as", background=FACE, padx=2).pack(side="left")
-        self.entry = ttk.Entry(self, textvariable=self._typed, width=36)
-        self.entry.pack(side="left", padx=4)
-        ttk.Button(self, text="Save", command=self.finish).pack(side="left")
-        ttk.Button(self, text="Cancel", command=self.pack_forget).pack(side="left", padx=4)
+    def __init__(self, parent: tk.Misc, look: Look, save: Callable[[str], None]) -> None:
+        super().__init__(parent, background=look.palette.face)
+        self._look, self._save, self._typed = look, save, tk.StringVar(self)
+        tk.Label(self, text="Save as", background=look.palette.face, foreground=look.palette.text, padx=look.pixels(2)).pack(side="left")
+        ttk.Button(self, text="Cancel", command=self.pack_forget).pack(side="right")
+        ttk.Button(self, text="Save", command=self.finish).pack(side="right", padx=look.pixels(4))
+        self.entry = ttk.Entry(self, textvariable=self._typed)
+        self.entry.pack(side="left", fill="x", expand=True, padx=(look.pixels(4), 0))
         for key in ("<Return>", "<KP_Enter>"):
             self.entry.bind(key, lambda _: self.finish())
         self.entry.bind("<Escape>", lambda _: self.pack_forget())
@@ -88,7 +88,7 @@ class NameRow(tk.Frame):
     def show(self, name: str) -> None:
         """Shows the row, with a suggested name."""
         self._typed.set(name)
-        self.pack(fill="x", pady=(6, 0))
+        self.pack(fill="x", pady=(self._look.pixels(6), 0))
         self.entry.focus_set()
         self.entry.select_range(0, "end")
 

@@ -46,6 +46,13 @@ class Selection:
         node = self._hits[place].node
         self._nodes, self._cursor, self._anchor = {node}, node, node
 
+    def move_to(self, place: int) -> None:
+        """Makes this hit the current one. If it isn't selected, selects only this hit."""
+        if self._hits[place].node in self._nodes:
+            self._cursor = self._hits[place].node
+        else:
+            self.choose(place)
+
     def toggle(self, place: int) -> None:
         """Adds a hit to the selection, or removes it."""
         node = self._hits[place].node

@@ -16,8 +16,8 @@ from .folder import INDICES, FolderReader, files_below
 from .sorted_hits import Node
 
 MANY = 5_000           # the maximum number of journal entries to read in order to find what was set
-MOST_PAGES = 16_384    # per volume
-PAGES_OF_A_FILE = 1.1  # for a file with five attributes, all indexed
+MOST_PAGES = 16_777_216  # per volume
+PAGES_OF_A_FILE = 1.1    # for a file with five attributes, all indexed
 GROWTH = 1.3           # how much growth to allow for, as a multiple of the files at the start
 
 
@@ -64,6 +64,9 @@ class Session(ABC):
     def has_news(self) -> bool:
         """Returns whether something may have been written since the last call."""
 
+    def check(self) -> None:
+        """Returns once the store has replied. A store in this process always replies."""
+
     def written(self, since: Numbers, version: bestore.Version) -> Optional[Set[Node]]:
         """Returns the nodes whose attributes were set after these commits, up to a snapshot, or None if there is too much to read,
         or if the server has freed some of it."""
@@ -105,6 +108,10 @@ class Source(ABC):
     @abstractmethod
     def condition(self) -> Condition:
         """The source's current state."""
+
+    def silence(self, seconds: int) -> str:
+        """Returns what to tell the user if the store hasn't replied for this long. Nothing if it is in this process: it is searching."""
+        return ""
 
     def close(self) -> None:
         """Ends everything that belongs only to this window."""
@@ -162,6 +169,9 @@ class _ServerSession(Session):
 
     def has_news(self) -> bool:
         return self._commits.wait(0) is not None
+
+    def check(self) -> None:
+        self._connected.statuses()
 
 
 def size_for(files: int) -> Tuple[int, int]:
@@ -244,6 +254,9 @@ class ServerSource(Source):
     @property
     def condition(self) -> Condition:
         return Condition(f"following {self.path}")
+
+    def silence(self, seconds: int) -> str:
+        return f"The server at {self.path} hasn't replied for {seconds} seconds. Still waiting for it"
 
     def close(self) -> None:
         if self._server is not None:

@@ -227,3 +227,8 @@ def hint_of(hint: bestore.Hint) -> str:
     """Describes a comparison that no node can match."""
     why = "it is out of range" if hint.is_number else "it isn't a whole number"
     return f"Nothing has {hint.name} “{hint.value}”: {why}."
+
+
+def unknown_in_words(name: str) -> str:
+    """Describes a name in a query that is probably mistyped."""
+    return f"Nothing has an attribute “{columns.text_of(name)}”, and no index has this name."

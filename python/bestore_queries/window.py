@@ -14,7 +14,7 @@ from bestore.pages import Order
 
 from . import columns, find, theme, typed_query
 from .asker import (
-    Accepted, Ask, Asker, Begin, Came, Counted, First, Lost, Named, Opened, Refused, Report, Sort, Went, Write, Written)
+    Accepted, Ask, Asker, Begin, Came, Counted, First, Lost, Named, Opened, Refused, Report, Sort, Unknown, Went, Write, Written)
 from .attribute_editor import Cell
 from .columns import Column
 from .find_row import FindRow
@@ -25,20 +25,23 @@ from .query_menu import AttributeMenu, NameRow, QueryMenu
 from .saved_queries import BadFile, Saved, SavedQueries
 from .sorted_hits import Hit, SortedHits
 from .sources import Source
-from .theme import DESKTOP, FACE, FAULT, FAULT_PAPER, QUIET, TAB
+from .theme import LIGHT, Palette
 
 BUDGET = 0.015      # seconds to spend on reports at a time
 BUSY_PAUSE = 5      # milliseconds until the next check for reports, if there were any
 IDLE_PAUSE = 50     # milliseconds until the next check, if there were none
 TYPING_PAUSE = 150  # milliseconds without a keystroke before a query runs
 FIRST_PAUSE = 0.1   # seconds that sorting waits for an order's first hits, which the store may find immediately
+SEARCHING = 0.1     # seconds that an answer may take before the window says that it is searching
+SILENT = 1.5        # seconds that the store may take to reply before the window says so
 LINES = 3           # below the query: what is wrong with it, and where
 
 
 class Window:
     """The window that shows a source."""
 
-    def __init__(self, root: tk.Tk, source: Source, saved: Optional[SavedQueries] = None, is_mail: bool = False) -> None:
+    def __init__(self, root: tk.Tk, source: Source, saved: Optional[SavedQueries] = None, is_mail: bool = False,
+                 palette: Palette = LIGHT) -> None:
         self.root, self._source, self._is_mail = root, source, is_mail
         self._saved = SavedQueries() if saved is None else saved
         self.hits = SortedHits()
@@ -49,14 +52,16 @@ class Window:
         self._typed = typed_query.TypedQuery("", "", ())
         self._fault: Optional[typed_query.Fault] = None
         self._hints: List[bestore.Hint] = []
+        self._unknown: List[str] = []     # names in the query that nothing has
         self._turn, self._is_answered = 0, False
+        self._asked_at = time.monotonic()
         self._awaits_first = False  # whether first hits were requested and haven't arrived yet
         self._sorts_at = 0.0        # when sorting stops waiting for these hits
         self._count: Optional[Counted] = None
         self._is_open, self._lost = False, ""
         self._openings: List[Opening] = []
         self._is_ended, self._next_step = False, ""
-        theme.apply(root)
+        self._look = theme.apply(root, palette)
         self._build_head()
         self._build_foot()
         self._build_list()
@@ -67,35 +72,36 @@ class Window:
         self._step()
 
     def _build_head(self) -> None:
-        strip = tk.Frame(self.root, background=DESKTOP)
-        self._tab = tk.Label(strip, background=TAB, padx=14, pady=4, font="TkCaptionFont")
+        pixels, palette = self._look.pixels, self._look.palette
+        strip = tk.Frame(self.root, background=palette.desktop)
+        self._tab = tk.Label(strip, background=palette.tab, foreground=palette.tab_text, padx=pixels(14), pady=pixels(4), font="TkCaptionFont")
         self._tab.pack(side="left")
         strip.pack(fill="x")
-        head = tk.Frame(self.root, background=FACE, padx=12, pady=10)
+        head = tk.Frame(self.root, background=palette.face, padx=pixels(12), pady=pixels(10))
         head.pack(fill="x")
-        row = tk.Frame(head, background=FACE)
-        row.pack(fill="x")
-        self.query_menu = QueryMenu(row, self._saved, self.ask_saved, self._name_query, self.warn)
-        self.attribute_menu = AttributeMenu(row, self.choose)
-        self.attribute_menu.pack(side="right")
-        self.query_menu.pack(side="right", padx=6)
-        self.find_row = FindRow(row, self._found)
-        self.find_row.pack(side="left", fill="x", expand=True)
-        self.name_row = NameRow(head, self.save)
+        self.find_row = FindRow(head, self._look, self._found)
+        self.find_row.pack(fill="x")
+        self.query_menu = QueryMenu(self.find_row, self._saved, self.ask_saved, self._name_query, self.warn)
+        self.attribute_menu = AttributeMenu(self.find_row, self.choose)
+        self.find_row.put_beside(self.query_menu, self.attribute_menu)
+        self.name_row = NameRow(head, self._look, self.save)
         self.entry = ttk.Entry(head, textvariable=self._query, font="TkFixedFont")
-        self.entry.pack(fill="x", pady=(8, 0))
-        self.message = tk.Label(head, background=FACE, anchor="nw", justify="left", font="TkFixedFont", padx=6, height=1)
-        self.message.pack(fill="x", pady=(4, 0))
+        self.entry.pack(fill="x", pady=(pixels(8), 0))
+        self.message = tk.Label(head, background=palette.face, anchor="nw", justify="left", font="TkFixedFont", padx=pixels(6), height=1)
+        self.message.pack(fill="x", pady=(pixels(4), 0))
 
     def _build_foot(self) -> None:
-        self.state = tk.Label(self.root, background=FACE, foreground=QUIET, anchor="w", padx=12, pady=5)
+        pixels, palette = self._look.pixels, self._look.palette
+        self.state = tk.Label(self.root, background=palette.face, foreground=palette.quiet)
         self.state.pack(side="bottom", fill="x")
-        self.notice = tk.Label(self.root, background=FAULT_PAPER, foreground=FAULT, anchor="w", justify="left", padx=12, pady=5)
-        self._condition, self._warning = "", ""
+        self.notice = tk.Label(self.root, background=palette.fault_paper, foreground=palette.fault, justify="left")
+        for label in (self.state, self.notice):
+            label.configure(anchor="w", padx=pixels(12), pady=pixels(5))
+        self._warning = ""
 
     def _build_list(self) -> None:
-        self.list = HitList(self.root, self.hits, Actions(self.open, self._write, self.sort, self.warn))
-        self.list.pack(fill="both", expand=True, padx=12)
+        self.list = HitList(self.root, self._look, self.hits, Actions(self.open, self._write, self.sort, self.warn))
+        self.list.pack(fill="both", expand=True, padx=self._look.pixels(12))
         self.list.show_columns([columns.column_of("name")])
 
     def _bind(self) -> None:
@@ -110,7 +116,7 @@ class Window:
         self.root.bind("<Control-s>", lambda _: self._name_query())
         self.root.bind("<Control-w>", lambda _: self.close())
         self.root.protocol("WM_DELETE_WINDOW", self.close)
-        self.notice.bind("<Configure>", lambda event: self.notice.configure(wraplength=event.width - 24))
+        self.notice.bind("<Configure>", lambda event: self.notice.configure(wraplength=event.width - 2 * self._look.pixels(12)))
         self.message.bind("<Configure>", lambda _: self._tell_query())
 
     def close(self) -> None:
@@ -156,7 +162,8 @@ class Window:
             self.root.after_cancel(self._typing)
         self._typing = ""
         self._turn += 1
-        self._fault, self._hints, self._warning = None, [], ""
+        self._asked_at = time.monotonic()
+        self._fault, self._hints, self._unknown, self._warning = None, [], [], ""
         self._take_nothing()
         text = self._query.get()
         try:
@@ -279,9 +286,9 @@ class Window:
             is_changed = self.hits.step() or is_changed
         if is_changed:
             self.list.paint()
-            self._tell_state()
         self._look_at_openings()
         self._show_notice()
+        self._tell_state()
         self._look_after(BUSY_PAUSE if is_busy else IDLE_PAUSE)
 
     def _take(self, report: Report) -> None:
@@ -308,7 +315,7 @@ class Window:
         self.find_row.take_indices(indices)
         self._offer_attributes()
 
-    def _take_answer(self, report: Union[Accepted, Refused, Named, First, Came, Went, Counted]) -> None:
+    def _take_answer(self, report: Union[Accepted, Refused, Named, Unknown, First, Came, Went, Counted]) -> None:
         if isinstance(report, (First, Accepted, Refused)):
             self._awaits_first = False
         if isinstance(report, (First, Came)):
@@ -322,6 +329,10 @@ class Window:
                 self.list.hit_went(node)
         elif isinstance(report, Counted):
             self._count = report
+            if report.hits:
+                self._tell_unknown([])
+        elif isinstance(report, Unknown):
+            self._tell_unknown(report.names)
         elif isinstance(report, Named):
             self._attributes = report.names
             self._offer_attributes()
@@ -393,10 +404,17 @@ class Window:
         if self._fault is not None:
             lines = typed_query.lines_of(self._fault, self._query.get(), width)
         else:
-            lines = [typed_query.shortened(typed_query.hint_of(it), width) for it in self._hints[:LINES]]
-        colour = FAULT if lines else QUIET
+            hints = [*map(typed_query.hint_of, self._hints), *map(typed_query.unknown_in_words, self._unknown)]
+            lines = [typed_query.shortened(it, width) for it in hints[:LINES]]
+        colour = self._look.palette.fault if lines else self._look.palette.quiet
         lines = lines or [typed_query.shortened(self._typed.dates_in_words(), width)]
         self.message.configure(text="\n".join(lines), foreground=colour, height=len(lines))
+
+    def _tell_unknown(self, names: List[str]) -> None:
+        """Shows which names in the query nothing has."""
+        if names != self._unknown:
+            self._unknown = names
+            self._tell_query()
 
     def _tell_state(self) -> None:
         condition = self._source.condition
@@ -408,18 +426,24 @@ class Window:
                 words.append(f"{waiting:,} to be shown")
         elif self._fault is not None:
             words.append("no answer")
+        elif not self._lost and time.monotonic() >= self._asked_at + SEARCHING:
+            words.append("searching" if self._is_open else "opening the store")
         if self.hits.is_sorting:
             words.append("sorting")
         if self._is_open and not condition.is_fault:
             words.append(condition.text)
-        self.state.configure(text="   ·   ".join(words))
+        text = "   ·   ".join(words)
+        if text != str(self.state["text"]):
+            self.state.configure(text=text)
 
     def _show_notice(self) -> None:
         """Shows what is wrong with the source and what couldn't be done, if anything."""
-        condition = self._source.condition
+        condition, silent = self._source.condition, self._asker.waits_for
         faults = [self._warning] if self._warning else []
         if self._lost:
             faults.insert(0, f"The store can't be reached: {self._lost}. Trying again every second")
+        elif silent >= SILENT and self._source.silence(round(silent)):
+            faults.insert(0, self._source.silence(round(silent)))
         elif condition.is_fault:
             faults.insert(0, condition.text)
         text = "\n".join(faults)

@@ -4,13 +4,13 @@
 
 #include <string.h>
 
-/* Abandons the draft, if there is one. This needs no call on the pass, so another thread may be using the pass. */
+/* Abandons the draft, if there is one. The batch still says what would have been written. This needs no call on the pass, so
+ * another thread may be using the pass. */
 void abandon_draft(Reader *reader)
 {
     bes_pass none = BES_PASS_INIT;
     if (reader->draft.live)
         library.abandon_change(&none, &reader->draft);
-    Py_CLEAR(reader->batch);
 }
 
 /* Begins a draft on the reader's snapshot, unless there already is one. The caller must have the pass. */

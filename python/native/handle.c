@@ -113,10 +113,8 @@ void leave(Handle *handle)
 {
     if (--handle->depth != 0 || is_dead(handle))
         return;
-    if (handle->is_left) {
-        handle->is_left = false;
+    if (handle->is_pinned && handle->reader == NULL)
         unpin(handle);
-    }
     give_turn(handle);
 }
 
@@ -280,6 +278,7 @@ static int set_committed(PyObject *self, PyObject *value, void *nothing)
 static PyMethodDef methods[] = {
     { "_call", (PyCFunction)(void (*)(void))handle_call, METH_FASTCALL,
       "Makes a call on the handle, when no other thread is using it. Raises Forked if the handle is dead." },
+    { "_unpin", handle_unpin, METH_NOARGS, "Unpins the pass if it is pinned, whichever version pins it." },
     { "_check_process", handle_check_process, METH_NOARGS, "Raises Forked if the handle is dead." },
     { "_apply", (PyCFunction)(void (*)(void))handle_apply, METH_FASTCALL,
       "Writes a batch; if a number is expected, only on a journal of that length. Returns the library's result, the commit\n"

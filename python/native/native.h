@@ -91,6 +91,7 @@ typedef struct Known {
 extern Known known;
 
 typedef struct Waiter Waiter;
+typedef struct Reader Reader;
 
 /* The sorts of library handles. */
 enum Sort { NO_SORT, OF_PASS, OF_PREPARED, OF_CURSOR, OF_WITNESS };
@@ -110,8 +111,8 @@ typedef struct Handle {
     unsigned depth;
     Waiter *first;     /* the first waiting thread */
     bool is_given;     /* whether a thread was given the turn and hasn't run since */
-    bool is_pinned;    /* for a pass: whether a version pins it */
-    bool is_left;      /* whether that version is gone, so that the thread using the pass has to unpin */
+    bool is_pinned;    /* for a pass: whether it is pinned */
+    Reader *reader;    /* the version that pins it, or NULL if that is gone, so that the thread using the pass has to unpin */
     uint64_t snapshot; /* the snapshot's commit number, if pinned */
     uint64_t committed;     /* for a pass: the commit number of its last write, or 0 */
     unsigned long changing; /* the thread that is running a change's function, or 0 */
@@ -203,5 +204,6 @@ PyObject *handle_apply(PyObject *self, PyObject *const *given, Py_ssize_t count)
 PyObject *handle_journal_entry(PyObject *self, PyObject *number);
 PyObject *handle_expect(PyObject *self, PyObject *text);
 PyObject *handle_set(PyObject *self, PyObject *const *given, Py_ssize_t count);
+PyObject *handle_unpin(PyObject *self, PyObject *nothing);
 
 #endif

@@ -6,12 +6,12 @@
 
 enum {
     LEAST_ROOM = 1024,
+    FIRST_ROOM = 1 << 17,   /* a query's first buffer has room for at most so many nodes; it grows if there are more */
     MANY_NODES = 256,       /* a longer list of nodes is read without the GIL */
     LONG_TIME = 50000,      /* if a prepared query took more nanoseconds, it next runs without the GIL */
     SHORT_TIME = 20000,     /* if it took fewer, it next runs with the GIL */
     TIMED = 8,              /* of the runs with the GIL, one in this many is timed, but not the first */
 };
-static const uint64_t MOST_NODES = 8u << 20; /* no store has more nodes with attributes: its pages have 64 MiB */
 
 /* Part of an answer: a page in an order, the first nodes from a given number on, or any nodes. */
 typedef struct Part {
@@ -127,13 +127,12 @@ static uint32_t ask_once(bes_pass *pass, const Asked *asked, Result *it)
     return is_long ? ask_long(pass, asked, it) : ask_short(pass, asked, it);
 }
 
-/* Takes the pass's buffer for found nodes, or allocates one. It has room for the maximum number of nodes, or for all nodes of a
- * part, so that no query runs twice; memory that is never written costs nothing. If that much memory isn't available, a query
- * that finds more nodes than fit runs again, but a prepared query keeps its result. A part needs all of its room, because it
- * doesn't say how many nodes it leaves out. */
+/* Takes the pass's buffer for found nodes, or allocates one. It has room for all nodes of most stores, or of a part, so that few
+ * queries run twice; memory that is never written costs nothing. A query that finds more nodes than fit runs again, but a prepared
+ * query keeps its result. */
 static bool take_room(Handle *user, uint64_t most, const Part *part, Result *it)
 {
-    size_t wanted = (size_t)(most < MOST_NODES ? most : MOST_NODES);
+    size_t wanted = (size_t)(most < FIRST_ROOM ? most : FIRST_ROOM);
     if (part != NULL && part->limit < wanted)
         wanted = part->limit;
     it->nodes = user->nodes;
@@ -143,7 +142,7 @@ static bool take_room(Handle *user, uint64_t most, const Part *part, Result *it)
     if (it->room < wanted || it->room == 0) {
         size_t room = wanted < 2 * it->room ? 2 * it->room : wanted < LEAST_ROOM ? LEAST_ROOM : wanted;
         uint64_t *nodes = malloc(room * sizeof *nodes);
-        if (nodes == NULL && (it->nodes == NULL || part != NULL)) {
+        if (nodes == NULL && it->nodes == NULL) {
             PyErr_NoMemory();
             return false;
         }
@@ -155,16 +154,24 @@ static bool take_room(Handle *user, uint64_t most, const Part *part, Result *it)
     return true;
 }
 
-/* Makes room for a query that found more nodes than fit. */
-static bool grow_room(Result *it)
+/* Returns whether nodes didn't fit, or may not have fit: a part doesn't say how many nodes it leaves out. */
+static bool is_cut(const Result *it, uint64_t most, const Part *part)
 {
-    uint64_t *nodes = realloc(it->nodes, it->count * sizeof *nodes);
+    if (part == NULL)
+        return it->count > it->room;
+    return it->count == it->room && it->room < most && it->room < part->limit;
+}
+
+/* Makes room for this many nodes. */
+static bool grow_room(Result *it, uint64_t room)
+{
+    uint64_t *nodes = room > PY_SSIZE_T_MAX / sizeof *nodes ? NULL : realloc(it->nodes, (size_t)room * sizeof *nodes);
     if (nodes == NULL) {
         PyErr_NoMemory();
         return false;
     }
     it->nodes = nodes;
-    it->room = (size_t)it->count;
+    it->room = (size_t)room;
     return true;
 }
 
@@ -182,14 +189,17 @@ static void give_back(Handle *user, Result *it)
 /* Runs the query, and writes the nodes if the caller wants them. */
 static bool ask(Handle *user, uint64_t most, const Asked *asked, bool wants_nodes, Result *it, uint32_t *answer)
 {
+    const Part begin = asked->part != NULL ? *asked->part : (Part){ .limit = 0 };
     *it = (Result){ .nodes = NULL };
     if (wants_nodes && !take_room(user, most, asked->part, it))
         return false;
     *answer = ask_once(&user->held.pass, asked, it);
-    while (wants_nodes && *answer == BES_OK && it->count > it->room) {
-        if (!grow_room(it))
+    while (wants_nodes && *answer == BES_OK && is_cut(it, most, asked->part)) {
+        if (!grow_room(it, asked->part != NULL ? 4 * (uint64_t)it->room : it->count))
             return false;
-        *answer = asked->prepared == NULL
+        if (asked->part != NULL)
+            *asked->part = begin;
+        *answer = asked->prepared == NULL || asked->part != NULL
                       ? ask_once(&user->held.pass, asked, it)
                       : library.found(&asked->prepared->held.prepared, 0, it->nodes, it->room, &it->count);
     }
@@ -378,8 +388,7 @@ static bool read_limit(PyObject *limit, size_t *most)
 
 PyObject *reader_first(PyObject *self, PyObject *const *given, Py_ssize_t count)
 {
-    Part part;
-    part.how = FROM_NUMBER;
+    Part part = { .how = FROM_NUMBER };
     if (!has_arguments(count, 4) || !read_number(given[1], &part.from) || !read_limit(given[2], &part.limit))
         return NULL;
     return answered_part(self, given[0], given[3], &part);
@@ -387,8 +396,7 @@ PyObject *reader_first(PyObject *self, PyObject *const *given, Py_ssize_t count)
 
 PyObject *reader_any(PyObject *self, PyObject *const *given, Py_ssize_t count)
 {
-    Part part;
-    part.how = ANY;
+    Part part = { .how = ANY };
     if (!has_arguments(count, 2) || !read_limit(given[1], &part.limit))
         return NULL;
     return answered_part(self, given[0], Py_None, &part);
@@ -447,9 +455,7 @@ static PyObject *page_of(PyObject *items, const Part *part, PyObject *order, PyO
 PyObject *reader_page(PyObject *self, PyObject *const *given, Py_ssize_t count)
 {
     PyObject *items, *page;
-    Part part;
-    part.how = IN_ORDER;
-    part.more = 0;
+    Part part = { .how = IN_ORDER };
     if (!has_arguments(count, 7) || !read_order(given[1], &part) || !read_position(given[3], given[4], &part.cursor) ||
         !read_limit(given[5], &part.limit) || (items = answered_part(self, given[0], given[6], &part)) == NULL)
         return NULL;

@@ -3,6 +3,9 @@
 
 #include <pythread.h>
 
+/* Returns whether the reader still has its pin. The pass may have a later one since. */
+static bool has_pin(const Reader *reader) { return reader->user != NULL && reader->user->reader == reader; }
+
 Handle *enter_pinned(Reader *reader)
 {
     Handle *user = reader->user;
@@ -12,7 +15,7 @@ Handle *enter_pinned(Reader *reader)
     }
     if (!enter(user))
         return NULL;
-    if (reader->is_pinned)
+    if (has_pin(reader))
         return user;
     leave(user);
     refused(BES_NOT_PINNED);
@@ -207,37 +210,69 @@ static PyObject *reader_call(PyObject *self, PyObject *const *arguments, Py_ssiz
 void unpin_reader(Reader *reader)
 {
     abandon_draft(reader);
-    reader->is_pinned = false;
+    reader->user->reader = NULL;
     unpin(reader->user);
 }
 
+/* Unpins for a reader that can't wait until no other thread is using the pass; instead, that thread unpins after its call. */
+static void give_pin_up(Reader *reader)
+{
+    Handle *user = reader->user;
+    if (!has_pin(reader))
+        return;
+    user->reader = NULL;
+    if (is_dead(user))
+        return;
+    abandon_draft(reader);
+    if (user->depth == 0 || user->owner == PyThread_get_thread_ident())
+        unpin(user);
+}
+
+/* Unpins the reader. If a signal ends the wait for another thread, the pin doesn't stay all the same. */
 static PyObject *reader_unpin(PyObject *self, PyObject *nothing)
 {
     Reader *reader = (Reader *)self;
     (void)nothing;
     if (reader->user == NULL || is_dead(reader->user))
         Py_RETURN_NONE;
-    if (!enter(reader->user))
+    if (!enter(reader->user)) {
+        give_pin_up(reader);
         return NULL;
-    if (reader->is_pinned)
+    }
+    if (has_pin(reader))
         unpin_reader(reader);
     leave(reader->user);
     Py_RETURN_NONE;
 }
 
-/* Unpins for a reader that is being destroyed. Python may collect the reader at any point, even while this thread is using
- * another pass. So this doesn't wait for a thread that is using this pass; instead, that thread unpins after its call. */
-static void give_pin_up(Reader *reader)
+/* The beginning and the end of a `with` block. No signal handler written in Python runs before or within them, so none can keep
+ * the reader from being unpinned. */
+static PyObject *reader_enter(PyObject *self, PyObject *nothing)
 {
-    Handle *user = reader->user;
-    if (!reader->is_pinned || user == NULL || is_dead(user))
-        return;
-    abandon_draft(reader);
-    reader->is_pinned = false;
-    if (user->depth == 0 || user->owner == PyThread_get_thread_ident())
-        unpin(user);
-    else
-        user->is_left = true;
+    (void)nothing;
+    return Py_NewRef(self);
+}
+
+static PyObject *reader_exit(PyObject *self, PyObject *const *given, Py_ssize_t count)
+{
+    (void)given, (void)count;
+    return reader_unpin(self, NULL);
+}
+
+PyObject *handle_unpin(PyObject *self, PyObject *nothing)
+{
+    Handle *handle = handle_of(self, OF_PASS);
+    (void)nothing;
+    if (handle == NULL)
+        return NULL;
+    if (is_dead(handle))
+        Py_RETURN_NONE;
+    if (!enter(handle))
+        return NULL;
+    if (handle->reader != NULL)
+        unpin_reader(handle->reader);
+    leave(handle);
+    Py_RETURN_NONE;
 }
 
 static int reader_init(PyObject *self, PyObject *arguments, PyObject *names)
@@ -259,7 +294,8 @@ static int reader_init(PyObject *self, PyObject *arguments, PyObject *names)
     answer = library.pin(&user->held.pass, &reader->number);
     if (answer == BES_OK) {
         reader->user = (Handle *)Py_NewRef(given);
-        reader->is_pinned = user->is_pinned = true;
+        user->is_pinned = true;
+        user->reader = reader;
         user->snapshot = reader->number;
         library.next(&user->held.pass, &next);
         reader->most = next == 0 ? 0 : next - 1;
@@ -312,7 +348,7 @@ static PyObject *get_user(PyObject *self, void *nothing)
 static PyObject *get_is_pinned(PyObject *self, void *nothing)
 {
     (void)nothing;
-    return PyBool_FromLong(((Reader *)self)->is_pinned);
+    return PyBool_FromLong(has_pin((Reader *)self));
 }
 
 static PyObject *get_count(PyObject *self, void *nothing)
@@ -367,6 +403,8 @@ static PyMethodDef methods[] = {
       "carried on to: nodes are compared by their numbers. After an error the query is as it was." },
     { "_refresh_changed", reader_refresh_changed, METH_O,
       "The same, from what was written since the last refresh, which must have been in this store." },
+    { "__enter__", reader_enter, METH_NOARGS, "Returns the version." },
+    { "__exit__", FAST(reader_exit), "Unpins the version, if it is still pinned." },
     { "unpin", reader_unpin, METH_NOARGS, "unpin($self, /)\n--\n\nUnpins the version, if it is still pinned." },
     { "_read", METHOD(reader_read), "A node's attribute with its kind. Raises `NoAttribute` if there is none." },
     { "_value", METHOD(reader_value), "A node's attribute. Raises `NoAttribute` if there is none." },

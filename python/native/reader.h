@@ -4,16 +4,15 @@
 
 #include "native.h"
 
-typedef struct Reader {
+struct Reader {
     PyObject_HEAD
     Handle *user;    /* the pass */
     uint64_t number; /* the commit number of the last write that the reader includes */
     uint64_t most;   /* how many nodes a query can find: all numbers below the next node's number */
-    bool is_pinned;
     bool takes_any_kind; /* whether the draft takes values of any kind */
     bes_draft draft;     /* the operations of the change on this snapshot, if there is one */
     Batch *batch;        /* the same operations, with the numbers of new nodes, or NULL */
-} Reader;
+};
 
 /* Waits until no other thread is using the pass, and checks that it still has this pin and not a later one. If it doesn't,
  * raises an exception and returns NULL. */

@@ -9,7 +9,7 @@ import os
 import time
 import unittest
 from contextlib import ExitStack
-from typing import Callable, List
+from typing import Callable, List, Optional
 
 import bestore
 from bestore_queries.sources import Condition, Session, Source, _FolderSession
@@ -83,11 +83,12 @@ def files_store(pages: int = 2048) -> bestore.Pass:
 
 
 @functools.lru_cache(None)
-def open_display() -> None:
+def open_display(size: str = display.SIZE, dots: int = display.DOTS) -> display.Screen:
     """Opens an in-memory display for all of this process's tests. Tk stays connected to it until the end."""
     displays = ExitStack()
-    os.environ["DISPLAY"] = displays.enter_context(display.display()).name
+    screen = displays.enter_context(display.display(size, dots))
     atexit.register(displays.close)
+    return screen
 
 
 class OnDisplay(unittest.TestCase):
@@ -98,15 +99,15 @@ class OnDisplay(unittest.TestCase):
         if not HAS_TK:
             raise unittest.SkipTest("python3 has no Tk")
         try:
-            open_display()
+            os.environ["DISPLAY"] = open_display().name
         except FileNotFoundError as error:
             raise unittest.SkipTest(str(error)) from None
 
-    def show(self, source: Source, **options: object) -> "Window":
-        """Opens a window for a source. It is closed when the test ends."""
+    def show(self, source: Source, size: str = display.SIZE, screen: Optional[display.Screen] = None, **options: object) -> "Window":
+        """Opens a window of this size for a source. It is closed when the test ends."""
         self.addCleanup(gc.collect)
-        root = tkinter.Tk()
-        root.geometry(display.SIZE)
+        root = tkinter.Tk(None if screen is None else screen.name)
+        root.geometry(size)
         window = Window(root, source, **options)  # type: ignore[arg-type]
         self.addCleanup(source.close)
         self.addCleanup(window.close)

@@ -12,6 +12,7 @@ import zlib
 from typing import Iterator, NamedTuple
 
 SIZE = "940x560"
+DOTS = 96  # per inch
 
 
 class Screen(NamedTuple):
@@ -22,13 +23,13 @@ class Screen(NamedTuple):
 
 
 @contextlib.contextmanager
-def display(size: str = SIZE) -> Iterator[Screen]:
-    """Runs an in-memory display during the `with` block."""
+def display(size: str = SIZE, dots: int = DOTS) -> Iterator[Screen]:
+    """Runs an in-memory display, with this many dots per inch, during the `with` block."""
     server = shutil.which("Xvfb")
     if server is None:
         raise FileNotFoundError("Xvfb isn't installed")
     with tempfile.TemporaryDirectory() as folder:
-        words = [server, "-displayfd", "1", "-screen", "0", f"{size}x24", "-fbdir", folder, "-nolisten", "tcp"]
+        words = [server, "-displayfd", "1", "-screen", "0", f"{size}x24", "-dpi", str(dots), "-fbdir", folder, "-nolisten", "tcp"]
         with subprocess.Popen(words, stdout=subprocess.PIPE, stderr=subprocess.DEVNULL, text=True) as running:
             try:
                 assert running.stdout is not None

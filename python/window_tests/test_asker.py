@@ -11,7 +11,7 @@ from bestore_queries import asker
 from bestore.local import LocalPass
 from bestore.pages import Order
 from bestore_queries.asker import (
-    Accepted, Ask, Asker, Begin, Came, Counted, First, Lost, Opened, Refused, Sort, Went, Write, Written)
+    Accepted, Ask, Asker, Begin, Came, Counted, First, Lost, Opened, Refused, Sort, Unknown, Went, Write, Written, unknown_names)
 from bestore_queries.sources import LiveAnswer, ServerSource, Session, _FolderSession, _ServerSession
 
 import servers
@@ -72,6 +72,23 @@ class Asking(unittest.TestCase):
         self.store.set(nodes[1], "size", 1)
         self.becomes("z", "d", "b")
         self.assertTrue(wait_for(lambda: self.take() is not None and self.count == Counted(1, 3, 0, 3)), self.count)
+
+    def test_unknown_names(self) -> None:
+        """Each name is looked for in all nodes, page by page, and reported only if the query finds nothing."""
+        last = [self.file(f"{number}") for number in range(5)][-1]
+        self.store.set(last, "last", "x")
+        query = "size>0 && (last==y || lost==y || lost==z || Last>1 || size>5)"
+        with mock.patch.object(asker, "SLICE", 2):
+            with self.store.pin() as version:
+                self.assertEqual(unknown_names(query, version), ["lost", "Last"])
+                with mock.patch.object(asker, "LOOKED_AT", 4):
+                    self.assertEqual(unknown_names(query, version), ["last", "lost", "Last"])
+            self.start(query)
+            self.assertTrue(wait_for(lambda: self.has(Unknown)))
+            self.assertEqual([it for it in self.others if isinstance(it, Unknown)], [Unknown(1, ["lost", "Last"])])
+            self.asker.send(Ask(2, "size>0 || size<0 && lost==y", ["name"]))
+            self.becomes(*"01234")
+        self.assertEqual(sum(isinstance(it, Unknown) for it in self.others), 1)
 
     def firsts(self) -> List[List[int]]:
         """Returns the nodes in each report of first hits."""

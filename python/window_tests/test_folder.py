@@ -158,8 +158,8 @@ class Full(InFolder):
             write(self.path(f"{number:03}"), "")
         self.reader.start()
         self.assertTrue(wait_for(lambda: self.reader.rounds > 0))
-        self.assertEqual(len(self.reader) + self.reader.left_out, 500)
-        self.assertEqual(len(self.files()), len(self.reader))
+        self.assertTrue(wait_for(lambda: len(self.reader) + self.reader.left_out == 500))  # not during the next round
+        self.assertTrue(wait_for(lambda: len(self.files()) == len(self.reader)))
         self.assertGreater(self.reader.left_out, 100)
         before = set(self.files())
         for name in before:

@@ -3,14 +3,18 @@
 from __future__ import annotations
 
 import os
+import tempfile
 import time
 import unittest
 from datetime import datetime
 from typing import Iterator, List
+from unittest import mock
 
 import bestore
-from bestore_queries import columns, dates, find, typed_query
+from bestore_queries import columns, dates, find, mime_types, typed_query
 from bestore_queries.find import Relation
+
+from common import write
 
 NOW = datetime(2026, 11, 27, 16, 30, 5)  # a Friday
 INDICES = {"name": bestore.STRING, "size": bestore.INT64, "last_modified": bestore.INT64}
@@ -210,6 +214,48 @@ class Values(LocalTime):
         self.assertEqual([it.attribute for it in columns.default_columns({})], ["name"])
         titles = [columns.column_of(it, bestore.INT64).title for it in ("META:year", "MAIL:when", "audio:date")]
         self.assertEqual(titles, ["Year", "When", "Date"])
+
+
+class MimeTypes(unittest.TestCase):
+    """Types in a database that the test writes."""
+
+    def setUp(self) -> None:
+        place = tempfile.TemporaryDirectory()
+        self.addCleanup(place.cleanup)
+        self.folder = os.path.join(place.name, "mime")
+        for name in ("image", "text"):
+            os.makedirs(os.path.join(self.folder, name))
+        head = '<mime-type xmlns="http://www.freedesktop.org/standards/shared-mime-info" type="x"><comment xml:lang="de">Bild</comment>'
+        write(os.path.join(self.folder, "image", "png.xml"), f"{head}<comment>PNG image</comment></mime-type>")
+        write(os.path.join(self.folder, "text", "plain.xml"), f"{head}<comment>plain\n text</comment></mime-type>")
+        write(os.path.join(self.folder, "text", "none.xml"), f"{head}</mime-type>")
+        write(os.path.join(self.folder, "text", "broken.xml"), head)
+        write(os.path.join(self.folder, "aliases"), "image/x-png image/png\n\nimage/up ../aliases\n")
+        write(os.path.join(place.name, "secret.xml"), f"{head}<comment>secret</comment></mime-type>")
+        patched = mock.patch.dict(os.environ, {"XDG_DATA_DIRS": f"/none:{place.name}", "XDG_DATA_HOME": "/none"})
+        patched.start()
+        self.addCleanup(patched.stop)
+        self.forget()
+        self.addCleanup(self.forget)
+
+    def forget(self) -> None:
+        mime_types.words_of.cache_clear()
+        mime_types._aliases.cache_clear()
+
+    def test_words(self) -> None:
+        for name, words in [
+                ("image/png", "PNG image"), ("Image/PNG", "PNG image"), ("image/x-png", "PNG image"), ("text/plain", "Plain text"),
+                ("text/none", "text/none"), ("text/broken", "text/broken"), ("text/unknown", "text/unknown"), ("image/up", "image/up"),
+                ("../secret", "../secret"), ("image/../../secret", "image/../../secret"), ("", ""), ("a\nb", "a␣b"), (7, "7"),
+                (mime_types.MAIL_TYPE, "Email"), (mime_types.FOLDER_TYPE, "Folder"), (mime_types.FOLDER_TYPE.lower(), "Folder")]:
+            self.assertEqual(columns.type_in_words(name), words)
+        self.assertEqual(columns.column_of("BEOS:TYPE").shown({"BEOS:TYPE": "image/png"}), "PNG image")
+        self.assertEqual(columns.edited_text("BEOS:TYPE", "image/png"), "image/png")
+
+    def test_no_database(self) -> None:
+        with mock.patch.dict(os.environ, {"XDG_DATA_DIRS": "/none:relative"}):
+            self.forget()
+            self.assertEqual(columns.type_in_words("image/png"), "image/png")
 
 
 if __name__ == "__main__":

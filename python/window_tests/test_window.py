@@ -3,12 +3,14 @@
 from __future__ import annotations
 
 import os
+import re
 import shutil
 import signal
 import stat
 import subprocess
 import sys
 import tempfile
+import threading
 import unittest
 from typing import Dict, List, Tuple
 from unittest import mock
@@ -16,11 +18,12 @@ from unittest import mock
 import bestore
 from bestore.connected import SocketPath
 from bestore.pages import Order
+from bestore_queries.columns import type_in_words
 from bestore_queries.find import Relation
 from bestore_queries.folder import INDICES
 from bestore_queries.own_server import listens
 from bestore_queries.saved_queries import Saved, SavedQueries
-from bestore_queries.sources import Condition, FolderSource, ServerSource
+from bestore_queries.sources import Condition, FolderSource, LiveAnswer, ServerSource, _FolderSession
 
 import servers
 from common import HAS_TK, MadeSource, OnDisplay, file_of, files_store, press, shown, wait_for, write
@@ -29,8 +32,8 @@ if HAS_TK:
     import tkinter
     from tkinter import ttk
     from bestore_queries import theme
-    from bestore_queries.asker import First, Written
-    from bestore_queries.window import Window
+    from bestore_queries.asker import CHECKING, First, Written
+    from bestore_queries.window import IDLE_PAUSE, SEARCHING, SILENT, Window
 
 
 class OverStore(OnDisplay):
@@ -93,7 +96,7 @@ class Faults(OverStore):
         self.assertEqual(message, "The name of an attribute is missing here")
         self.assertEqual((part[0], part[len(caret) - 2], caret[-1]), ("…", "|", "^"))
         self.assertLessEqual(window.message.winfo_reqwidth(), window.root.winfo_width())
-        self.assertEqual(str(window.message["foreground"]), theme.FAULT)
+        self.assertEqual(str(window.message["foreground"]), theme.LIGHT.fault)
 
     def test_fault_ends_the_old_answer(self) -> None:
         """Whatever is wrong, the old hits and their count disappear, and hits come back with the next query."""
@@ -145,7 +148,7 @@ class Faults(OverStore):
         reader = window._source.reader  # type: ignore[attr-defined]
         self.becomes(window, lambda: reader.rounds > 0 and str(window.notice["text"]).startswith(
             f"The store is full: {len(reader):,} files are in, and {500 - len(reader):,} aren't. Open the window again"))
-        self.assertEqual((str(window.notice["background"]), str(window.notice["foreground"])), (theme.FAULT_PAPER, theme.FAULT))
+        self.assertEqual((str(window.notice["background"]), str(window.notice["foreground"])), (theme.LIGHT.fault_paper, theme.LIGHT.fault))
         self.assertNotIn("following", str(window.state["text"]))
 
     def test_folder_that_went(self) -> None:
@@ -198,6 +201,22 @@ class Asking(OverStore):
         window.ask("size<1.5")
         self.becomes(window, lambda: str(window.message["text"]) == "Nothing has size “1.5”: it isn't a whole number.")
 
+    def test_mistyped_name(self) -> None:
+        """If a query finds nothing, the window says which of its names nothing has, until the query finds something."""
+        window = self.window("a", "b")
+        window.ask("size>=0 && siz>5")
+        said = "Nothing has an attribute “siz”, and no index has this name."
+        self.becomes(window, lambda: str(window.message["text"]) == said)
+        self.becomes(window, lambda: str(window.state["text"]).startswith("0 of 2"))
+        node = self.file("c", 3, siz=6)
+        self.shows(window, "c")
+        self.becomes(window, lambda: str(window.message["text"]) == "")
+        self.store.set(node, "siz", 1)
+        for query in ("size>=0 && siz>5", "size<0"):  # a node has the name
+            window.ask(query)
+            self.becomes(window, lambda: str(window.state["text"]).startswith("0 of 3"))
+            self.assertEqual(str(window.message["text"]), "")
+
     def test_find_row(self) -> None:
         window = self.window("Report.txt", "other", "REPORT 2")
         window.find_row.choose("name", Relation.CONTAINS, "report")
@@ -245,6 +264,47 @@ class Asking(OverStore):
         window = self.window("a")
         self.source.said = Condition("it is broken", True)
         self.becomes(window, lambda: str(window.notice["text"]) == "it is broken")
+
+
+class Waiting(OverStore):
+    """What the window says while it waits for the store."""
+
+    def test_searching(self) -> None:
+        """The window says that it is searching if the answer takes longer than a moment."""
+        window, go_on, begin = self.window("a", "b"), threading.Event(), _FolderSession.begin
+        self.addCleanup(go_on.set)
+
+        def wait(session: _FolderSession, text: str) -> LiveAnswer:
+            go_on.wait()
+            return begin(session, text)
+        with mock.patch.object(_FolderSession, "begin", wait):
+            window.ask("size==1")
+            self.becomes(window, lambda: str(window.state["text"]).startswith("searching"))
+            go_on.set()
+            self.becomes(window, lambda: str(window.state["text"]).startswith("1 of 2"))
+        self.assertLessEqual(SEARCHING + IDLE_PAUSE / 1000, 0.2)
+
+    def test_opening(self) -> None:
+        """Nor does the window say nothing before the store is open."""
+        go_on, source = threading.Event(), self.source
+        self.addCleanup(go_on.set)
+        with mock.patch.object(source, "open", lambda: go_on.wait() and MadeSource.open(source)):
+            window = self.show(source, saved=self.saved)
+            self.becomes(window, lambda: str(window.state["text"]) == "opening the store")
+            go_on.set()
+            self.becomes(window, lambda: str(window.state["text"]).startswith("0"))
+
+    def test_silence(self) -> None:
+        """The window says that a server doesn't reply, whether or not there is a query to run, and takes it back once it replies."""
+        window, go_on = self.window("a"), threading.Event()
+        self.addCleanup(go_on.set)
+        with mock.patch.object(self.source, "silence", "silent for {}".format):
+            with mock.patch.object(_FolderSession, "check", lambda _: go_on.wait()):
+                self.becomes(window, lambda: re.fullmatch("silent for [2-9][0-9]*", str(window.notice["text"])) is not None)
+                self.assertEqual(shown(window), ["a"])
+                go_on.set()
+            self.becomes(window, lambda: str(window.notice["text"]) == "")
+        self.assertLessEqual(CHECKING + SILENT + IDLE_PAUSE / 1000, 3)
 
 
 class SavedOnes(OverStore):
@@ -307,7 +367,7 @@ class Editing(OverStore):
         self.begin(window, 1, "BEOS:TYPE")
         self.assertEqual(window.list.editor.text, "text/plain")
         self.edited(window, "text/html")
-        self.becomes(window, lambda: window.list.shown()[1][3] == "text/html")
+        self.becomes(window, lambda: window.list.shown()[1][3] == type_in_words("text/html"))
         self.assertEqual((self.value(2, "BEOS:TYPE"), self.value(1, "BEOS:TYPE")), ("text/html", "text/plain"))
         self.begin(window, 1, "BEOS:TYPE")
         self.edited(window, "")
@@ -606,6 +666,31 @@ class OverServer(OnDisplay):
         self.make_files()
         self.shows(window, "a", "b")
         self.becomes(window, lambda: str(window.notice["text"]) == "")
+
+    def test_server_that_hangs(self) -> None:
+        """The window says so, even if nothing is asked, and goes on as soon as the server does."""
+        self.make_files()
+        window = self.show(ServerSource(self.server.path), saved=self.saved)
+        self.shows(window, "a", "b", "home")
+        hangs = f"The server at {re.escape(self.server.path)} hasn't replied for [0-9]+ seconds. Still waiting for it"
+        for query in ("", "size>=0"):
+            self.server.process.send_signal(signal.SIGSTOP)
+            if query:
+                window.ask(query)
+                self.becomes(window, lambda: str(window.state["text"]).startswith("searching"))
+            self.becomes(window, lambda: re.fullmatch(hangs, str(window.notice["text"])) is not None)
+            self.server.process.send_signal(signal.SIGCONT)
+            self.becomes(window, lambda: str(window.notice["text"]) == "")
+        self.shows(window, "a", "b")
+
+    def test_start_with_a_server_that_hangs(self) -> None:
+        """The window opens all the same, and starts no server of its own."""
+        self.server.process.send_signal(signal.SIGSTOP)
+        with mock.patch.dict(os.environ, {"BESTORE_SOCKET": self.server.path, "PATH": ""}):
+            window = self.show(ServerSource(), saved=self.saved)
+        self.becomes(window, lambda: "hasn't replied for" in str(window.notice["text"]))
+        self.server.process.send_signal(signal.SIGCONT)
+        self.becomes(window, lambda: "following" in str(window.state["text"]))
 
     def test_edit_as_the_server_goes(self) -> None:
         """What was typed is shown, even once the server is back."""

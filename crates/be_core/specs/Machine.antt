@@ -45,10 +45,15 @@ nowhere p = false
 abbrev pub zeros : ℕ → ℕ → ℕ
 zeros p i = 0
 
--- limits on the number of pages, passes and commits; `least` is the minimum number of pages
-pub record AreLimits (least pages passes commits : ℕ) : Type 0 where
+-- the maximum number of pages of a `State`, and of a table that isn't opened as a large one
+abbrev pub most_pages : ℕ
+most_pages = 16384
+
+-- limits on the number of pages, passes and commits; there are at least `least` pages and at most
+-- `most`
+pub record AreLimits (least most pages passes commits : ℕ) : Type 0 where
   pub some_pages : least ≤ pages
-  pub few_pages : pages ≤ 16384
+  pub few_pages : pages ≤ most
   pub some_pass : 0 < passes
   pub few : passes ≤ 64
   pub some_commit : 0 < commits

@@ -190,7 +190,7 @@ impl State {
     ghost use Rattle.be_core.specs.Machine.{after_lock, MayUnlock, after_unlock, MayFill};
     ghost use Rattle.be_core.specs.Machine.{after_fill, MayRead, HasOpenWrite, MayScan, after_scan};
     ghost use Rattle.be_core.specs.Machine.{MayPublish, after_publish, has, first_state};
-    ghost use Rattle.be_core.specs.Machine.{zeros, AreLimits};
+    ghost use Rattle.be_core.specs.Machine.{most_pages, zeros, AreLimits};
     ghost use Rattle.be_core.specs.Machine as machine;
     ghost use Rattle.be_core.specs.Laws.{LeavesNone};
     ghost use Rattle.be_core.specs.Shown.{shown, MakesStep, ShowsSound, Images, blank, as_writer};
@@ -202,10 +202,12 @@ impl State {
     pub fn new(alloc: Global, pages: u64, passes: u64, commits: u64) -> Result<State, Refusal>
         ensures first { IfOk result (λ s. shown s blank ≡ first_state pages passes commits zeros) }
         ensures size { IfOk result (λ s. page_count s ≡ pages) }
-        ensures within { IsOk result → AreLimits 1 pages passes commits }
+        ensures within { IsOk result → AreLimits 1 most_pages pages passes commits }
         ensures sound { IfOk result (λ s. ShowsSound s) }
-        ensures limits { (result ≡ Err Refusal.BadLimits) ↔ (¬ (AreLimits 1 pages passes commits)) }
-        ensures memory { AreLimits 1 pages passes commits → IsOkUnless result Refusal.OutOfMemory }
+        ensures limits { (result ≡ Err Refusal.BadLimits)
+            ↔ (¬ (AreLimits 1 most_pages pages passes commits)) }
+        ensures memory { AreLimits 1 most_pages pages passes commits
+            → IsOkUnless result Refusal.OutOfMemory }
     {
         if pages == 0 || pages > 16_384 {
             return Err(Refusal::BadLimits);

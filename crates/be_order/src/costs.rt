@@ -28,7 +28,7 @@ const KEYS_A_TEXT: u64 = 4;
 /// the minimum for a walk that looks up each node.
 const SHORT_PART: usize = 64;
 
-/// The maximum number of keys in a part of a walk that looks up each node.
+/// The maximum number of keys in a part of any walk.
 const LONG_PART: usize = 4096;
 
 /// A pattern is assumed to match one in this many strings.
@@ -177,10 +177,15 @@ fn passed_for(most: u64, all: u64, hits: u64) -> u64 {
 }
 
 /// Returns the pace of a walk that tests each node. Each part has one key more than the page, so
-/// that one part is enough if all nodes pass.
+/// that one part is enough if all nodes pass. A long page is filled in several parts, so that a
+/// limit far above the number of nodes allocates no more memory than `LONG_PART` keys take.
 fn asking_pace(most: usize, limit: u64) -> Pace {
     Pace {
-        part: most.saturating_add(1).min(SHORT_PART).max(most / 8),
+        part: most
+            .saturating_add(1)
+            .min(SHORT_PART)
+            .max(most / 8)
+            .min(LONG_PART),
         limit,
     }
 }

@@ -2,3 +2,4 @@ mod PageSets
 mod FreePages
 mod Pools
 mod Rooms
+mod Marks

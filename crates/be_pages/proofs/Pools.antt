@@ -265,22 +265,31 @@ module _ (P : List Place) (p : ℕ) (s : Place) (lt : p < length P) where
     | inr ne ↦ touches q (ap is_idle (sym (there q ne)) ∙ un)
   ]
 
-  -- how many are retired
-  counted : count_by is_retired (slice_set P p s) + one_if (is_retired (place_of P p)) ≡ count_by is_retired P + one_if (is_retired s)
-  counted = omega (arith, sum_by-set (λ (x : Place). cond {A = ℕ} (is_retired x) 1 0) P p s Current lt, is_one (is_retired (place_of P p)), is_one (is_retired s))
+  -- how many pass a test
+  pub counted : (f : Place → Bool) → count_by f (slice_set P p s) + one_if (f (place_of P p)) ≡ count_by f P + one_if (f s)
+  counted f = omega (arith, sum_by-set (λ (x : Place). cond {A = ℕ} (f x) 1 0) P p s Current lt, is_one (f (place_of P p)), is_one (f s))
     where
       is_one : (b : Bool) → one_if b ≡ cond {A = ℕ} b 1 0
       is_one true = refl
       is_one false = refl
 
   pub count_same : is_retired (place_of P p) ≡ is_retired s → count_by is_retired (slice_set P p s) ≡ count_by is_retired P
-  count_same e = omega (arith, counted, ap one_if e)
+  count_same e = omega (arith, counted is_retired, ap one_if e)
 
   pub count_more : is_retired (place_of P p) ≡ false → is_retired s ≡ true → count_by is_retired (slice_set P p s) ≡ count_by is_retired P + 1
-  count_more was is = omega (arith, counted, ap one_if was, ap one_if is)
+  count_more was is = omega (arith, counted is_retired, ap one_if was, ap one_if is)
 
   pub count_less : is_retired (place_of P p) ≡ true → is_retired s ≡ false → count_by is_retired (slice_set P p s) + 1 ≡ count_by is_retired P
-  count_less was is = omega (arith, counted, ap one_if was, ap one_if is)
+  count_less was is = omega (arith, counted is_retired, ap one_if was, ap one_if is)
+
+  pub passes_same : (f : Place → Bool) → f (place_of P p) ≡ f s → count_by f (slice_set P p s) ≡ count_by f P
+  passes_same f e = omega (arith, counted f, ap one_if e)
+
+  pub passes_more : (f : Place → Bool) → f (place_of P p) ≡ false → f s ≡ true → count_by f (slice_set P p s) ≡ count_by f P + 1
+  passes_more f was is = omega (arith, counted f, ap one_if was, ap one_if is)
+
+  pub passes_less : (f : Place → Bool) → f (place_of P p) ≡ true → f s ≡ false → count_by f (slice_set P p s) + 1 ≡ count_by f P
+  passes_less f was is = omega (arith, counted f, ap one_if was, ap one_if is)
 
   pub count_room : is_retired (place_of P p) ≡ false → is_retired s ≡ true → count_by is_retired P < length P
   count_room was is = omega (arith, count_more was is, count_by-le-length is_retired (slice_set P p s), length-set P p s)

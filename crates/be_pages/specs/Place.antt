@@ -116,6 +116,15 @@ swept_place least Current = Current
 swept_place least GivenUp = GivenUp
 swept_place least (Retired n) = if nat_lt n least then Free else Retired n
 
+-- the page was retired with a number below `least`
+abbrev pub is_expired : ℕ → Place → Bool
+is_expired least Free = false
+is_expired least Reserved = false
+is_expired least Filled = false
+is_expired least Current = false
+is_expired least GivenUp = false
+is_expired least (Retired n) = nat_lt n least
+
 -- no retired page has a number above that of the write being published
 abbrev pub IsNewest : Ending → (ℕ → ℕ) → Type 0
 IsNewest (Published number) number_of = (q : ℕ) → number_of q ≤ number

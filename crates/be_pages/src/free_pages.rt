@@ -13,15 +13,12 @@ ghost use Rattle.be_pages.specs.PageSet.{has_page, is_place};
 use crate::page_set::PageSet;
 use std::alloc::{AllocError, Global};
 
-/// The entry of a page that wasn't copied from another. No pool has a page with this number.
-const NO_PAGE: u64 = u64::MAX;
-
 /// The free pages among those with numbers below a limit. Only `from` allocates memory.
 #[derive(Drop)]
 pub(crate) struct FreePages {
     plain: PageSet,
     spare: PageSet,
-    /// For each page, the page that it was last copied from.
+    /// For each page, the page that it was last copied from, plus one, or 0 if there is none.
     earlier: Vec<u64>,
     /// For each page, whether it will be spared once it is free.
     spared: Vec<bool>,
@@ -47,7 +44,7 @@ impl FreePages {
     {
         let plain = PageSet::from(alloc, first, pages)?;
         let spare = PageSet::new(alloc, pages)?;
-        let earlier = vec![in alloc; NO_PAGE; pages]?;
+        let earlier = vec![in alloc; 0; pages]?;
         let spared = vec![in alloc; false; pages]?;
         Ok(FreePages {
             plain,
@@ -107,8 +104,11 @@ impl FreePages {
         let Some(&earlier) = self.earlier.get(page as usize) else {
             return self.pop();
         };
-        let copy = self.pop_spared(earlier)?;
-        self.earlier[copy as usize] = page;
+        let copy = match earlier {
+            0 => self.pop()?,
+            _ => self.pop_spared(earlier - 1)?,
+        };
+        self.earlier[copy as usize] = page + 1;
         self.spared[page as usize] = true;
         Some(copy)
     }

@@ -25,6 +25,7 @@
 #![tactic(auto)]
 
 mod free_pages;
+mod page_lists;
 mod page_pool;
 mod page_set;
 mod room;

@@ -1,37 +1,34 @@
-//! The place of each page of a pool, with lists that limit the cost of each call to what it
-//! changes.
+//! The place of each page of a pool.
 //!
 //! # Places
 //! A page is free, taken by the open write, in the current version, given up by the open write, or
 //! retired. A retired page was given up by an earlier write, and a reader of an older version may
 //! still read it. It carries the number of the last version that contains it.
 //!
-//! # Lists
-//! The pool keeps three lists alongside the places. The free pages form a stack: the page that was
-//! freed last is taken first, because its words are probably still in the cache. Pages that are
-//! spared for a copy are the exception (`FreePages`). A second stack holds the pages that the open
-//! write took or gave up, so ending the write visits only these. The retired pages form a queue,
-//! oldest first, so a sweep stops at the first page that must wait. Each list has room for every
-//! page from the start, so only `new` allocates memory.
+//! # Sweeps
+//! Once no reader can read the versions below a number, a sweep frees the pages that were retired
+//! with smaller numbers. There can be very many: all that were retired while a reader held one
+//! version. So a sweep only raises a mark. A retired page whose number is below the mark has
+//! expired: it is free, but it waits in the queue of retired pages until it is moved to the free
+//! pages. A sweep moves a few of them, and `take` moves some if it finds no other free page.
+//!
+//! # Costs
+//! A sweep that raises the mark searches the queue, in logarithmic time. A sweep and a `take` move
+//! at most `MOVED_AT_ONCE` pages. Ending a write costs as much as the pages that it touched.
 ghost use Rattle.std.specs.Prelude.{◌≡◌, ◌≢◌, ℕ, ◌+◌, ◌<◌, ◌≤◌, List, Bool, true, false, length};
-ghost use Rattle.std.specs.Prelude.{vec_len, map, count_by, slice_set};
-ghost use Rattle.std.specs.Prelude.{slice_index, slice_index_or, IsTrue, IfOk, IfSome, IfNone};
-ghost use Rattle.std.specs.VecDeque.{deque_len, deque_capacity};
-ghost use Rattle.be_pages.specs.Pages.{times};
-ghost use Rattle.be_pages.specs.PageSet.{has_page, one_if};
-ghost use Rattle.be_pages.specs.FreePages.{has_free};
-ghost use Rattle.be_pages.specs.Place.{given_place, is_free, is_held_page, is_idle, is_in_hand};
+ghost use Rattle.std.specs.Prelude.{map, count_by, slice_set, IsTrue, IfOk, IfSome, IfNone};
+ghost use Rattle.be_pages.specs.Place.{given_place, is_expired, is_free, is_held_page, is_in_hand};
 ghost use Rattle.be_pages.specs.Place.{is_retired, kept_place, retired_at};
-ghost use Rattle.be_pages.specs.Place.{place_after, place_of, published_place, swept_place};
-ghost use Rattle.be_pages.specs.Place.{undone_place, IsNewest, IsOldestFirst};
+ghost use Rattle.be_pages.specs.Place.{place_of, published_place, swept_place, undone_place};
 ghost use Rattle.be_pages.specs.declared.page_pool.Place.TheVariants.{Free, Reserved, Filled};
-ghost use Rattle.be_pages.specs.declared.page_pool.Place.TheVariants.{Current, GivenUp, Retired};
-ghost use Rattle.be_pages.specs.declared.page_pool.Ending.TheVariants.{Published, Kept, Undone};
+ghost use Rattle.be_pages.specs.declared.page_pool.Place.TheVariants.{Current};
 
-use crate::free_pages::FreePages;
-use crate::page_set::PageSet;
+use crate::page_lists::PageLists;
 use std::alloc::{AllocError, Global};
-use std::collections::VecDeque;
+
+/// How many expired pages are moved to the free pages at once. One write rarely gives up more, so
+/// in the usual case none is left waiting.
+const MOVED_AT_ONCE: usize = 64;
 
 /// The place of a page.
 #[derive(Clone, Copy, Debug, PartialEq, Eq)]
@@ -65,20 +62,12 @@ pub(crate) enum Ending {
 /// The places of a pool's pages.
 #[derive(Drop)]
 pub struct PagePool {
-    places: Vec<Place>,
-    free: FreePages,
-    touched: PageSet,
-    retired: VecDeque<u64>,
-    ghost free_pages: { length free.plain.places.items ≡ vec_len places },
-    ghost touched_pages: { length touched.places.items ≡ vec_len places },
-    ghost retired_room: { vec_len places ≤ deque_capacity retired },
-    ghost retired_count: { length retired.items ≡ count_by is_retired places.items },
-    ghost frees: { (q : ℕ) → has_free free q ≡ is_free (place_of places.items q) },
-    ghost touches: { (q : ℕ) → is_idle (place_of places.items q) ≡ false
-        → has_page touched.places.items q ≡ true },
-    ghost retires: { (q : ℕ) → times q retired.items
-        ≡ one_if (is_retired (place_of places.items q)) },
-    ghost oldest_first: { IsOldestFirst (retired_at places.items) retired.items },
+    lists: PageLists,
+    /// A page that was retired with a number below this one is free.
+    mark: u64,
+    /// How many such pages there are.
+    expired: usize,
+    ghost counted: { expired ≡ count_by (is_expired mark) lists.places.items },
 }
 
 impl PagePool {
@@ -94,15 +83,11 @@ impl PagePool {
         ensures free { IfOk result (λ pool. (q : ℕ) → used ≤ q → q < pages
             → place_of (places pool) q ≡ Free) }
     {
-        let places = new_places(alloc, pages, used)?;
-        let free = FreePages::from(alloc, used, pages)?;
-        let touched = PageSet::new(alloc, pages)?;
-        let retired = VecDeque::with_capacity(alloc, pages)?;
+        let lists = PageLists::new(alloc, pages, used)?;
         Ok(PagePool {
-            places,
-            free,
-            touched,
-            retired,
+            lists,
+            mark: 0,
+            expired: 0,
         })
     }
 
@@ -110,7 +95,7 @@ impl PagePool {
     pub fn len(&self) -> usize
         ensures { result ≡ length (places self.now) }
     {
-        self.places.len()
+        self.lists.len()
     }
 
     /// Returns the place of a page.
@@ -118,7 +103,7 @@ impl PagePool {
         requires { page < length (places self.now) }
         ensures { result ≡ place_of (places self.now) page }
     {
-        self.places[page as usize]
+        swept(self.lists.place(page), self.mark)
     }
 
     /// Returns `true` if the open write has taken a page.
@@ -126,10 +111,11 @@ impl PagePool {
         requires { page < length (places self.now) }
         ensures { result ≡ is_in_hand (place_of (places self.now) page) }
     {
-        is_in_hand(self.place(page))
+        self.lists.is_in_hand(page)
     }
 
-    /// Takes the page that was freed last; it takes a spared page only if there is no other.
+    /// Takes the page that was freed last; it takes a spared page only if there is no other, and an
+    /// expired page only if no other page is free.
     pub fn take(&mut self) -> Option<u64>
         ensures free { IfSome result (λ page. (page < length (places self.old))
             × (place_of (places self.old) page ≡ Free)) }
@@ -139,9 +125,8 @@ impl PagePool {
             → place_of (places self.old) q ≢ Free) }
         ensures same { IfNone result (places self.new ≡ places self.old) }
     {
-        let page = self.free.pop()?;
-        self.touched.insert(page);
-        self.places[page as usize] = Place::Reserved;
+        self.supply();
+        let page = self.lists.take()?;
         Some(page)
     }
 
@@ -156,9 +141,8 @@ impl PagePool {
             → place_of (places self.old) q ≢ Free) }
         ensures same { IfNone result (places self.new ≡ places self.old) }
     {
-        let copy = self.free.pop_like(page)?;
-        self.touched.insert(copy);
-        self.places[copy as usize] = Place::Reserved;
+        self.supply();
+        let copy = self.lists.take_like(page)?;
         Some(copy)
     }
 
@@ -167,10 +151,7 @@ impl PagePool {
         requires { IsTrue (is_in_hand (place_of (places self.old) page)) }
         ensures { places self.new ≡ slice_set (places self.old) page Filled }
     {
-        if matches!(self.places[page as usize], Place::Filled) {
-            return;
-        }
-        self.places[page as usize] = Place::Filled;
+        self.lists.fill(page);
     }
 
     /// Gives a page up. A page that the open write took becomes free immediately.
@@ -180,17 +161,7 @@ impl PagePool {
         ensures { places self.new ≡ slice_set (places self.old) page
             (given_place (place_of (places self.old) page)) }
     {
-        let at = page as usize;
-        match self.places[at] {
-            Place::Current => {
-                self.touched.insert(page);
-                self.places[at] = Place::GivenUp;
-            }
-            _ => {
-                self.free.insert(page);
-                self.places[at] = Place::Free;
-            }
-        }
+        self.lists.give_up(page);
     }
 
     /// Publishes the write. The pages that it filled join the current version; the pages that it
@@ -200,7 +171,8 @@ impl PagePool {
         requires newest { (q : ℕ) → retired_at (places self.old) q ≤ number }
         ensures { places self.new ≡ map (published_place number) (places self.old) }
     {
-        self.end(Ending::Published(number));
+        self.lower(number);
+        self.lists.end(Ending::Published(number));
     }
 
     /// Keeps the write: the pages that it took join the current version, and the pages that it gave
@@ -208,7 +180,7 @@ impl PagePool {
     pub fn keep(&mut self)
         ensures { places self.new ≡ map kept_place (places self.old) }
     {
-        self.end(Ending::Kept);
+        self.lists.end(Ending::Kept);
     }
 
     /// Undoes the write: the pages that it took become free, and the pages that it gave up return
@@ -216,139 +188,93 @@ impl PagePool {
     pub fn undo(&mut self)
         ensures { places self.new ≡ map undone_place (places self.old) }
     {
-        self.end(Ending::Undone);
+        self.lists.end(Ending::Undone);
     }
 
-    /// Ends a write by settling each page that it touched.
-    fn end(&mut self, ending: Ending)
-        requires newest { IsNewest ending (retired_at (places self.old)) }
-        ensures { places self.new ≡ map (place_after ending) (places self.old) }
-    {
-        while let Some(page) = self.touched.pop() {
-            let at = page as usize;
-            let old = self.places[at];
-            if is_idle(old) {
-                continue;
-            }
-            let place = settled(ending, old);
-            match place {
-                Place::Free => {
-                    self.free.insert(page);
-                    self.places[at] = place;
-                }
-                Place::Retired(_) => {
-                    self.retired.push_back_reserved(page);
-                    self.places[at] = place;
-                }
-                _ => self.places[at] = place,
-            }
-        }
-    }
-
-    /// Frees the pages that were retired with a number below `least`.
+    /// Frees the pages that were retired with a number below `least`. Their number affects the cost
+    /// only through the search of the queue.
     pub fn sweep(&mut self, least: u64)
         ensures { places self.new ≡ map (swept_place least) (places self.old) }
     {
-        while let Some(page) = self.expired(least) {
-            let _ = self.retired.pop_front();
-            self.free.insert(page);
-            self.places[page as usize] = Place::Free;
-        }
-    }
-
-    /// Returns the oldest retired page if its number is below `least`.
-    fn expired(&self, least: u64) -> Option<u64>
-        ensures first { IfSome result (λ page. (0 < length self.now.retired.items)
-            × (page ≡ slice_index self.now.retired.items 0)) }
-        ensures retired { IfSome result (λ page.
-            (is_retired (place_of (places self.now) page) ≡ true)
-            × (swept_place least (place_of (places self.now) page) ≡ Free)) }
-        ensures none { IfNone result ((q : ℕ) → swept_place least (place_of (places self.now) q)
-            ≡ place_of (places self.now) q) }
-    {
-        let page = *self.retired.front()?;
-        if self.number(page) < least {
-            Some(page)
-        } else {
-            None
-        }
-    }
-
-    /// Returns the number with which a page was retired.
-    fn number(&self, page: u64) -> u64
-        requires { is_retired (place_of (places self.now) page) ≡ true }
-        ensures { result ≡ retired_at (places self.now) page }
-    {
-        match self.places[page as usize] {
-            Place::Retired(number) => number,
-            _ => 0,
-        }
+        self.raise(least);
+        self.move_some();
     }
 
     /// Returns how many pages are free.
     pub fn free(&self) -> usize
         ensures { result ≡ count_by is_free (places self.now) }
     {
-        self.free.len()
+        self.lists.free() + self.expired
     }
 
     /// Returns how many pages are retired.
     pub fn retired(&self) -> usize
         ensures { result ≡ count_by is_retired (places self.now) }
     {
-        self.retired.len()
+        self.lists.retired() - self.expired
+    }
+
+    /// Moves some expired pages to the free pages if none is there.
+    fn supply(&mut self)
+        ensures same { places self.new ≡ places self.old }
+        ensures left { count_by is_free self.new.lists.places.items ≡ 0 → self.new.expired ≡ 0 }
+    {
+        if self.expired > 0 && self.lists.free() == 0 {
+            self.move_some();
+        }
+    }
+
+    /// Moves at most `MOVED_AT_ONCE` expired pages to the free pages.
+    fn move_some(&mut self)
+        ensures same { places self.new ≡ places self.old }
+        ensures left { count_by is_free self.new.lists.places.items ≡ 0 → self.new.expired ≡ 0 }
+    {
+        let moved = self.lists.free_expired(self.mark, MOVED_AT_ONCE);
+        self.expired -= moved;
+    }
+
+    /// Raises the mark to `least` if it is lower.
+    fn raise(&mut self, least: u64)
+        ensures { places self.new ≡ map (swept_place least) (places self.old) }
+    {
+        if least <= self.mark {
+            return;
+        }
+        self.expired = self.lists.count_expired(least);
+        self.mark = least;
+    }
+
+    /// Lowers the mark if it is above `number`: a page retired with that number must not expire at
+    /// once. No table does this, so it may move every expired page.
+    fn lower(&mut self, number: u64)
+        ensures same { places self.new ≡ places self.old }
+        ensures mark { self.new.mark ≤ number }
+    {
+        if self.mark <= number {
+            return;
+        }
+        let _ = self.lists.free_expired(self.mark, self.expired);
+        self.expired = 0;
+        self.mark = 0;
     }
 }
 
-/// Returns `true` if this is the place of a page that the open write has taken.
-fn is_in_hand(place: Place) -> bool
-    ensures { result ≡ is_in_hand place }
+/// Returns the place that a page has once those retired with a number below `least` are freed.
+fn swept(place: Place, least: u64) -> Place
+    ensures { result ≡ swept_place least place }
 {
     match place {
-        Place::Reserved | Place::Filled => true,
-        Place::Free | Place::Current | Place::GivenUp | Place::Retired(_) => false,
+        Place::Free => Place::Free,
+        Place::Reserved => Place::Reserved,
+        Place::Filled => Place::Filled,
+        Place::Current => Place::Current,
+        Place::GivenUp => Place::GivenUp,
+        Place::Retired(number) => {
+            if number < least {
+                Place::Free
+            } else {
+                Place::Retired(number)
+            }
+        }
     }
-}
-
-/// Returns `true` if this is the place of a page that the open write hasn't touched.
-fn is_idle(place: Place) -> bool
-    ensures { result ≡ is_idle place }
-{
-    match place {
-        Place::Free | Place::Current | Place::Retired(_) => true,
-        Place::Reserved | Place::Filled | Place::GivenUp => false,
-    }
-}
-
-/// Returns the place that a page has after a write ends.
-fn settled(ending: Ending, place: Place) -> Place
-    ensures { result ≡ place_after ending place }
-{
-    match (place, ending) {
-        (Place::Free, _) => Place::Free,
-        (Place::Reserved, Ending::Kept) => Place::Current,
-        (Place::Reserved, _) => Place::Free,
-        (Place::Filled, Ending::Undone) => Place::Free,
-        (Place::Filled, _) => Place::Current,
-        (Place::Current, _) => Place::Current,
-        (Place::GivenUp, Ending::Published(number)) => Place::Retired(number),
-        (Place::GivenUp, Ending::Kept) => Place::Free,
-        (Place::GivenUp, Ending::Undone) => Place::Current,
-        (Place::Retired(number), _) => Place::Retired(number),
-    }
-}
-
-/// Creates the places of a new pool.
-fn new_places(alloc: Global, pages: usize, used: usize) -> Result<Vec<Place>, AllocError>
-    requires { used ≤ pages }
-    ensures pages { IfOk result (λ places. vec_len places ≡ pages) }
-    ensures used { IfOk result (λ places. (q : ℕ) → q < used → place_of places.items q ≡ Current) }
-    ensures free { IfOk result (λ places. (q : ℕ) → used ≤ q → q < pages → place_of places.items q
-        ≡ Free) }
-{
-    let mut places = vec![in alloc; Place::Free; pages]?;
-    for page in 0..used {
-        places[page] = Place::Current;
-    }
-    Ok(places)
 }

@@ -20,10 +20,11 @@ pub use Rattle.be_store.specs.Passes.{HasRead, IsPassOf, IsPinnedTo, volume_pinn
 pub use Rattle.be_store.specs.Statuses.{ReportsStatus}
 pub use Rattle.be_table.specs.History.{StartsWith}
 pub use Rattle.be_table.specs.Place.{Opened}
-pub use Rattle.be_table.specs.Rule.{IsWithin, entries, newcomer, one_step_on}
+pub use Rattle.be_table.specs.Rule.{IsPossible, entries, newcomer, one_step_on}
 pub use Rattle.be_table.specs.Seats.{pinned_number}
 pub use Rattle.be_table.specs.Steps.{Has, IsPass}
-pub use Rattle.be_table.specs.Works.{AllAt, AreNew, FoundHeld, IsOpenRefused, IsWitnessOf, knows_of}
+pub use Rattle.be_table.specs.Works.{AllAt, AreNew, FoundHeld, IsLargeRefused, IsWitnessOf}
+pub use Rattle.be_table.specs.Works.{knows_of}
 pub use Rattle.be_value.specs.Name.{name_from}
 pub use Rattle.be_value.specs.Refusal.{Answers}
 pub use Rattle.be_value.specs.Value.{code_of}

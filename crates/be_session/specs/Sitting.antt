@@ -10,7 +10,7 @@ use Rattle.be_store.specs.History.{IsReason, Learns}
 use Rattle.be_store.specs.Passes.{IsBetweenCalls, IsPassOf}
 use Rattle.be_table.specs.History.{StartsWith}
 use Rattle.be_table.specs.Place.{Opened, SeatFacts}
-use Rattle.be_table.specs.Rule.{IsWithin, newcomer}
+use Rattle.be_table.specs.Rule.{IsPossible, newcomer}
 use Rattle.be_table.specs.Seats.{pinned_number}
 use Rattle.be_table.specs.Steps.{longer, met}
 use Rattle.be_table.specs.Trace.{HasTrace}
@@ -35,7 +35,7 @@ pub record Sitting : Type 0 where
 -- A session that has just opened a store with these limits. Its pass is the last one and has seen
 -- and written nothing, and the others wait.
 pub record IsOpened (limits : Limits) (s : Sitting) : Type 0 where
-  pub within : IsWithin limits
+  pub within : IsPossible limits
   pub limits_are : s.store.limits ≡ limits
   pub count : s.spare + 1 ≡ limits.passes
   pub unused : s.knows ≡ newcomer limits (s.spare + 1) s.spare

@@ -153,6 +153,7 @@ impl Prepared {
         ensures store { (session.new.store ≡ session.old.store)
             × (session.new.spare ≡ session.old.spare) }
         ensures read { HasRead session.old.knows session.new.knows }
+        ensures own { OnOk result (IsLiveOf session.old.store self.new.live) }
         ensures ok { OnOk result (RefreshesAtPin session.old.knows self.old.live self.new.live
             self.new.came self.new.went) }
         ensures found { self.new.found ≡ self.old.found }

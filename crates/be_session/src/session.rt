@@ -6,8 +6,9 @@ ghost use Rattle.be_session.specs.Imports.{attribute, attributes_at, entries, en
 ghost use Rattle.be_session.specs.Imports.{index_kinds, name_in, newcomer, nodes_from, one_step_on};
 ghost use Rattle.be_session.specs.Imports.{pinned_number, scan, text_seen, volume_pinned, Accepts};
 ghost use Rattle.be_session.specs.Imports.{AcceptsAt, AnyRefusal, AreNew, FoundHeld, HasRead};
-ghost use Rattle.be_session.specs.Imports.{IsLegal, IsOpenRefused, IsPass, IsPassOf, IsPinnedTo};
-ghost use Rattle.be_session.specs.Imports.{IsReadInto, IsTextOf, IsUnreported, IsWithin};
+ghost use Rattle.be_session.specs.Imports.{IsLargeRefused, IsLegal, IsLiveOf, IsPass, IsPassOf};
+ghost use Rattle.be_session.specs.Imports.{IsPinnedTo, IsPossible, IsReadInto, IsTextOf};
+ghost use Rattle.be_session.specs.Imports.{IsUnreported};
 ghost use Rattle.be_session.specs.Imports.{IsWitnessOf, Learns, LocksAndUnlocks, OutOfMemory, Pins};
 ghost use Rattle.be_session.specs.Imports.{ReportsColumns, ReportsStatus, Unpins};
 ghost use Rattle.be_session.specs.Explained.{explanation_in};
@@ -71,13 +72,13 @@ fn seated(
     pass: Pass,
     spare: Vec<Pass>,
 ) -> Result<Session, Fault>
-    requires limits { (shared.limits ≡ limits) × IsWithin limits }
+    requires limits { (shared.limits ≡ limits) × IsPossible limits }
     requires pass { IsPassOf shared pass
         × (pass.knows ≡ newcomer limits (vec_len spare + 1) (vec_len spare)) }
     requires spare { AreNew shared 0 spare.items × (vec_len spare + 1 ≡ limits.passes) }
     ensures ok { IfOk result (λ s. IsOpened limits s) }
     ensures err { IfErr result (λ e. (why : AnyRefusal) × (e ≡ Refused why)
-        × IsOpenRefused limits why) }
+        × IsLargeRefused limits why) }
 {
     match Arc::new(alloc, shared) {
         Ok(shared) => Ok(Session {
@@ -181,14 +182,15 @@ impl Session {
     /// Opens a new store, and returns a session with the last of its passes, which has seen nothing
     /// yet. The other passes wait with the session.
     ///
-    /// Returns `BadLimits` if a limit is out of range, and only then, or `OutOfMemory`. The call
-    /// allocates all pages, 4 KiB each.
+    /// Returns `BadLimits` if a limit is out of range, and only then, or `OutOfMemory`. A store has
+    /// 8 to 16,777,216 pages. The call allocates them all, 4 KiB each, and briefly needs memory for
+    /// a second copy of their words.
     pub fn open(alloc: Global, limits: Limits) -> Result<Session, Fault>
         ensures ok { IfOk result (λ s. IsOpened limits s) }
         ensures err { IfErr result (λ e. (why : AnyRefusal) × (e ≡ Refused why)
-            × IsOpenRefused limits why) }
+            × IsLargeRefused limits why) }
     {
-        let (store, mut passes) = match Store::open(alloc, limits) {
+        let (store, mut passes) = match Store::open_large(alloc, limits) {
             Ok(opened) => opened,
             Err(refusal) => return Err(Fault::Refused(refusal)),
         };
@@ -562,6 +564,7 @@ impl Session {
     pub fn refresh(&mut self, live: &mut Live) -> Result<Updates, Fault>
         ensures store { (self.new.store ≡ self.old.store) × (self.new.spare ≡ self.old.spare) }
         ensures read { HasRead self.old.knows self.new.knows }
+        ensures own { IfOk result (λ u. IsLiveOf self.old.store live.new) }
         ensures ok { IfOk result (ReturnsRefresh self.old.knows live.old live.new) }
         ensures err { IfErr result (StaysUnrefreshed self.old.knows live.old live.new) }
     {
@@ -671,12 +674,15 @@ impl Session {
     }
 
     /// Returns the attributes of a node in the pinned version, sorted by the bytes of their names.
+    /// `OutOfMemory` is returned only for nodes that exist.
     pub fn attrs(&mut self, alloc: Global, node: u64) -> Result<Vec<(Name, Value)>, Fault>
         ensures store { (self.new.store ≡ self.old.store) × (self.new.spare ≡ self.old.spare) }
         ensures read { HasRead self.old.knows self.new.knows }
         ensures list { AtPin (pinned_number self.old.knows.phase) result
             (ReadAnswers (λ list. list.items) result
             (attributes_at (volume_pinned self.old.knows) node)) }
+        ensures wanted { IfErr result (λ e. e ≡ Refused OutOfMemory
+            → IsOk (attributes_at (volume_pinned self.old.knows) node)) }
     {
         let Some(_) = self.pass.pinned() else {
             return Err(Fault::NotPinned);

@@ -14,7 +14,7 @@ use Rattle.be_table.specs.Counts.{count_below}
 use Rattle.be_table.specs.Place.{Work}
 use Rattle.be_table.specs.Reading.{open_of, page_state_among, page_state_in_work, word_of_page, words_of, StaysOpen}
 use Rattle.be_table.specs.Seats.{pinned_number}
-use Rattle.be_table.specs.Rule.{announce_word, entries, page_at, reach_at}
+use Rattle.be_table.specs.Rule.{largest_pool, announce_word, entries, page_at, reach_at}
 use Rattle.be_table.specs.Steps.{lowest_found, own_lowest, with_history, without_lock}
 use Rattle.be_table.specs.Versions.{at_start}
 use Rattle.be_table.specs.Works.{HasNoRoom, IsFull, IsSpent, Moves}
@@ -65,7 +65,7 @@ pub is_short : (w v : Work) (ops : List Op) (least : ℕ) → Begins w.knows →
 is_short w v ops least b kept full few =
     let seen : v.knows.seen ≡ w.knows.seen = ap (λ (o : StaysOpen). o.seen) kept in
     let limits : v.knows.limits ≡ w.knows.limits = ap (λ (o : StaysOpen). o.limits) kept in
-    let small : v.knows.limits.pages ≤ 16384 = subst (λ (l : Limits). l.pages ≤ 16384) (sym limits) b.small in record {
+    let small : v.knows.limits.pages ≤ largest_pool = subst (λ (l : Limits). l.pages ≤ largest_pool) (sym limits) b.small in record {
       spent = full.0;
       current = subst (λ (x : List Commit × Limits). AreFewFor (replay (entries x.0)) (count_below (has (reach_at x.0 (length x.0))) x.1.pages)) (λ i. (sym seen i, sym limits i)) (few_current w.knows b);
       few = λ most indices high within tall.

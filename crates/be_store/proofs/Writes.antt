@@ -11,7 +11,7 @@ use Rattle.be_table.specs.declared.pass.Move.{Move}
 use Rattle.be_table.specs.declared.pass.Move.TheVariants.{Publish}
 use Rattle.be_table.specs.Place.{Work}
 use Rattle.be_table.specs.Reading.{open_of, page_state_among, page_state_in_work, word_of_page, words_of, StaysOpen}
-use Rattle.be_table.specs.Rule.{entries, page_at, reach_at}
+use Rattle.be_table.specs.Rule.{largest_pool, entries, page_at, reach_at}
 use Rattle.be_table.specs.Steps.{commit_of, entry_by, given_of, publishes, with_history}
 use Rattle.be_table.specs.Trace.{Makes, upto_lock}
 use Rattle.be_table.specs.Working.{HasWorked, WorksOn}
@@ -43,7 +43,7 @@ begins_scanned old new least h b =
     let k : Knowledge = old.knows in
     let begun : (q : ℕ) → page_state_among new.knows.places q ≡ at_start (has (reach_at k.seen (length k.seen)) q) = λ q. ap (λ ps. page_state_among ps q) h.places ∙ swept_in least k.places q ∙ b.begun q in
     let same : new.knows ≡ record k { scanned = 0; least = least; places = new.knows.places; held = new.knows.held; steps = new.knows.steps; history = new.knows.history } = ap (λ (w : Work). w.knows) h.same in record {
-      small = subst (λ (x : Knowledge). x.limits.pages ≤ 16384) (sym same) b.small;
+      small = subst (λ (x : Knowledge). x.limits.pages ≤ largest_pool) (sym same) b.small;
       unpublished = ap (λ (x : Knowledge). x.published) same ∙ b.unpublished;
       begun = λ q. begun q ∙ ap (λ (x : List Commit). at_start (has (reach_at x (length x)) q)) (sym (ap (λ (x : Knowledge). x.seen) same));
       encoded = subst (λ (x : List Commit × List ℕ). EncodesVolume (reach_at x.0 (length x.0)) (word_of_page x.1) (page_at x.0 (length x.0)) (replay (entries x.0)))

@@ -17,14 +17,14 @@ pub use Rattle.be_table.specs.History.{AreOfPasses, StartsWith}
 pub use Rattle.be_table.specs.Place.{Opened, Work}
 pub use Rattle.be_table.specs.Reading.{open_of, page_state_among, page_state_in_work}
 pub use Rattle.be_table.specs.Reading.{pinned_page_state, word_of_page, words_of}
-pub use Rattle.be_table.specs.Rule.{IsWithin, entries, newcomer, one_step_on}
+pub use Rattle.be_table.specs.Rule.{IsPossible, IsWithin, entries, newcomer, one_step_on}
 pub use Rattle.be_table.specs.Seats.{pinned_number}
 pub use Rattle.be_table.specs.Steps.{Has, IsPass, KeepsSeen, entry_by, longer, met, unpins}
 pub use Rattle.be_table.specs.Steps.{with_history}
 pub use Rattle.be_table.specs.Trace.{HasTrace, upto_lock}
 pub use Rattle.be_table.specs.Versions.{CanEncodeEach}
 pub use Rattle.be_table.specs.Works.{AllAt, AreNew, FoundHeld, IsFull, IsOpenRefused, IsSeatOf}
-pub use Rattle.be_table.specs.Works.{IsWitnessOf, Moves, TakesLock, knows_of}
+pub use Rattle.be_table.specs.Works.{IsLargeRefused, IsWitnessOf, Moves, TakesLock, knows_of}
 pub use Rattle.be_table.specs.declared.limits.Limits.{Limits}
 pub use Rattle.be_table.specs.declared.pass.Commit.{Commit}
 pub use Rattle.be_table.specs.declared.pass.Knowledge.{Knowledge}

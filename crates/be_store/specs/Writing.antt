@@ -11,7 +11,7 @@ use Rattle.be_table.specs.declared.pass.Move.{Move}
 use Rattle.be_table.specs.declared.pass.Move.TheVariants.{Publish}
 use Rattle.be_table.specs.Place.{Work}
 use Rattle.be_table.specs.Reading.{page_state_among, word_of_page}
-use Rattle.be_table.specs.Rule.{page_at, reach_at}
+use Rattle.be_table.specs.Rule.{largest_pool, page_at, reach_at}
 use Rattle.be_table.specs.Steps.{entry_by}
 use Rattle.be_table.specs.Trace.{Makes, upto_lock}
 use Rattle.be_table.specs.Versions.{at_start, EncodesVolume}
@@ -27,7 +27,7 @@ use Rattle.be_store.specs.Passes.{volume_seen}
 -- An open write that hasn't taken any page yet. The states and words of its pages are those of the
 -- current version.
 pub record Begins (k : Knowledge) : Type 0 where
-  pub small : k.limits.pages ≤ 16384
+  pub small : k.limits.pages ≤ largest_pool
   pub unpublished : k.published ≡ false
   pub begun : (q : ℕ) → page_state_among k.places q
       ≡ at_start (has (reach_at k.seen (length k.seen)) q)

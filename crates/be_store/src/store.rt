@@ -48,7 +48,8 @@ impl Store {
     ghost use Rattle.be_store.specs.Imports.{pinned_number, pinned_page_state, scan, unpins};
     ghost use Rattle.be_store.specs.Imports.{with_history, word_of_page, AllAt, Answers, AreNew};
     ghost use Rattle.be_store.specs.Imports.{AreOfPasses, CanEncodeEach, FoundHeld, Has, HasTrace};
-    ghost use Rattle.be_store.specs.Imports.{IsLegal, IsOpenRefused, IsStrictlyIncreasing};
+    ghost use Rattle.be_store.specs.Imports.{IsLargeRefused, IsLegal, IsOpenRefused, IsPossible};
+    ghost use Rattle.be_store.specs.Imports.{IsStrictlyIncreasing};
     ghost use Rattle.be_store.specs.Imports.{IsVersion, IsWithin, IsWitnessOf, KeepsSeen, Moves};
     ghost use Rattle.be_store.specs.Imports.{NotCovered, OutOfMemory, StartsWith, TakesLock};
     ghost use Rattle.be_store.specs.Calls.{AreInOneTrace, HasWrites, ReadsFronts};
@@ -67,6 +68,18 @@ impl Store {
     {
         let (table, passes) = VersionTable::open(alloc, limits, &first_page())?;
         Ok((Store { table }, passes))
+    }
+
+    /// Does what `open` does, for a store of up to 16,777,216 pages. No other call costs more in a
+    /// large store, but for the greater height of its trees.
+    pub fn open_large(alloc: Global, limits: Limits) -> Result<(Store, Vec<Pass>), Refusal>
+        ensures { MatchResult result
+            (λ r. (r.0.limits ≡ limits) × (length r.1.items ≡ limits.passes)
+            × AreNew r.0 0 r.1.items × IsPossible limits)
+            (λ e. IsLargeRefused limits e) }
+    {
+        let (table, seats) = VersionTable::open_large(alloc, limits, &first_page())?;
+        Ok((Store { table }, seats))
     }
 
     /// Takes the lock and returns an open write. The pass is blank until the caller puts back the

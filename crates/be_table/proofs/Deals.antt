@@ -28,7 +28,7 @@ use Rattle.be_journal.specs.Journal.{replay}
 use Rattle.be_volume.specs.Volume.{empty}
 use Rattle.be_table.specs.Versions.{in_pages, CanEncodeEach, EncodesVolume}
 use Rattle.be_table.specs.Place.{SeatFacts}
-use Rattle.be_table.specs.Rule.{alone, ViewFits, AreFronts, empty_view, witnessing, kept_seat, front_seat, undealt, writer_state_places, Board, IsWithin, IsSoundBoard, AreInside, reach_at, page_at, word_place, Fits, IsAbsent, AllFit, IsTrace, Shows, newcomer, newcomers, everyone, one_step_on, first_seat, other_seats, seats_together}
+use Rattle.be_table.specs.Rule.{alone, ViewFits, AreFronts, empty_view, witnessing, kept_seat, front_seat, undealt, writer_state_places, Board, IsPossible, IsSoundBoard, AreInside, reach_at, page_at, word_place, Fits, IsAbsent, AllFit, IsTrace, Shows, newcomer, newcomers, everyone, one_step_on, first_seat, other_seats, seats_together}
 use Rattle.be_table.specs.Seats.{IsReported}
 use Rattle.be_table.specs.Works.{AreNewAt}
 use Rattle.be_table.proofs.Histories.{starts_itself, by_pass-nil, legal-nil, below-nil}
@@ -237,7 +237,7 @@ unfolding newcomers
 newcomers-absent limits j k zero lt = tt
 newcomers-absent limits j k (suc n) lt = ((λ e. omega arith), newcomers-absent limits j (suc k) n (omega arith))
 
-some_page : (limits : Limits) → IsWithin limits → 0 < limits.pages
+some_page : (limits : Limits) → IsPossible limits → 0 < limits.pages
 some_page limits within = let w = within.some_pages in omega arith
 
 -- version 0 has only page 0
@@ -275,7 +275,7 @@ zero_first : (p : ℕ) → (p == 0) ≡ has (0 ∷ []) p
 zero_first zero = refl
 zero_first (suc p) = rw (ne_eqb 0 (suc p) (λ z. absurd (omega arith)), ne_eqb (suc p) 0 (λ z. absurd (omega arith))) refl
 
-pub begins : (limits : Limits) (words : List ℕ) (writer_state : WriterState) → IsWithin limits → length words ≡ 528 + 512 * limits.pages → ((k : ℕ) → k < 528 → slice_index words k ≡ 0)
+pub begins : (limits : Limits) (words : List ℕ) (writer_state : WriterState) → IsPossible limits → length words ≡ 528 + 512 * limits.pages → ((k : ℕ) → k < 528 → slice_index words k ≡ 0)
     → writer_state.journal.entries ≡ [] → writer_state.journal.limit ≡ limits.commits → writer_state.page ≡ 0 → length (writer_state_places writer_state) ≡ limits.pages → ShowsPlaces (writer_state_places writer_state) (first_board limits words).world → map undone_place (writer_state_places writer_state) ≡ (writer_state_places writer_state) → writer_state.left ≡ 0
     → EncodesVolume (0 ∷ []) (in_pages (λ p i. slice_index words (word_place p i))) 0 empty
     → Shows limits (opening words (Some writer_state ∷ []) (everyone limits))
@@ -345,7 +345,7 @@ newcomers-deal limits of i t k n v e = subst (λ u. Splits (Shows limits) i u (o
 abbrev pub Me2 : Type 0
 Me2 = Me (Option WriterState) View
 
-pub newcomer_reported : (limits : Limits) (t k : ℕ) → IsWithin limits → k < limits.passes → IsReported (newcomer limits t k) k 0
+pub newcomer_reported : (limits : Limits) (t k : ℕ) → IsPossible limits → k < limits.passes → IsReported (newcomer limits t k) k 0
 newcomer_reported limits t k within lt = record { number_is = refl; seen_is = refl; writes = refl; pass = record { within = within; legal = legal-nil; number_below = lt; by_passes = below-nil limits.passes; room = omega arith; inside = first_inside limits.pages (some_page limits within); own_pages = first_own; volumes = none_encoded limits.pages; pin = tt; mine = by_pass-nil k; encoded = λ x n e. absurd (cc) } }
 
 pub AreNewAt-push : (id : TableId) (limits : Limits) (k : ℕ) (ss : List SeatFacts) (s : SeatFacts) → AreNewAt id limits k ss → (s.blank ≡ false) × (s.table ≡ id) × (s.knows ≡ newcomer limits (k + length ss + 1) (k + length ss)) → AreNewAt id limits k (ss ++ s ∷ [])
@@ -363,7 +363,7 @@ unfolding newcomers
 newcomers-none limits t k n e = ap (undealt limits t k) e
 
 -- page 0 is current, and all others are free
-pub first_places : (limits : Limits) (words : List ℕ) (places : List PagePlace) → IsWithin limits → length places ≡ limits.pages → ((q : ℕ) → q < 1 → place_of places q ≡ Current) → ((q : ℕ) → 1 ≤ q → q < limits.pages → place_of places q ≡ Free)
+pub first_places : (limits : Limits) (words : List ℕ) (places : List PagePlace) → IsPossible limits → length places ≡ limits.pages → ((q : ℕ) → q < 1 → place_of places q ≡ Current) → ((q : ℕ) → 1 ≤ q → q < limits.pages → place_of places q ≡ Free)
     → ShowsPlaces places (first_board limits words).world × (map undone_place places ≡ places)
 first_places limits words places within count used unused = (record { free = λ p. (at p).0; taken = λ p. (at p).1; retired = λ p. (at p).2 }, sym (mapped undone_place refl places places refl (λ q lt. (at q).3)))
   where
@@ -374,7 +374,7 @@ first_places limits words places within count used unused = (record { free = λ 
       | inr le ↦ rw (get_or_past places (suc p) Current (omega (arith, le, count)), le-ltb (suc p) limits.pages le) (refl, refl, refl, refl)
     ]
 
-pub begins_as : (limits : Limits) (words : List ℕ) (slots : List (Option WriterState)) (writer_state : WriterState) → slots ≡ Some writer_state ∷ [] → IsWithin limits → length words ≡ 528 + 512 * limits.pages → ((k : ℕ) → k < 528 → slice_index words k ≡ 0)
+pub begins_as : (limits : Limits) (words : List ℕ) (slots : List (Option WriterState)) (writer_state : WriterState) → slots ≡ Some writer_state ∷ [] → IsPossible limits → length words ≡ 528 + 512 * limits.pages → ((k : ℕ) → k < 528 → slice_index words k ≡ 0)
     → writer_state.journal.entries ≡ [] → writer_state.journal.limit ≡ limits.commits → writer_state.page ≡ 0 → length (writer_state_places writer_state) ≡ limits.pages → ((q : ℕ) → q < 1 → place_of (writer_state_places writer_state) q ≡ Current) → ((q : ℕ) → 1 ≤ q → q < limits.pages → place_of (writer_state_places writer_state) q ≡ Free) → writer_state.left ≡ 0 → EncodesVolume (0 ∷ []) (in_pages (λ p i. slice_index words (word_place p i))) 0 empty → Shows limits (opening words slots (everyone limits))
 begins_as limits words slots writer_state e within size blank none limit page count used unused left first =
     let x = first_places limits words (writer_state_places writer_state) within count used unused in

@@ -19,7 +19,7 @@ use Rattle.be_table.specs.declared.pass.Knowledge.{Knowledge}
 use Rattle.be_journal.specs.declared.entries.Entry.{Entry}
 use Rattle.be_journal.specs.Journal.{by_pass, replay}
 use Rattle.be_table.specs.History.{StartsWith, AreOfPasses}
-use Rattle.be_table.specs.Rule.{alone, ViewFits, AreFronts, Board, entries, nothing, reach_at, page_at, lock_word, announce_word, word_place, PagesAgree, is_writer, known_writer, WordsAgree, IsHome, IsWithin, ReachesAgree, AreInside, IsSoundBoard, Holds, ImageIs, Fits, AllFit, ViewsFit, FitsBoard, one_step_on}
+use Rattle.be_table.specs.Rule.{alone, ViewFits, AreFronts, Board, entries, nothing, reach_at, page_at, lock_word, announce_word, word_place, PagesAgree, is_writer, known_writer, WordsAgree, IsHome, IsPossible, ReachesAgree, AreInside, IsSoundBoard, Holds, ImageIs, Fits, AllFit, ViewsFit, FitsBoard, one_step_on}
 use Rattle.be_table.specs.Steps.{IsPass, finds_held}
 use Rattle.be_table.specs.Reading.{word_of_page}
 use Rattle.be_table.specs.Versions.{in_pages, CanEncode, CanEncodeEach, EncodesVolume}
@@ -143,7 +143,7 @@ encoded_before pages log seen s all = λ n lt.
 
 pub is_pass : (limits : Limits) (b : Board) (i : ℕ) (a : Knowledge) → IsSoundBoard limits b → Fits limits b i a → IsPass a
 is_pass limits b i a s f = record {
-  within = subst IsWithin (sym f.limits_are) s.within;
+  within = subst IsPossible (sym f.limits_are) s.within;
   legal = legal-front (entries b.log) (entries a.seen) (entries-start b.log a.seen f.seen) s.legal;
   number_below = subst (λ (l : Limits). a.number < l.passes) (sym f.limits_are) f.number;
   by_passes = subst (λ (l : Limits). AreOfPasses l.passes (entries a.seen)) (sym f.limits_are) (below-front limits.passes (entries b.log) (entries a.seen) (entries-start b.log a.seen f.seen) s.by_passes);

@@ -19,7 +19,7 @@ use Rattle.be_table.specs.WriterState.{is_of_next}
 use Rattle.be_table.specs.declared.pass.Knowledge.{Knowledge}
 use Rattle.be_table.specs.Place.{Work}
 use Rattle.be_table.specs.Reading.{open_of, page_state_at, page_state_among, page_state_in_work, word_of_page, words_of}
-use Rattle.be_table.specs.Rule.{reach_at}
+use Rattle.be_table.specs.Rule.{largest_pool, reach_at}
 use Rattle.be_table.specs.Steps.{pages_from}
 use Rattle.be_table.specs.Versions.{at_start, EncodesVolume}
 use Rattle.be_table.proofs.Listed.{listed, tested, untested}
@@ -36,16 +36,16 @@ nowhere : (b : Bool) → (at_start false ≡ after_keep (if b then Nowhere else 
 nowhere true = (refl, refl)
 nowhere false = (refl, refl)
 
-module _ (xs : List Place) (few : length xs ≤ 16384) (none : (q : ℕ) → page_state_among xs q ≢ Taken) where
+module _ (xs : List Place) (few : length xs ≤ largest_pool) (none : (q : ℕ) → page_state_among xs q ≢ Taken) where
   -- a page of the new version is one that the write keeps
   kept_at : (q : ℕ) → (at_start (has (pages_from is_of_next 0 xs) q) ≡ after_keep (page_state_among xs q)) × (has (pages_from is_of_next 0 xs) q ≡ state_is_kept (page_state_among xs q))
   kept_at q = elim (cases_lt q (length xs)) [
     | inl lt ↦
-        let in_range : nat_lt q 16384 ≡ true = lt-ltb q 16384 (omega (arith, lt, few)) in
+        let in_range : nat_lt q largest_pool ≡ true = lt-ltb q largest_pool (omega (arith, lt, few)) in
         let place : slice_index_or xs q Free ≡ place_of xs q = get_or_default xs q Free Current lt in
         let lies : page_state_among xs q ≡ page_state_at (place_of xs q) = rw (in_range, place) refl in
         rw (listed is_of_next xs q, tested is_of_next xs q lt, lies) (by_place (place_of xs q) (λ e. none q (lies ∙ e)))
-    | inr le ↦ rw (listed is_of_next xs q, untested is_of_next xs q le, get_or_past xs q Free le) (nowhere (nat_lt q 16384))
+    | inr le ↦ rw (listed is_of_next xs q, untested is_of_next xs q le, get_or_past xs q Free le) (nowhere (nat_lt q largest_pool))
   ]
 
   pub encodes_kept : (words : ℕ → ℕ → ℕ) (page : ℕ) (volume : State) → IsVersion (page_state_among xs) words page volume → ((q : ℕ) → times q (reach words page) ≡ bit (state_is_kept (page_state_among xs q))) → EncodesVolume (pages_from is_of_next 0 xs) words page volume

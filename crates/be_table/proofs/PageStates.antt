@@ -19,6 +19,7 @@ use Rattle.be_table.specs.Versions.{at_start}
 use Rattle.be_table.specs.Works.{FindsNone}
 use Rattle.be_value.specs.declared.refusals.Refusal.{Refusal}
 use Rattle.be_table.proofs.WriterStates.{place-map}
+use Rattle.be_table.specs.Rule.{largest_pool}
 
 -- the sets of a page with this place
 one_place : (x : Place) (r : Bool) → bit (shows_free x) + bit (shows_taken x) + bit (Rattle.std.specs.Prelude.is_some (retired_with x)) + bit r ≡ 1 → r ≡ is_current x
@@ -54,14 +55,14 @@ module _ (xs : List Place) (w : World) (s : Sound w) (shown : ShowsPlaces xs w) 
       no_place (w.free q) (w.taken q) (Rattle.std.specs.Prelude.is_some (w.retired q)) (w.reach w.current q) (p ∙ ap bit past)
 
   -- while no pass writes
-  pub begun : length xs ≤ 16384 → map undone_place xs ≡ xs → (q : ℕ) → page_state_among xs q ≡ at_start (w.reach w.current q)
+  pub begun : length xs ≤ largest_pool → map undone_place xs ≡ xs → (q : ℕ) → page_state_among xs q ≡ at_start (w.reach w.current q)
   begun few idle q = elim (cases_lt q (length xs)) [
     | inl lt ↦
-        let in_range : nat_lt q 16384 ≡ true = lt-ltb q 16384 (omega (arith, lt, few)) in
+        let in_range : nat_lt q largest_pool ≡ true = lt-ltb q largest_pool (omega (arith, lt, few)) in
         let place : slice_index_or xs q Free ≡ place_of xs q = get_or_default xs q Free Current lt in
         let same : place_of xs q ≡ undone_place (place_of xs q) = ap (λ l. place_of l q) (sym idle) ∙ place-map undone_place refl xs q in
         rw (in_range, place, reach_shown q lt) (by_place (place_of xs q) same)
-    | inr le ↦ rw (get_or_past xs q Free le, reach_past q le) (nowhere (nat_lt q 16384))
+    | inr le ↦ rw (get_or_past xs q Free le, reach_past q le) (nowhere (nat_lt q largest_pool))
   ]
     where
       by_place : (x : Place) → x ≡ undone_place x → page_state_at x ≡ at_start (is_current x)
@@ -79,8 +80,8 @@ module _ (xs : List Place) (w : World) (s : Sound w) (shown : ShowsPlaces xs w) 
 -- a page whose state is filled is a page of the table
 pub filled_place : (xs : List Place) (q : ℕ) → page_state_among xs q ≡ Full → (q < length xs) × (place_of xs q ≡ Filled)
 filled_place xs q is = elim (cases_lt q (length xs)) [
-  | inl lt ↦ (lt, by_place (place_of xs q) (nat_lt q 16384) (ap (λ x. if nat_lt q 16384 then page_state_at x else Nowhere) (sym (get_or_default xs q Free Current lt)) ∙ is))
-  | inr le ↦ absurd (none (nat_lt q 16384) (ap (λ x. if nat_lt q 16384 then page_state_at x else Nowhere) (sym (get_or_past xs q Free le)) ∙ is))
+  | inl lt ↦ (lt, by_place (place_of xs q) (nat_lt q largest_pool) (ap (λ x. if nat_lt q largest_pool then page_state_at x else Nowhere) (sym (get_or_default xs q Free Current lt)) ∙ is))
+  | inr le ↦ absurd (none (nat_lt q largest_pool) (ap (λ x. if nat_lt q largest_pool then page_state_at x else Nowhere) (sym (get_or_past xs q Free le)) ∙ is))
 ]
   where
     none : (b : Bool) → (if b then Nowhere else Nowhere) ≡ Full → ⊥
@@ -108,10 +109,10 @@ none_past xs none p is = elim (cases_lt p (length xs)) [
 ]
 
 -- if no page's state is taken, none is reserved
-pub unreserved : (xs : List Place) (q : ℕ) → page_state_among xs q ≢ Taken → length xs ≤ 16384 → place_of xs q ≢ Reserved
+pub unreserved : (xs : List Place) (q : ℕ) → page_state_among xs q ≢ Taken → length xs ≤ largest_pool → place_of xs q ≢ Reserved
 unreserved xs q none few is = elim (cases_lt q (length xs)) [
   | inl lt ↦
-      let in_range : nat_lt q 16384 ≡ true = lt-ltb q 16384 (omega (arith, lt, few)) in
+      let in_range : nat_lt q largest_pool ≡ true = lt-ltb q largest_pool (omega (arith, lt, few)) in
       let place : slice_index_or xs q Free ≡ place_of xs q = get_or_default xs q Free Current lt in
       none (rw (in_range, place, is) refl)
   | inr le ↦ absurd (let past : place_of xs q ≡ Current = get_or_past xs q Current le in let e : Current ≡ Reserved = sym past ∙ is in cc)
@@ -131,7 +132,7 @@ swept_page_state l (Retired r) = by (nat_lt r l)
     by false = refl
 
 pub swept_in : (l : ℕ) (xs : List Place) (q : ℕ) → page_state_among (map (swept_place l) xs) q ≡ page_state_among xs q
-swept_in l xs q = ap (λ s. if nat_lt q 16384 then s else Nowhere) (by xs q)
+swept_in l xs q = ap (λ s. if nat_lt q largest_pool then s else Nowhere) (by xs q)
   where
     by : (xs : List Place) (k : ℕ) → page_state_at (slice_index_or (map (swept_place l) xs) k Free) ≡ page_state_at (slice_index_or xs k Free)
     by [] k = refl
@@ -148,7 +149,7 @@ full_stays (Err e) old new h =
 pub readable_inside : (xs : List Place) (q : ℕ) → IsTrue (is_readable (page_state_among xs q)) → q < length xs
 readable_inside xs q read = elim (cases_lt q (length xs)) [
   | inl lt ↦ lt
-  | inr le ↦ absurd (none (nat_lt q 16384) (ap (λ x. is_readable (if nat_lt q 16384 then page_state_at x else Nowhere)) (sym (get_or_past xs q Free le)) ∙ read))
+  | inr le ↦ absurd (none (nat_lt q largest_pool) (ap (λ x. is_readable (if nat_lt q largest_pool then page_state_at x else Nowhere)) (sym (get_or_past xs q Free le)) ∙ read))
 ]
   where
     none : (b : Bool) → is_readable (if b then Nowhere else Nowhere) ≡ true → ⊥
@@ -156,7 +157,7 @@ readable_inside xs q read = elim (cases_lt q (length xs)) [
     none false e = cc
 
 pub taken_among : (xs : List Place) (q : ℕ) → IsTrue (is_readable (page_state_among xs q)) → is_in_hand (place_of xs q) ≡ is_taken (page_state_among xs q)
-taken_among xs q read = in_range (nat_lt q 16384) (place_of xs q) (slice_index_or xs q Free) (get_or_default xs q Free Current (readable_inside xs q read)) read
+taken_among xs q read = in_range (nat_lt q largest_pool) (place_of xs q) (slice_index_or xs q Free) (get_or_default xs q Free Current (readable_inside xs q read)) read
   where
     by : (x : Place) → is_in_hand x ≡ is_taken (page_state_at x)
     by Free = refl

@@ -16,7 +16,7 @@ use Rattle.be_table.specs.declared.pass.Commit.{Commit}
 use Rattle.be_table.specs.declared.pass.Knowledge.{Knowledge}
 use Rattle.be_table.specs.Counts.{count_below, is_reached, reached}
 use Rattle.be_table.specs.Reading.{page_state_among, page_state_at}
-use Rattle.be_table.specs.Rule.{reach_at}
+use Rattle.be_table.specs.Rule.{largest_pool, reach_at}
 use Rattle.be_table.specs.Steps.{NoCommitReaches}
 use Rattle.be_table.specs.Versions.{EncodesVolume}
 use Rattle.be_table.specs.Works.{HoldsStill, IsSpent}
@@ -136,10 +136,10 @@ in_hand_taken Current h = h
 in_hand_taken GivenUp h = h
 in_hand_taken (Retired n) h = h
 
-taken_at : (xs : List Place) (p : ℕ) → p < 16384 → IsTrue (is_in_hand (place_of xs p)) → is_taken (page_state_among xs p) ≡ true
+taken_at : (xs : List Place) (p : ℕ) → p < largest_pool → IsTrue (is_in_hand (place_of xs p)) → is_taken (page_state_among xs p) ≡ true
 taken_at xs p small h = elim (cases_lt p (length xs)) [
   | inl lt ↦
-      let in_range : nat_lt p 16384 ≡ true = lt-ltb p 16384 (omega (arith, small)) in
+      let in_range : nat_lt p largest_pool ≡ true = lt-ltb p largest_pool (omega (arith, small)) in
       let place : slice_index_or xs p Nowhere ≡ place_of xs p = get_or_default xs p Nowhere Current lt in
       rw (in_range, place) (in_hand_taken (place_of xs p) h)
   | inr le ↦ absurd (let past : place_of xs p ≡ Current = get_or_past xs p Current le in let e : false ≡ true = sym (ap is_in_hand past) ∙ h in cc)
@@ -149,7 +149,7 @@ one_of_true : (b t : Bool) → (b ≡ true → t ≡ true) → bit b ≤ one_of 
 one_of_true false t h = omega arith
 one_of_true true t h = subst (λ (c : Bool). 1 ≤ one_of c) (sym (h refl)) (omega arith)
 
-pub still_counted : (a : Knowledge) (n : ℕ) → HoldsStill a → n ≤ 16384 → count_below (has a.held) n ≤ in_hand n (page_state_among a.places)
+pub still_counted : (a : Knowledge) (n : ℕ) → HoldsStill a → n ≤ largest_pool → count_below (has a.held) n ≤ in_hand n (page_state_among a.places)
 still_counted a zero still small = omega arith
 still_counted a (suc n) still small =
     omega (arith, still_counted a n still (omega (arith, small)), one_of_true (has a.held n) (is_taken (page_state_among a.places n)) (λ h. taken_at a.places n (omega (arith, small)) (still n h)))

@@ -27,7 +27,7 @@ use Rattle.be_table.specs.WriterState.{is_given, shows_taken}
 use Rattle.be_table.specs.Trace.{MayReturn, Run, RunsTo}
 use Rattle.be_table.specs.Rule.{writer_state_places, LeftAreRetired, Board, FitsBoard, Shows}
 use Rattle.be_table.specs.Rule.{IsUnused}
-use Rattle.be_table.specs.Rule.{IsWithin, entries, page_at, reach_at, word_place, announce_word}
+use Rattle.be_table.specs.Rule.{IsPossible, entries, page_at, reach_at, word_place, announce_word}
 use Rattle.be_table.specs.Rule.{current_word, HasCurrent, alone, beside, empty_view, witnessing}
 use Rattle.be_table.specs.Rule.{informed, first_seat, other_seats, seats_together, one_step_on}
 use Rattle.be_table.specs.Steps.{LookReported, Reported, PinnedAt, Unpinned, PinnedRead, Locked}
@@ -265,8 +265,8 @@ EventsAreMoves = (w : World) (e : Event) → Allowed w e → Run w (moves_of e) 
 -- wherever moves lead from the start of a table, the machine's invariant holds: no page of a pinned
 -- version is free, taken or changed
 abbrev pub RunsAreSound : Type 0
-RunsAreSound = (limits : Limits) (words : ℕ → ℕ → ℕ) (ms : List Move) (w : World) → IsWithin limits
-    → RunsTo limits words ms w → Sound w × Protected w
+RunsAreSound = (limits : Limits) (words : ℕ → ℕ → ℕ) (ms : List Move) (w : World)
+    → IsPossible limits → RunsTo limits words ms w → Sound w × Protected w
 
 -- each prefix of a run is a run
 abbrev pub FrontsRun : Type 0

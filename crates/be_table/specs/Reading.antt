@@ -19,7 +19,7 @@ use Rattle.be_table.specs.declared.pass.Commit.{Commit}
 use Rattle.be_table.specs.declared.pass.Knowledge.{Knowledge}
 use Rattle.be_table.specs.declared.pass.Move.{Move}
 use Rattle.be_table.specs.Place.{Opened, Work, Pin}
-use Rattle.be_table.specs.Rule.{reach_at, word_place}
+use Rattle.be_table.specs.Rule.{largest_pool, reach_at, word_place}
 use Rattle.be_table.specs.Trace.{upto_lock}
 
 abbrev pub page_state_at : Place → PageState
@@ -32,8 +32,8 @@ page_state_at (Retired r) = Nowhere
 
 -- the state of a page in a write with these places
 abbrev pub page_state_among : List Place → ℕ → PageState
-page_state_among places q = if nat_lt q 16384 then page_state_at (slice_index_or places q Free)
-    else Nowhere
+page_state_among places q =
+    if nat_lt q largest_pool then page_state_at (slice_index_or places q Free) else Nowhere
 
 -- word i of the page q
 abbrev pub word_of_page : List ℕ → ℕ → ℕ → ℕ
@@ -75,20 +75,21 @@ reach_of (Announced a) seen = []
 reach_of (Pinned a n) seen = reach_at seen n
 
 abbrev pub pinned_page_state : Knowledge → ℕ → PageState
-pinned_page_state a q = if nat_lt q 16384 && has (reach_of a.phase a.seen) q then Old else Nowhere
+pinned_page_state a q =
+    if nat_lt q largest_pool && has (reach_of a.phase a.seen) q then Old else Nowhere
 
 -- the pass without its count of steps
 abbrev pub steady : Knowledge → Knowledge
 steady a = record a { steps = 0 }
 
 pub small_open : (w : Work) (q : ℕ) → page_state_among w.knows.places q ≢ Nowhere → q < 2 ^ 32
-small_open w q some = elim (cases_lt q 16384) [
+small_open w q some = elim (cases_lt q largest_pool) [
   | inl lt ↦ omega (arith, lt)
-  | inr past ↦ absurd (some (rw (le-ltb q 16384 past) refl))
+  | inr past ↦ absurd (some (rw (le-ltb q largest_pool past) refl))
 ]
 
 pub small_pin : (p : Pin) (q : ℕ) → pinned_page_state p.knows q ≢ Nowhere → q < 2 ^ 32
-small_pin p q some = elim (cases_lt q 16384) [
+small_pin p q some = elim (cases_lt q largest_pool) [
   | inl lt ↦ omega (arith, lt)
-  | inr past ↦ absurd (some (rw (le-ltb q 16384 past) refl))
+  | inr past ↦ absurd (some (rw (le-ltb q largest_pool past) refl))
 ]

@@ -7,7 +7,7 @@ use lib.ListN.{get_elem?}
 use Rattle.atomic_table.specs.Table.{State}
 use Rattle.be_core.specs.declared.event.Phase.{Phase}
 use Rattle.be_core.specs.declared.event.Phase.TheVariants.{Idle, Looked, Announced, Pinned}
-use Rattle.be_core.specs.Machine.{World, Writer, Sound, InTime, has, AreLimits}
+use Rattle.be_core.specs.Machine.{World, Writer, Sound, InTime, has, most_pages, AreLimits}
 use Rattle.be_journal.specs.declared.entries.Entry.{Entry}
 use Rattle.be_pages.specs.PagePool.{places}
 use Rattle.be_table.specs.declared.writer_state.WriterState.{WriterState}
@@ -127,11 +127,19 @@ pub record ShowsBoard (b : Board) (s : State (Option WriterState) View) : Type 0
 
 -- ## The second part: the invariants of the journal and the machine, and what each version encodes
 
--- limits that a table may have
-abbrev pub IsWithin : Limits → Type 0
-IsWithin limits = AreLimits 8 limits.pages limits.passes limits.commits
+-- the maximum number of pages of any table
+abbrev pub largest_pool : ℕ
+largest_pool = 16777216
 
--- limits that no table may have
+-- limits that a table may have
+abbrev pub IsPossible : Limits → Type 0
+IsPossible limits = AreLimits 8 largest_pool limits.pages limits.passes limits.commits
+
+-- limits with which `open` opens a table
+abbrev pub IsWithin : Limits → Type 0
+IsWithin limits = AreLimits 8 most_pages limits.pages limits.passes limits.commits
+
+-- limits that `open` refuses as out of range
 abbrev pub AreBad : Limits → Type 0
 AreBad limits = ¬ (IsWithin limits)
 
@@ -148,7 +156,7 @@ abbrev pub OwnPages : List Commit → Type 0
 OwnPages log = (n : ℕ) → n ≤ length log → IsTrue (has (reach_at log n) (page_at log n))
 
 pub record IsSoundBoard (limits : Limits) (b : Board) : Type 0 where
-  pub within : IsWithin limits
+  pub within : IsPossible limits
   pub legal : IsHistory (entries b.log)
   pub by_passes : AreOfPasses limits.passes (entries b.log)
   pub room : length b.log ≤ limits.commits

@@ -30,13 +30,13 @@ use Rattle.be_table.specs.Versions.{at_start, CanEncodeEach, EncodesVolume}
 use Rattle.be_table.specs.Trace.{RunsTo, Makes, HasTrace}
 use Rattle.be_table.specs.Rule.{Reaches, IsKnownBefore, HasCurrent, announce_word}
 use Rattle.be_table.specs.Rule.{writer_state_places}
-use Rattle.be_table.specs.Rule.{LeftAreRetired, IsWithin, AreInside, OwnPages, alone, beside}
+use Rattle.be_table.specs.Rule.{LeftAreRetired, IsPossible, AreInside, OwnPages, alone, beside}
 use Rattle.be_table.specs.Rule.{empty_view, front_of, pass_of, second_of, one_step_on, current_word}
 use Rattle.be_table.specs.Rule.{page_at, reach_at, entries, word_place}
 
 -- what always holds for a pass
 pub record IsPass (a : Knowledge) : Type 0 where
-  pub within : IsWithin a.limits
+  pub within : IsPossible a.limits
   pub legal : IsHistory (entries a.seen)
   pub number_below : a.number < a.limits.passes
   pub by_passes : AreOfPasses a.limits.passes (entries a.seen)

@@ -21,7 +21,8 @@ use Rattle.be_table.specs.Reading.{page_state_among, word_of_page}
 use Rattle.be_table.specs.Versions.{at_start, EncodesVolume}
 use Rattle.be_journal.specs.Journal.{replay}
 use Rattle.be_table.specs.Trace.{AllRest, Makes, RunsTo, upto_lock}
-use Rattle.be_table.specs.Rule.{Reaches, AreBad, IsWithin, entries, page_at, reach_at, newcomer}
+use Rattle.be_table.specs.Rule.{Reaches, AreBad, IsPossible, IsWithin, entries, page_at, reach_at}
+use Rattle.be_table.specs.Rule.{largest_pool, newcomer}
 use Rattle.be_table.specs.Rule.{announce_word}
 use Rattle.be_table.specs.Steps.{Has, AllIdle, KeepsSeen, IsPass, looks, finds_held, takes_lock}
 use Rattle.be_table.specs.Steps.{pins, takes_page, take_moves, scans_all, IsLowestAnnounced}
@@ -157,7 +158,8 @@ FillsWord old new page i word =
 -- the write has taken this page, which was free
 abbrev pub TakesFree : Work → Work → ℕ → Type 0
 TakesFree old new page =
-    (page < length old.knows.places) × (page < 16384) × (place_of old.knows.places page ≡ Free)
+    (page < length old.knows.places) × (page < largest_pool)
+    × (place_of old.knows.places page ≡ Free)
     × (new ≡ record old { knows = takes_page (with_history old.knows new.knows.history) page })
     × Makes old.knows.number old.knows.history (take_moves old.knows page) new.knows.history
 
@@ -167,7 +169,7 @@ pub record TakesPage (old new : Work) (page : ℕ) : Type 0 where
   pub scan : (between ≡ old) ⊎ ((least : ℕ) × MakesScan old between least)
   pub because : (between ≡ old) ⊎ HasNoFree old
   pub inside : page < length between.knows.places
-  pub small : page < 16384
+  pub small : page < largest_pool
   pub free : place_of between.knows.places page ≡ Free
   pub taken : new ≡ record between {
     knows = takes_page
@@ -220,9 +222,14 @@ pub record FindsNone (old new : Work) (least : ℕ) : Type 0 where
   pub none : (p : ℕ) → p < length new.knows.places → place_of new.knows.places p ≢ Free
   pub full : IsFull new least
 
--- why a table with these limits wasn't opened
+-- why `open` opened no table with these limits
 abbrev pub IsOpenRefused : Limits → Refusal → Type 0
 IsOpenRefused l r = ((r ≡ BadLimits) × AreBad l) ⊎ ((r ≡ OutOfMemory) × IsWithin l)
+
+-- why `open_large` opened no table with these limits
+abbrev pub IsLargeRefused : Limits → Refusal → Type 0
+IsLargeRefused l r = ((r ≡ BadLimits) × (¬ (IsPossible l)))
+    ⊎ ((r ≡ OutOfMemory) × IsPossible l)
 
 -- all seats of this table
 abbrev pub AreAllSeats : Opened → List SeatFacts → Type 0

@@ -4,7 +4,7 @@ ghost use Rattle.std.specs.FinMap as map;
 ghost use Rattle.be_table.specs.Imports.{has, in_hand, items, State};
 ghost use Rattle.be_table.specs.Counts.{count_below, reached};
 ghost use Rattle.be_table.specs.Reading.{page_state_among};
-ghost use Rattle.be_table.specs.Rule.{reach_at};
+ghost use Rattle.be_table.specs.Rule.{largest_pool, reach_at};
 ghost use Rattle.be_table.specs.Versions.{EncodesVolume};
 ghost use Rattle.be_table.specs.Works.{HoldsStill, IsSpent};
 ghost use Rattle.be_table.specs.declared.pass.Knowledge.{Knowledge};
@@ -35,6 +35,6 @@ pub fn encoded_counts()
 /// If a write was refused because no page was left, the pages that it held at the scan are among
 /// those that it still holds.
 pub fn held_counts()
-    ensures { (a : Knowledge) (n : ℕ) → HoldsStill a → n ≤ 16384
+    ensures { (a : Knowledge) (n : ℕ) → HoldsStill a → n ≤ largest_pool
         → count_below (has a.held) n ≤ in_hand n (page_state_among a.places) }
 {}

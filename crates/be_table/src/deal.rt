@@ -1,7 +1,7 @@
 //! Deals seats when a table opens, and gathers them when it closes.
 ghost use Rattle.std.specs.Prelude.{◌≡◌, ◌≤◌, ◌<◌, ℕ, slice_index, [], length, map, vec_capacity};
 ghost use Rattle.std.specs.Prelude.{vec_len, ◌+◌};
-ghost use Rattle.be_table.specs.Rule.{IsWithin, empty_view, everyone};
+ghost use Rattle.be_table.specs.Rule.{IsPossible, empty_view, everyone};
 ghost use Rattle.be_table.specs.Works.{AreNewAt, AllAt, Gathered, knows_of};
 
 use crate::limits::Limits;
@@ -14,7 +14,7 @@ use be_pages::PAGE_WORDS;
 /// Gives each pass a seat.
 pub(crate) fn deal(table: &Inner, rest: &mut Base, limits: Limits, seats: &mut Vec<Seat>)
     requires table { (0 < table.now.shared.table_id.words) × (table.now.shared.key ≡ limits)
-        × IsWithin limits }
+        × IsPossible limits }
     requires rest { (rest.old.table_id ≡ table.now.shared.table_id)
         × (rest.old.me ≡ (everyone limits, [])) }
     requires seats { (seats.old.items ≡ []) × (limits.passes ≤ vec_capacity seats.old) }

@@ -4,7 +4,8 @@
 //! CURRENT: the current version's number times 2^32, plus its version page. Word 16 + 8 k is the
 //! reader slot of pass k: 0 if empty, otherwise the published number + 1. Word i of page p is word
 //! 528 + 512 p + i.
-ghost use Rattle.std.specs.Prelude.{◌≡◌, ℕ, ◌<◌, false, length, map, MatchResult, IsTrue};
+ghost use Rattle.std.specs.Prelude.{◌≡◌, ℕ, ◌<◌, false, length, map, IfErr, IfOk, MatchResult};
+ghost use Rattle.std.specs.Prelude.{IsTrue};
 ghost use Rattle.std.specs.Prelude.{slice_index};
 ghost use Rattle.be_table.specs.Imports.{has};
 ghost use Rattle.be_table.specs.Rule.{one_step_on, reach_at, word_place, page_at};
@@ -53,7 +54,7 @@ pub struct VersionTable {
 impl Model for VersionTable {
     ghost use Rattle.std.specs.Prelude.{◌≡◌, ◌+◌, ◌*◌};
     ghost use Rattle.be_table.specs.Place.{Opened};
-    ghost use Rattle.be_table.specs.Rule.{IsWithin};
+    ghost use Rattle.be_table.specs.Rule.{IsPossible};
 
     ghost Value = { Opened };
 
@@ -61,7 +62,7 @@ impl Model for VersionTable {
 
     ghost invariant = { λ t. (t.table.shared.table_id.words ≡ 528 + 512 * t.limits.pages)
         × (t.table.shared.table_id.slots ≡ 1)
-        × (t.limits ≡ t.table.shared.key) × IsWithin t.limits };
+        × (t.limits ≡ t.table.shared.key) × IsPossible t.limits };
 }
 
 impl VersionTable {
@@ -70,14 +71,15 @@ impl VersionTable {
     ghost use Rattle.be_table.specs.Imports.{empty, replay, IsLegal, IsVersion, Pinned};
     ghost use Rattle.be_table.specs.History.{StartsWith, AreOfPasses};
     ghost use Rattle.be_table.specs.Reading.{pinned_page_state, word_of_page};
-    ghost use Rattle.be_table.specs.Rule.{IsWithin, entries};
+    ghost use Rattle.be_table.specs.Rule.{IsPossible, IsWithin, entries};
     ghost use Rattle.be_table.specs.Steps.{announces, unpins, longer, KeepsSeen};
     ghost use Rattle.be_table.specs.Steps.{with_history};
     ghost use Rattle.be_table.specs.Trace.{HasTrace};
     ghost use Rattle.be_table.specs.Versions.{at_start, CanEncodeEach};
     ghost use Rattle.be_table.specs.Works.{IsSeatOf, IsWitnessOf, SeesMore, TakesLock, FoundHeld};
     ghost use Rattle.be_table.specs.Works.{PinsCurrent, Moves, AreAllSeats, AreNew, IsOpenRefused};
-    ghost use Rattle.be_table.specs.Works.{Meets, knows_of};
+    ghost use Rattle.be_table.specs.Works.{IsLargeRefused, Meets, knows_of};
+    ghost use Rattle.be_value.specs.declared.refusals.Refusal.TheVariants.{OutOfMemory};
 
     /// Creates a table with an empty journal, and returns it with its passes' seats in the order of
     /// their numbers. Version 0 consists only of page 0, which holds `first` and encodes the empty
@@ -100,6 +102,41 @@ impl VersionTable {
         if !limits.are_within() {
             return Err(Refusal::BadLimits);
         }
+        VersionTable::laid_out(alloc, limits, first)
+    }
+
+    /// Does what `open` does, for a table of up to 16,777,216 pages.
+    pub fn open_large(
+        alloc: Global,
+        limits: Limits,
+        first: &[u64; PAGE_WORDS],
+    ) -> Result<(VersionTable, Vec<Seat>), Refusal>
+        requires { IsVersion (λ q. at_start (has (0 ∷ []) q)) (λ q i. slice_index first.now i) 0
+            empty }
+        ensures { MatchResult result
+            (λ r. (r.0.limits ≡ limits) × (length r.1.items ≡ limits.passes)
+            × AreNew r.0 0 r.1.items × IsPossible limits)
+            (λ r. IsLargeRefused limits r) }
+    {
+        if !limits.are_possible() {
+            return Err(Refusal::BadLimits);
+        }
+        VersionTable::laid_out(alloc, limits, first)
+    }
+
+    /// Creates a table with limits that are in range. The only error is `OutOfMemory`.
+    fn laid_out(
+        alloc: Global,
+        limits: Limits,
+        first: &[u64; PAGE_WORDS],
+    ) -> Result<(VersionTable, Vec<Seat>), Refusal>
+        requires limits { IsPossible limits }
+        requires first { IsVersion (λ q. at_start (has (0 ∷ []) q)) (λ q i. slice_index first.now i)
+            0 empty }
+        ensures ok { IfOk result (λ r. (r.0.limits ≡ limits) × (length r.1.items ≡ limits.passes)
+            × AreNew r.0 0 r.1.items) }
+        ensures err { IfErr result (λ r. r ≡ OutOfMemory) }
+    {
         let Ok(mut seats) = Vec::with_capacity(alloc, limits.passes as usize) else {
             return Err(Refusal::OutOfMemory);
         };

@@ -12,7 +12,7 @@ ghost use Rattle.be_table.specs.Imports.{given_place, is_held_page, is_in_hand, 
 ghost use Rattle.be_table.specs.Imports.{place_of, Full, IsOperation, Taken};
 ghost use Rattle.be_table.specs.Reading.{page_state_among};
 ghost use Rattle.be_table.specs.Rule.{Reaches, alone, announce_word, pass_of, one_step_on};
-ghost use Rattle.be_table.specs.Rule.{word_place, current_word};
+ghost use Rattle.be_table.specs.Rule.{word_place, current_word, largest_pool};
 ghost use Rattle.be_table.specs.Statuses.{FindsOldest, LieAt, Reports};
 ghost use Rattle.be_table.specs.Steps.{AreFound, take_moves, fill_moves, given_moves, given_of};
 ghost use Rattle.be_table.specs.Steps.{scans_of, NoneRetiredLater, IsPass, IsFound, MayPublish};
@@ -495,7 +495,7 @@ fn report_taken(table: &VersionTable, base: &mut Base, page: u64)
     requires seat { base.old.table_id ≡ table.now.id }
     requires pass { (base.old.me.0 ≡ alone (pass_of base.old.me.0))
         × ((pass_of base.old.me.0).writes ≡ true) × ((pass_of base.old.me.0).published ≡ false) }
-    requires small { page < 16384 }
+    requires small { page < largest_pool }
     requires page { (page < table.now.limits.pages) × (page < length (pass_of base.old.me.0).places)
         × (place_of (pass_of base.old.me.0).places page ≡ Place.Free) }
     ensures seat { (base.new.table_id ≡ base.old.table_id) × (base.new.id ≡ base.old.id) }
@@ -512,7 +512,7 @@ fn fill_word(table: &VersionTable, base: &mut Base, page: u64, i: usize, word: u
     requires seat { base.old.table_id ≡ table.now.id }
     requires pass { (base.old.me.0 ≡ alone (pass_of base.old.me.0))
         × ((pass_of base.old.me.0).writes ≡ true) × ((pass_of base.old.me.0).published ≡ false) }
-    requires small { page < 16384 }
+    requires small { page < largest_pool }
     requires page { (page < table.now.limits.pages)
         × MayBeFilled (pass_of base.old.me.0).places page }
     requires place { i < 512 }

@@ -113,7 +113,7 @@ pub record BecomesTree {S K : Type 0} (kept_of : S → K) (page_state_of : S →
   pub has_pairs : pairs (words_of new) root ≡ all
   pub swaps : Swaps kept_of page_state_of words_of before (pages (words_of new) root) old new
 
--- a root's level, which is at most 5 in a pool of 16,384 pages
+-- a root's level, which is at most 5 in a pool of 16,384 pages and 9 in one of 16,777,216
 abbrev pub level_of_root : (words : ℕ → ℕ → ℕ) (root : ℕ) → ℕ
 level_of_root words zero = 0
 level_of_root words (suc page) = level_of (words page)

@@ -24,9 +24,9 @@ use Rattle.be_session.specs.declared.lists.Operation.{Operation}
 use Rattle.be_store.specs.Conditional.{AcceptsAt}
 use Rattle.be_store.specs.History.{Accepts, IsUnreported, Learns, LocksAndUnlocks, text_seen}
 use Rattle.be_store.specs.Passes.{HasRead, IsPinnedTo, volume_pinned}
-use Rattle.be_table.specs.Rule.{IsWithin, entries}
+use Rattle.be_table.specs.Rule.{IsPossible, entries}
 use Rattle.be_table.specs.Seats.{pinned_number}
-use Rattle.be_table.specs.Works.{IsOpenRefused}
+use Rattle.be_table.specs.Works.{IsLargeRefused}
 use Rattle.be_table.specs.declared.limits.Limits.{Limits}
 use Rattle.be_value.specs.Name.{name_from}
 use Rattle.be_value.specs.Refusal.{refusal_number}
@@ -76,8 +76,8 @@ abbrev pub Opens : Limits → Option Sitting → Option Sitting → ℕ → Type
 Opens limits (Some s) (Some t) code = (code ≡ 65) × (t ≡ s)
 Opens limits (Some s) None code = ⊥
 Opens limits None (Some t) code = (code ≡ 0) × IsOpened limits t
-Opens limits None None code = ((code ≡ 10) × IsWithin limits)
-    ⊎ ((why : Refusal) × (code ≡ refusal_number why) × IsOpenRefused limits why)
+Opens limits None None code = ((code ≡ 10) × IsPossible limits)
+    ⊎ ((why : Refusal) × (code ≡ refusal_number why) × IsLargeRefused limits why)
 
 -- Making a second handle. If that handle is open, it is unchanged, and the call returns 65. A
 -- closed handle gets a session of the same store, with no waiting passes, whose pass was handed out

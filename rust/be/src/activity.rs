@@ -1,8 +1,9 @@
 //! `info`, `clients` and `kick`: the server's activity.
 
-use crate::command_line::{Activity, Kick};
+use crate::command_line::{Activity, Kick, ServerOptions};
 use crate::failure::Failure;
 use crate::output::Output;
+use crate::server::call_without_place;
 use bestore_client::wire::{ClientInfo, Info, Latency, OldestReader};
 use bestore_client::Client;
 
@@ -71,6 +72,11 @@ fn lines(info: &Info) -> Vec<(&'static str, String)> {
         ),
     ];
     lines.extend(info.latency.as_ref().map(|times| ("a write takes", latency(times))));
+    lines.extend(info.commits.as_ref().map(|times| ("a commit takes", latency(times))));
+    lines.extend(
+        info.unsaved
+            .map(|age| ("oldest unsaved write", format!("{} old", time(age)))),
+    );
     if let Some(files) = &info.files {
         lines.push((
             "file",
@@ -115,8 +121,8 @@ fn row(client: &ClientInfo) -> Vec<String> {
     ]
 }
 
-pub fn clients(client: &mut Client, line: &Activity, output: &mut Output) -> Result<(), Failure> {
-    let clients = client.clients()?;
+pub fn clients(server: &ServerOptions, line: &Activity, output: &mut Output) -> Result<(), Failure> {
+    let clients = call_without_place(server, Client::clients)?;
     if line.json {
         return output.json(&clients);
     }
@@ -126,8 +132,8 @@ pub fn clients(client: &mut Client, line: &Activity, output: &mut Output) -> Res
     output.aligned(&rows)
 }
 
-pub fn kick(client: &mut Client, line: &Kick) -> Result<(), Failure> {
-    Ok(client.kick(line.client)?)
+pub fn kick(server: &ServerOptions, line: &Kick) -> Result<(), Failure> {
+    call_without_place(server, |client| client.kick(line.client))
 }
 
 #[cfg(test)]

@@ -2,6 +2,7 @@
 
 use crate::command_line::{AddAttribute, ListAttributes, RemoveAttribute, RemoveNode, ShowAttribute};
 use crate::failure::{complain, Failure};
+use crate::import::content::{NAME, PARENT, ROOT, STAT, XATTRS};
 use crate::kind::{kind_name, size};
 use crate::output::Output;
 use crate::paths::{nodes_of, Place};
@@ -11,7 +12,7 @@ use bestore_client::wire::Json;
 use bestore_client::{Client, ErrorName};
 use bestore_types::{Batch, Value};
 use serde::Serialize;
-use std::collections::BTreeMap;
+use std::collections::{BTreeMap, BTreeSet};
 use std::fs::File;
 use std::io::{self, Read};
 use std::os::unix::ffi::OsStringExt;
@@ -19,6 +20,9 @@ use std::path::Path;
 
 /// The size from which a file is rejected as too long for a value. The server refuses any value of more than 255 bytes.
 const READ: u64 = 1 << 16;
+
+/// The attributes by which an import finds a file's node again.
+const TIES: [&str; 6] = ["name", NAME, PARENT, ROOT, STAT, XATTRS];
 
 /// What `addattr` is to do, parsed from its command line.
 #[derive(Debug)]
@@ -86,8 +90,7 @@ pub fn add(client: &mut Client, added: &Added, output: &mut Output) -> Result<()
     } = added;
     warn_of_index(client, name, value)?;
     if !*new {
-        let nodes = nodes_of(client, places)?;
-        return server::apply_each(client, &nodes, |batch, node| {
+        return write_each(client, name, places, |batch, node| {
             batch.set(node, name, value.clone());
         });
     }
@@ -119,10 +122,38 @@ fn warn_of_index(client: &mut Client, name: &str, value: &Value) -> Result<(), F
 }
 
 pub fn remove(client: &mut Client, line: &RemoveAttribute) -> Result<(), Failure> {
-    let nodes = nodes_of(client, &line.nodes)?;
-    server::apply_each(client, &nodes, |batch: &mut Batch, node| {
+    write_each(client, &line.name, &line.nodes, |batch, node| {
         batch.unset(node, &line.name);
     })
+}
+
+/// Writes the attribute with this name on each node. Refuses it on files' nodes if it ties them to their files, because a file that no
+/// longer has a node gets another one in the next import, without its attributes.
+fn write_each(client: &mut Client, name: &str, places: &[Place], add: impl Fn(&mut Batch, u64)) -> Result<(), Failure> {
+    let nodes = nodes_of(client, places)?;
+    let tied = match TIES.contains(&name) {
+        true => files_of(client, &nodes)?,
+        false => BTreeSet::new(),
+    };
+    for node in &tied {
+        report(
+            *node,
+            &format!("{name} ties the node to its file, so only be import writes it; rename or move the file instead"),
+        );
+    }
+    let others: Vec<u64> = nodes.into_iter().filter(|node| !tied.contains(node)).collect();
+    server::apply_each(client, &others, add)?;
+    all_done(tied.is_empty())
+}
+
+/// Returns those of the nodes that belong to files.
+fn files_of(client: &mut Client, nodes: &[u64]) -> Result<BTreeSet<u64>, Failure> {
+    let rows = server::rows_of(client, nodes, &[PARENT, ROOT])?;
+    let files = nodes
+        .iter()
+        .zip(&rows)
+        .filter(|(_, row)| row.iter().any(Option::is_some));
+    Ok(files.map(|(node, _)| *node).collect())
 }
 
 pub fn remove_nodes(client: &mut Client, line: &RemoveNode) -> Result<(), Failure> {

@@ -2,11 +2,32 @@
 
 use crate::kind::Type;
 use crate::paths::Place;
+use crate::text::visible;
 use clap::builder::{OsStringValueParser, TypedValueParser};
 use clap::{Args, Parser, Subcommand};
 use std::ffi::OsString;
+use std::io::{self, Write};
 use std::path::PathBuf;
 use std::time::Duration;
+
+/// Prints help, or an error of the command line, and exits. In an error, control characters of the arguments are escaped.
+pub fn exit(error: &clap::Error) -> ! {
+    if !error.use_stderr() {
+        error.exit();
+    }
+    let words = std::env::args_os()
+        .skip(1)
+        .map(|word| word.to_string_lossy().into_owned());
+    // A word may contain line feeds, which the error's own lines have too.
+    let escaped = words.fold(error.to_string(), |text, word| match visible(&word) {
+        shown if shown == word => text,
+        shown => text.replace(&word, &shown),
+    });
+    let lines: Vec<_> = escaped.split('\n').map(visible).collect();
+    // If this fails, there is nothing left to do about it.
+    let _ = io::stderr().write_all(lines.join("\n").as_bytes());
+    std::process::exit(2)
+}
 
 /// The attribute tools of BeOS, for a store that bestored shares
 #[derive(Debug, Parser)]
@@ -95,7 +116,11 @@ pub struct Query {
     /// End each line with a zero byte, for names that contain line feeds
     #[arg(short = '0', long, conflicts_with = "json")]
     pub null: bool,
+    /// Print times in columns such as last_modified and MAIL:when as dates
+    #[arg(short, long, requires = "columns", conflicts_with = "json")]
+    pub dates: bool,
     /// The query, such as 'name=="*.txt" && size>=100'
+    #[arg(value_name = "QUERY")]
     pub text: String,
 }
 

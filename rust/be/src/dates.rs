@@ -39,6 +39,9 @@ const NO_DAY: &str = "that month doesn't have that many days";
 /// The maximum number of seconds by which a clock is ever put back.
 const TURNED: i64 = 86_400;
 
+/// The last words in the names of attributes that are times.
+const TIMES: [&str; 6] = ["modified", "created", "changed", "when", "date", "time"];
+
 /// The time that a date means, in seconds since 1970, from `begin` up to but not including `end`.
 #[derive(Clone, Copy, Debug, PartialEq, Eq)]
 pub struct Span {
@@ -84,6 +87,14 @@ impl Clock {
         }
     }
 
+    /// Returns the date that the clock shows at this time, in seconds since 1970, in a form that [`span_of`] reads. `None` if it is outside
+    /// the calendar.
+    pub fn shown(&self, seconds: i64) -> Option<String> {
+        let shown = seconds.checked_add((self.ahead)(seconds))?;
+        let shown = NaiveDateTime::from_timestamp_opt(shown, 0).filter(|shown| (1..=9_999).contains(&shown.year()))?;
+        Some(shown.format("%Y-%m-%d %H:%M:%S").to_string())
+    }
+
     /// Returns the time at which the clock shows this. If the clock shows it twice, the first time counts. If the clock was put forward and
     /// never shows it, returns the time at which it would have shown it without the change.
     fn seconds(&self, shown: NaiveDateTime) -> i64 {
@@ -95,6 +106,12 @@ impl Clock {
         let both = [one_day_before.min(same_day), one_day_before.max(same_day)];
         both.into_iter().find(shows).unwrap_or(one_day_before)
     }
+}
+
+/// Returns whether integers with this attribute's name are times in seconds since 1970: `last_modified`, `MAIL:when`.
+pub fn is_time(name: &str) -> bool {
+    let last = name.rsplit(['_', ':']).next().unwrap_or(name);
+    TIMES.iter().any(|time| last.eq_ignore_ascii_case(time))
 }
 
 /// Returns how many seconds local time is ahead of UTC.
@@ -450,6 +467,44 @@ pub mod tests {
 
     fn shown(text: &str) -> NaiveDateTime {
         NaiveDateTime::parse_from_str(text, "%Y-%m-%d %H:%M:%S").unwrap()
+    }
+
+    #[test]
+    fn a_date_is_read_back_as_it_is_shown() {
+        for (seconds, shown) in [
+            (0, "1970-01-01 01:00:00"),
+            (1_795_647_605, "2026-11-26 00:00:05"),
+            (1_782_000_000, "2026-06-21 02:00:00"),
+            (-1, "1970-01-01 00:59:59"),
+        ] {
+            assert_eq!(clock().shown(seconds).as_deref(), Some(shown));
+            assert_eq!(span_of(shown, &clock()).map(|span| span.begin).ok(), Some(seconds));
+        }
+        let utc = Clock {
+            ahead: |_| 0,
+            ..clock()
+        };
+        let beyond = [i64::MAX, i64::MIN, 1 << 40];
+        assert_eq!(beyond.map(|seconds| utc.shown(seconds)), [None, None, None]);
+    }
+
+    #[test]
+    fn a_name_says_whether_its_integers_are_times() {
+        let names = [
+            "last_modified",
+            "MAIL:when",
+            "created",
+            "Date",
+            "a_b:TIME",
+            "size",
+            "whenever",
+            "modified_by",
+            "",
+        ];
+        assert_eq!(
+            names.map(is_time),
+            [true, true, true, true, true, false, false, false, false]
+        );
     }
 
     /// One hour in winter, and two from the last Sunday in March to the last Sunday in October.

@@ -151,15 +151,20 @@ impl fmt::Display for QueryRefused {
             write!(f, "\n  {} has no index", escaped(missing))?;
         }
         match &self.indices {
-            Some(indices) if indices.is_empty() => f.write_str("\n  there are no indices"),
-            Some(indices) => {
-                let named = |(name, kind): (&String, &String)| format!("{} ({})", escaped(name), shown_name(kind));
-                let list: Vec<_> = indices.iter().map(named).collect();
-                write!(f, "\n  the indices are: {}", list.join(", "))
-            }
+            Some(indices) => write!(f, "\n  {}", listed(indices)),
             None => Ok(()),
         }
     }
+}
+
+/// Returns a text that lists these indices with their kinds.
+pub fn listed(indices: &BTreeMap<String, String>) -> String {
+    if indices.is_empty() {
+        return "there are no indices".into();
+    }
+    let named = |(name, kind): (&String, &String)| format!("{} ({})", escaped(name), shown_name(kind));
+    let list: Vec<_> = indices.iter().map(named).collect();
+    format!("the indices are: {}", list.join(", "))
 }
 
 /// Says which command starts a server at this socket, unless the system doesn't let this user connect to it, or a socket can't have

@@ -24,6 +24,7 @@ mod state;
 mod status;
 mod text;
 mod typed_query;
+mod unknown;
 
 use attributes::Added;
 use clap::error::ErrorKind;
@@ -34,7 +35,8 @@ use output::Output;
 use std::process::ExitCode;
 
 fn main() -> ExitCode {
-    let CommandLine { server, command } = CommandLine::parse();
+    let line = CommandLine::try_parse().unwrap_or_else(|error| command_line::exit(&error));
+    let CommandLine { server, command } = line;
     let mut output = Output::standard();
     match run(command, &server, &mut output).and_then(|()| output.flush()) {
         Ok(()) => ExitCode::SUCCESS,
@@ -61,8 +63,8 @@ fn run(command: Command, server: &ServerOptions, output: &mut Output) -> Result<
         Command::Rmindex(line) => indices::remove(&mut visit()?, &line),
         Command::Reindex(line) => indices::fill(&mut server::connect(server)?, &line, output),
         Command::Info(line) => activity::info(&mut visit()?, &line, output),
-        Command::Clients(line) => activity::clients(&mut visit()?, &line, output),
-        Command::Kick(line) => activity::kick(&mut visit()?, &line),
+        Command::Clients(line) => activity::clients(server, &line, output),
+        Command::Kick(line) => activity::kick(server, &line),
         Command::Backup(line) => backup::make(&mut server::connect(server)?, &line, output),
         Command::Dump => backup::dump(&mut server::connect(server)?, output),
         Command::Restore(line) => restore::restore(&mut server::connect(server)?, &line, output),

@@ -1,8 +1,8 @@
 //! `query`: runs a query once, counts its nodes, or watches it.
 
 use crate::command_line::Query as Line;
-use crate::dates::Clock;
-use crate::failure::{complain, Failure, QueryRefused};
+use crate::dates::{is_time, Clock};
+use crate::failure::{complain, listed, Failure, QueryRefused};
 use crate::found::{Found, Row};
 use crate::hints;
 use crate::output::Output;
@@ -11,9 +11,12 @@ use crate::polling::poll;
 use crate::server::{self, pinned};
 use crate::text::{escaped, pointed};
 use crate::typed_query::TypedQuery;
+use crate::unknown::{self, Unknown};
 use bestore_client::wire::{self, kind_named, Command, Hits, Json, Push};
 use bestore_client::{Client, Error, ErrorName};
+use bestore_types::Value;
 use serde::Serialize;
+use std::collections::BTreeMap;
 use std::io::ErrorKind;
 use std::os::unix::io::AsRawFd;
 use std::path::PathBuf;
@@ -41,24 +44,40 @@ pub fn run(client: &mut Client, line: &Line, output: &mut Output) -> Result<(), 
     })
 }
 
-/// Warns about comparisons in a valid query that can't be true for any node.
-fn warn(client: &mut Client, query: &TypedQuery) -> Result<(), Failure> {
+/// Warns about comparisons in a valid query that can't be true for any node. If the query finds nothing, also warns about names that no
+/// node and no index has.
+fn warn(client: &mut Client, query: &TypedQuery, finds_nothing: bool) -> Result<(), Failure> {
     let compared = match client.comparisons(&query.sent) {
         // The server is too old to report the comparisons.
         Err(error) if error.is(ErrorName::BadRequest) => return Ok(()),
         compared => compared?,
     };
-    if compared.iter().all(|one| one.never.is_empty()) {
+    if compared.iter().all(|one| one.never.is_empty()) && !finds_nothing {
         return Ok(());
     }
     let indices = server::indices(client)?;
-    let kind = |(name, kind): (String, String)| kind_named(&kind).map(|kind| (name, kind));
-    let indices = indices.into_iter().filter_map(kind).collect();
-    for hint in hints::hints(&query.sent, &compared, &indices) {
+    let kind = |(name, kind): (&String, &String)| kind_named(kind).map(|kind| (name.clone(), kind));
+    let kinds = indices.iter().filter_map(kind).collect();
+    for hint in hints::hints(&query.sent, &compared, &kinds) {
         let place = pointed(&query.typed, query.place_of(hint.offset));
         complain(&format!("warning: {}{place}", escaped(&hint.message)));
     }
+    if finds_nothing {
+        let unknown = pinned(client, |client| Ok(unknown::unknown(client, &compared, &indices)?))?;
+        warn_of_unknown(query, &unknown, &indices);
+    }
     Ok(())
+}
+
+fn warn_of_unknown(query: &TypedQuery, unknown: &[Unknown], indices: &BTreeMap<String, String>) {
+    for (index, one) in unknown.iter().enumerate() {
+        let mut warning = format!("warning: {}", one.message());
+        warning.push_str(&pointed(&query.typed, query.place_of(one.offset)));
+        if index + 1 == unknown.len() {
+            warning.push_str(&format!("\n  {}", listed(indices)));
+        }
+        complain(&warning);
+    }
 }
 
 /// Adds details to a query's error that help to find its cause.
@@ -87,7 +106,7 @@ fn count(client: &mut Client, query: &TypedQuery, line: &Line, output: &mut Outp
         count: true,
         ..wire::Query::default()
     }))?;
-    warn(client, query)?;
+    warn(client, query, hits.count == Some(0))?;
     match line.json {
         true => output.json(&hits),
         false => output.line(hits.count.unwrap_or_default().to_string().as_bytes()),
@@ -102,7 +121,7 @@ fn find(client: &mut Client, query: &TypedQuery, line: &Line, output: &mut Outpu
         let names = names_of(client, found.nodes(), line, shown)?;
         Ok((found, names))
     })?;
-    warn(client, query)?;
+    warn(client, query, found.nodes().is_empty() && line.after.is_none())?;
     if line.json {
         return output.json(&found);
     }
@@ -111,7 +130,7 @@ fn find(client: &mut Client, query: &TypedQuery, line: &Line, output: &mut Outpu
     let rows: Vec<_> = names
         .into_iter()
         .zip(&found)
-        .map(|(name, row)| cells(name, row, output))
+        .map(|(name, row)| cells(name, row, line, output))
         .collect();
     output.rows(&headings(line), &rows)
 }
@@ -137,11 +156,21 @@ fn headings(line: &Line) -> Vec<&str> {
         .collect()
 }
 
-fn cells(node: Vec<u8>, row: &Row, output: &Output) -> Vec<Vec<u8>> {
-    let values = row
-        .iter()
-        .map(|value| value.as_ref().map_or_else(Vec::new, |Json(value)| output.value(value)));
+fn cells(node: Vec<u8>, row: &Row, line: &Line, output: &Output) -> Vec<Vec<u8>> {
+    let values = row.iter().zip(&line.columns).map(|(value, column)| match value {
+        Some(Json(value)) => date_of(value, column, line).unwrap_or_else(|| output.value(value)),
+        None => Vec::new(),
+    });
     std::iter::once(node).chain(values).collect()
+}
+
+/// Returns a time as a date, if dates are to be printed.
+fn date_of(value: &Value, column: &str, line: &Line) -> Option<Vec<u8>> {
+    if !line.dates || value.as_bytes().is_some() || !is_time(column) {
+        return None;
+    }
+    let seconds = i64::try_from(value.number()).ok()?;
+    Clock::of_machine().shown(seconds).map(String::into_bytes)
 }
 
 /// A push as a line of JSON, with the columns of the nodes that entered the answer.
@@ -156,7 +185,7 @@ struct Change<'a> {
 /// Prints the nodes that the query finds, and then those that enter or leave the answer, until the server or the watch ends.
 fn watch(client: &mut Client, query: &TypedQuery, line: &Line, output: &mut Output) -> Result<(), Failure> {
     let begun = client.watch(Some(&query.sent))?;
-    warn(client, query)?;
+    warn(client, query, begun.nodes.as_ref().map_or(true, Vec::is_empty))?;
     let mut push = Push {
         watch: begun.watch,
         commit: begun.commit,
@@ -221,7 +250,7 @@ fn show_change(client: &mut Client, push: &Push, line: &Line, output: &mut Outpu
         let row = rows.as_ref().map_or(&none, |rows| &rows[index]);
         let mut shown = vec![b'+'];
         shown.extend(name);
-        let cells = cells(shown, row, output);
+        let cells = cells(shown, row, line, output);
         output.line(&cells.join(&b'\t'))?;
     }
     Ok(())

@@ -41,6 +41,18 @@ pub fn visit(line: &ServerOptions) -> Result<Client, Failure> {
     }
 }
 
+/// Calls `clients` or `kick` on a new connection. The server answers these as the first request even when all places are taken. An
+/// earlier version needs a visitor's place for them.
+pub fn call_without_place<T>(
+    line: &ServerOptions,
+    call: impl Fn(&mut Client) -> Result<T, Error>,
+) -> Result<T, Failure> {
+    match call(&mut open(line)?) {
+        Err(error) if error.is(ErrorName::NoPass) => Ok(call(&mut visit(line)?)?),
+        answer => Ok(answer?),
+    }
+}
+
 fn open(line: &ServerOptions) -> Result<Client, Failure> {
     let socket = SocketPath::find(line.socket.clone());
     let mut options = Options::new();

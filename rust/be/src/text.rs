@@ -15,6 +15,13 @@ pub fn escaped(text: &str) -> String {
     shown
 }
 
+/// Escapes the same, but leaves backslashes as they are.
+pub fn visible(text: &str) -> String {
+    let mut shown = String::with_capacity(text.len());
+    text.chars().for_each(|character| push_visible(&mut shown, character));
+    shown
+}
+
 fn push_escaped(shown: &mut String, character: char) {
     match character {
         '\\' => shown.push_str("\\\\"),
@@ -80,7 +87,7 @@ pub fn pointed(text: &str, offset: usize) -> String {
 fn excerpt(text: &str, offset: usize) -> (String, usize) {
     let pieces: Vec<(usize, String)> = text
         .char_indices()
-        .map(|(at, character)| (at, visible(character)))
+        .map(|(at, character)| (at, visible(character.encode_utf8(&mut [0; 4]))))
         .collect();
     let at = pieces.partition_point(|(start, _)| *start < offset);
     let mut first = at;
@@ -100,12 +107,6 @@ fn excerpt(text: &str, offset: usize) -> (String, usize) {
         line.push('…');
     }
     (line, begun + columns)
-}
-
-fn visible(character: char) -> String {
-    let mut shown = String::new();
-    push_visible(&mut shown, character);
-    shown
 }
 
 /// Returns a hex dump of the bytes, 16 per line: the offset, the bytes in hexadecimal, and their ASCII characters.

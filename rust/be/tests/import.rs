@@ -42,6 +42,27 @@ fn each_file_is_a_node_with_the_attributes_of_be() {
 }
 
 #[test]
+fn what_ties_a_node_to_its_file_is_left_to_imports() {
+    let (server, folder) = server!(Folder::imported());
+    let word = folder.word("a/x.txt");
+    let node = server.done(&["query", "name==x.txt"]).trim().to_owned();
+    let other = server.done(&["addattr", "--new", "name", "free"]).trim().to_owned();
+    let ties = |name: &str| {
+        let help = "so only be import writes it; rename or move the file instead";
+        format!("be: node {node}: {name} ties the node to its file, {help}\n")
+    };
+    let said = server.be(&["addattr", "name", "evil", &word, &other]);
+    assert_eq!((said.status, said.error), (1, ties("name")));
+    for name in ["name", "FILE:parent", "FILE:stat"] {
+        let said = server.be(&["rmattr", name, &word]);
+        assert_eq!((said.status, said.error), (1, ties(name)));
+    }
+    assert_eq!(server.done(&["catattr", "-r", "name", &word, &other]), "x.txtevil");
+    server.done(&["addattr", "rating", "5", &word]);
+    assert_eq!(server.import(&folder)[1..], [0, 0, 0]);
+}
+
+#[test]
 fn files_of_kept_stores_are_left_out() {
     let (server, folder) = server!(Folder::small_with_server());
     for name in [

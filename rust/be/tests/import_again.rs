@@ -3,7 +3,7 @@
 use crate::common::files::{counts, node_of, small, Folder, Mount};
 use crate::common::refuser::Refuser;
 use crate::common::Server;
-use bestore_client::Client;
+use bestore_client::{Batch, Client};
 use std::collections::BTreeSet;
 use std::fs;
 use std::process::Stdio;
@@ -224,7 +224,8 @@ fn a_node_that_was_being_created_when_an_import_was_cut_off_is_not_doubled() {
     let (server, folder) = server!(Folder::imported());
     let node = node_of(&server, &folder, "a/x.txt");
     // This attribute is written last.
-    server.done(&["rmattr", "FILE:stat", &node.to_string()]);
+    let mut client = Client::connect(server.socket()).unwrap();
+    client.apply(Batch::new().unset(node, "FILE:stat")).unwrap();
     assert_eq!(server.import(&folder), [0, 1, 0, 0]);
     assert_eq!(node_of(&server, &folder, "a/x.txt"), node);
     assert_eq!(server.paths("name==\"*\""), folder.paths());

@@ -6,6 +6,7 @@ mod activity;
 mod alone;
 mod backups;
 mod broken;
+mod crowded;
 mod follow;
 mod guide;
 mod import;

@@ -1,6 +1,7 @@
 //! Tests of queries that are run once, counted, watched, refused, or printed on a terminal.
 
 use crate::common::{Said, Server};
+use bestore_client::Client;
 use std::io::{BufRead, BufReader};
 use std::path::Path;
 use std::process::{Command, Stdio};
@@ -245,6 +246,7 @@ fn a_comparison_that_is_never_true_is_a_warning() {
         (counted.status, counted.out.as_str(), counted.error.lines().count()),
         (0, "1\n", 3)
     );
+    server.done(&["addattr", "other", "1", "3"]);
     for query in ["size>1", "name>1.5 && other==1.5", "!(size==-1)"] {
         assert_eq!(said(&server, &[query]).error, "", "{query}");
     }
@@ -259,6 +261,66 @@ fn a_comparison_that_is_never_true_is_a_warning() {
     assert!(line.starts_with("be: warning: size==x is never true"), "{line}");
     child.kill().unwrap();
     child.wait().unwrap();
+}
+
+#[test]
+fn a_name_that_nothing_has_is_a_warning() {
+    let server = server!(Server::with_three());
+    let warning = |name: &str, query: &str, caret: &str| {
+        format!("be: warning: no node has an attribute {name}, and no index has this name\n  {query}\n  {caret}\n")
+    };
+    let indices = "  the indices are: name (string), size (int64)\n";
+    let query = "size>=0 && siz>5 && (siz<9 || size==1)";
+    let error = warning("siz", query, "           ^") + indices;
+    for (words, out) in [
+        (vec![query], ""),
+        (vec!["--count", query], "0\n"),
+        (vec!["-s", "name", query], ""),
+    ] {
+        let out = out.to_string();
+        let error = error.clone();
+        assert_eq!(said(&server, &words), Said { status: 0, out, error }, "{words:?}");
+    }
+    let query = "name==a && (nam\u{1b}==b && whe>%2024%)";
+    let error = said(&server, &[query]).error;
+    assert_eq!(error.matches("no node has an attribute").count(), 2, "{error}");
+    assert!(
+        error.contains(r"attribute nam\x1b, and") && !error.contains('\u{1b}'),
+        "{error}"
+    );
+    // A node's attribute needs no index to be known, and an answer is enough of an answer.
+    server.done(&["addattr", "siz", "x", "3"]);
+    for query in ["size>=0 && siz>5", "size>=0 || size==1 && none==1", "size>99"] {
+        assert_eq!(said(&server, &[query]).error, "", "{query}");
+    }
+    let mut command = server.command(&["query", "--watch", "size>=0 && none==1"]);
+    let mut child = command.stderr(Stdio::piped()).spawn().unwrap();
+    let mut line = String::new();
+    BufReader::new(child.stderr.take().unwrap())
+        .read_line(&mut line)
+        .unwrap();
+    child.kill().unwrap();
+    child.wait().unwrap();
+    assert!(line.starts_with("be: warning: no node has an attribute none"), "{line}");
+}
+
+#[test]
+fn a_name_is_looked_for_in_each_page_of_the_nodes() {
+    let server = server!(Server::with_index("n"));
+    let mut client = Client::connect(server.socket()).unwrap();
+    for _ in 0..50 {
+        let made = client.change(|change| {
+            for _ in 0..30 {
+                let node = change.new_node();
+                change.batch().set(node, "n", "x");
+            }
+            Ok(())
+        });
+        made.unwrap();
+    }
+    let looked = |query: &str| said(&server, &[query]).error.lines().count();
+    server.done(&["addattr", "last", "y", "1500"]);
+    assert_eq!([looked("n==x && last==z"), looked("n==x && lost==z")], [0, 4]);
 }
 
 #[test]
@@ -298,6 +360,25 @@ fn dates_between_percent_signs_are_times() {
     // Within quotes, a percent sign is an ordinary character.
     server.done(&["addattr", "name", "%x%", "3"]);
     assert_eq!(said(&server, &["name==\"%x%\""]).out, "3\n");
+}
+
+#[test]
+fn times_are_printed_as_dates_that_can_be_typed() {
+    let server = server!(Server::with_three());
+    server.done(&["mkindex", "-t", "int64", "when"]);
+    server.done(&["addattr", "-t", "int64", "when", "1704063600", "1", "2"]);
+    server.be(&["addattr", "when", "soon", "3"]);
+    let found = said(&server, &["-d", "-c", "when,size", "name==*"]);
+    let out = "1\t2024-01-01 00:00:00\t10\n2\t2024-01-01 00:00:00\t20\n3\tsoon\t\n";
+    assert_eq!((found.out.as_str(), found.error.as_str()), (out, ""));
+    assert_eq!(said(&server, &["when==%2024-01-01 00:00:00%"]).out, "1\n2\n");
+    assert_eq!(said(&server, &["-c", "when", "size==10"]).out, "1\t1704063600\n");
+    for words in [
+        &["--dates", "size==10"][..],
+        &["--dates", "--json", "-c", "when", "size==10"],
+    ] {
+        assert_eq!(said(&server, words).status, 2, "{words:?}");
+    }
 }
 
 #[test]

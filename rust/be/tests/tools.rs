@@ -343,6 +343,16 @@ fn exit_statuses_are_those_of_the_page() {
         assert_eq!((said.status, said.out.as_str()), (2, ""), "{words:?}");
         assert!(said.error.contains("--help"), "{words:?}: {}", said.error);
     }
+    for word in ["--\u{1b}[31mred", "-\u{9b}", "\u{1b}]0;title\u{7}", "x\ny\u{202e}"] {
+        let said = none(&[word, word]);
+        let shown = said
+            .error
+            .chars()
+            .all(|sign| sign == '\n' || !sign.is_control() && sign != '\u{202e}');
+        assert!(said.status == 2 && shown && !said.error.contains("x\ny"), "{said:?}");
+    }
+    let help = none(&["query", "--help"]).out;
+    assert!(help.contains("<QUERY>") && !help.contains("TEXT"), "{help}");
     assert_eq!((none(&["--help"]).status, none(&["--version"]).status), (0, 0));
     let server = server!(Server::start());
     refused(&server, &["rmattr", "name", "7"], "be: node 7: there is no such node\n");

@@ -411,6 +411,7 @@ impl Client {
         let hello: wire::Hello = self.call(Command::Hello(wire::Greeting {
             protocol: Some(wire::PROTOCOL),
             visit,
+            confirmed: self.options.confirmed,
         }))?;
         self.features = hello.features.clone();
         Ok(self.greeted(hello))

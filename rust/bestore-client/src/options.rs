@@ -39,6 +39,7 @@ pub struct Options {
     pub(crate) timeout: Option<Duration>,
     pub(crate) most_pushed: usize,
     pub(crate) repeat: Option<Duration>,
+    pub(crate) confirmed: bool,
     wait: Duration,
 }
 
@@ -48,6 +49,7 @@ impl Default for Options {
             timeout: Some(TIMEOUT),
             most_pushed: PUSHED,
             repeat: None,
+            confirmed: false,
             wait: Duration::ZERO,
         }
     }
@@ -94,11 +96,20 @@ impl Options {
         self
     }
 
+    /// Makes reads wait until what they show is in the server's file or log, like replies to writes. Otherwise, a read may show a write
+    /// that is lost when the server is killed or another server takes over its log. An earlier server, whose `hello` doesn't list the
+    /// feature `confirmed`, refuses the connection with the error `BadRequest`.
+    pub fn confirmed(&mut self, confirmed: bool) -> &mut Self {
+        self.confirmed = confirmed;
+        self
+    }
+
     /// Connects to the server at this socket: a path, or the result of [`SocketPath::find`].
     ///
     /// # Errors
     /// [`Error::Io`] if no server is listening. [`Error::OtherUser`] if the path is the default one and the server runs neither as the
-    /// effective user nor as root. [`Error::TimedOut`]. If the server refuses the connection, the first call returns that error.
+    /// effective user nor as root. [`Error::TimedOut`]. If the server refuses the connection, the first call returns that error; with
+    /// [`repeat`](Self::repeat) or [`confirmed`](Self::confirmed), it is this one.
     pub fn connect(&self, socket: impl Into<SocketPath>) -> Result<Client> {
         let socket = socket.into();
         let until = end_of(self.wait);
@@ -117,7 +128,7 @@ impl Options {
         socket.check_server(&stream)?;
         let mut client = Client::over(stream, *self);
         client.socket = Some(socket.clone());
-        client.greet_if_repeating()?;
+        client.greet_if_needed()?;
         Ok(client)
     }
 

@@ -79,11 +79,11 @@ impl Client {
         false
     }
 
-    /// Sends `hello` to a newly connected server if the client needs to know its run.
-    pub(crate) fn greet_if_repeating(&mut self) -> Result<()> {
-        match self.options.repeat {
-            None => Ok(()),
-            Some(_) => self.hello().map(drop),
+    /// Sends `hello` to a newly connected server if the client needs to know its run, or wants confirmed reads.
+    pub(crate) fn greet_if_needed(&mut self) -> Result<()> {
+        match self.options.repeat.is_some() || self.options.confirmed {
+            true => self.hello().map(drop),
+            false => Ok(()),
         }
     }
 

@@ -69,7 +69,7 @@ impl Batch {
     /// Returns the batch that the bytes encode.
     ///
     /// # Errors
-    /// [`Error::BadBatch`] with the offset of the first invalid byte, or with the length if the bytes end too soon.
+    /// [`Error::BadBatch`] with the offset of the first invalid byte, or of the first byte of a part that is cut off.
     pub fn from_bytes(bytes: &[u8]) -> Result<Self> {
         let mut reader = Reader { bytes, at: 0 };
         reader.beginning()?;
@@ -120,11 +120,17 @@ impl<'a> Reader<'a> {
                 self.at += length;
                 Ok(part)
             }
-            None => Err(Error::BadBatch {
-                offset: self.bytes.len(),
-                why: "the batch is cut off",
-            }),
+            None => self.bad(0, "the batch is cut off"),
         }
+    }
+
+    /// Reads a length in one byte, and that many bytes. If they are cut off, the error is at the length.
+    fn counted(&mut self) -> Result<&'a [u8]> {
+        let length = self.byte()?;
+        if self.bytes.len() - self.at < length.into() {
+            return self.bad(1, "the batch is cut off");
+        }
+        self.take(length.into())
     }
 
     fn array<const N: usize>(&mut self) -> Result<[u8; N]> {
@@ -154,20 +160,19 @@ impl<'a> Reader<'a> {
         Ok(())
     }
 
-    fn text(&mut self, length: usize) -> Result<&'a str> {
-        let part = self.take(length)?;
-        match std::str::from_utf8(part) {
+    /// Returns the text that these bytes, which have just been read, encode.
+    fn text(&self, bytes: &'a [u8]) -> Result<&'a str> {
+        match std::str::from_utf8(bytes) {
             Ok(text) => Ok(text),
-            Err(error) => self.bad(length - error.valid_up_to(), "a text isn't valid UTF-8"),
+            Err(error) => self.bad(bytes.len() - error.valid_up_to(), "a text isn't valid UTF-8"),
         }
     }
 
     fn name(&mut self) -> Result<&'a str> {
-        let length = self.byte()?;
-        let name = self.text(length.into())?;
-        match LENGTHS_OF_A_NAME.contains(&length) {
-            true => Ok(name),
-            false => self.bad(name.len() + 1, "a name has 1 to 63 bytes"),
+        let name = self.counted()?;
+        match u8::try_from(name.len()) {
+            Ok(length) if LENGTHS_OF_A_NAME.contains(&length) => self.text(name),
+            _ => self.bad(name.len() + 1, "a name has 1 to 63 bytes"),
         }
     }
 
@@ -215,12 +220,11 @@ impl<'a> Reader<'a> {
                 self.bad(8, "the number doesn't fit its kind")
             };
         }
-        let length = usize::from(self.byte()?);
-        if kind == Kind::Raw {
-            Ok((0, self.take(length)?))
-        } else {
-            Ok((0, self.text(length)?.as_bytes()))
+        let value = self.counted()?;
+        if kind != Kind::Raw {
+            self.text(value)?;
         }
+        Ok((0, value))
     }
 }
 
@@ -319,6 +323,7 @@ mod tests {
                 "operation" => "no operation has this number; operations are numbered 0 to 5",
                 "name" => "a name has 1 to 63 bytes",
                 "kind" => "no kind has this type code",
+                "cut" => "the batch is cut off",
                 _ => "the batch ends here, and more bytes follow",
             };
             assert_eq!(refused(&bytes), (offset.parse().unwrap(), why));
@@ -332,11 +337,13 @@ mod tests {
     }
 
     #[test]
-    fn a_part_that_is_cut_off_is_refused_at_the_length() {
+    fn a_part_that_is_cut_off_is_refused_where_it_begins() {
         let bytes = example().to_bytes().unwrap();
         for length in 0..bytes.len() {
-            let said = (length, "the batch is cut off");
-            assert_eq!(refused(&bytes[..length]), said);
+            let (offset, why) = refused(&bytes[..length]);
+            assert!(offset <= length && why == "the batch is cut off", "{length}");
+            // What comes before the part is whole.
+            assert_eq!(refused(&bytes[..offset]), (offset, why));
         }
         let longer = [&bytes[..], &[0]].concat();
         assert_eq!(refused(&longer).0, bytes.len());

@@ -217,7 +217,7 @@ pub const MEANINGS: &[Meaning] = &[
         code: sys::BES_BAD_LIMITS,
         class: Class::Mine,
         what: "a limit of the store is out of range",
-        advice: "a store has 8 to 16,384 pages, 1 to 64 passes and 1 to 4,294,967,295 commits",
+        advice: "a store has 8 to 16,777,216 pages, 1 to 64 passes and 1 to 4,294,967,295 commits",
     },
     Meaning {
         code: sys::BES_BAD_RPN,
@@ -326,6 +326,12 @@ pub const MEANINGS: &[Meaning] = &[
         class: Class::Mine,
         what: "the index of this name takes values of another kind",
         advice: "set a value of the index's kind",
+    },
+    Meaning {
+        code: sys::BES_NESTED,
+        class: Class::Mine,
+        what: "a change's function wrote through the change's own pass, or unpinned it",
+        advice: "add the operation to the change, or use another pass",
     },
     // surface.toml: end
 ];

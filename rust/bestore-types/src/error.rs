@@ -38,6 +38,8 @@ pub enum Error {
     InUse,
     /// A page must have at least one node.
     NoRoom,
+    /// The closure of a change wrote through the change's own pass.
+    Nested,
     // surface.toml: end
     /// Another pass was writing at every attempt.
     Busy {
@@ -128,7 +130,7 @@ pub enum Error {
     },
     /// Bytes that aren't a batch.
     BadBatch {
-        /// The offset of the first invalid byte, or the number of bytes if they end too soon.
+        /// The offset of the first invalid byte, or of the first byte of a part that is cut off.
         offset: usize,
         /// What is wrong at that position.
         why: &'static str,
@@ -209,6 +211,7 @@ impl Error {
             Error::NoPass => sys::BES_NO_PASS,
             Error::InUse => sys::BES_IN_USE,
             Error::NoRoom => sys::BES_NO_ROOM,
+            Error::Nested => sys::BES_NESTED,
             // surface.toml: end
             Error::Busy { .. } => sys::BES_BUSY,
             Error::NoOrder { .. } => sys::BES_NO_INDEX,
@@ -281,7 +284,7 @@ impl fmt::Display for Error {
 
 /// A store of the C library has one more pass than this.
 const BAD_LIMITS: &str =
-    "a limit of the store is out of range; a store has 8 to 16,384 pages, 1 to 63 passes and 1 to 4,294,967,295 commits";
+    "a limit of the store is out of range; a store has 8 to 16,777,216 pages, 1 to 63 passes and 1 to 4,294,967,295 commits";
 
 impl Error {
     /// Formats an error from the library.

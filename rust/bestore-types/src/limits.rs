@@ -15,7 +15,8 @@ pub const MOST_VOLUMES: u32 = 64;
 /// ```
 #[derive(Clone, Copy, Debug, PartialEq, Eq)]
 pub struct Limits {
-    /// The number of 4 KiB pages, all allocated when the store is opened: 8 to 16,384.
+    /// The number of 4 KiB pages, 8 to 16,777,216. Opening a store takes time for each page, and memory for all of them. Afterwards, only
+    /// pages that have been used take memory.
     pub pages: u64,
     /// The number of passes that can be open at the same time: 1 to 63. The store itself has one more. Each takes 89 bytes, and adds 13
     /// instructions to the roughly 12,000 of a write; a pin and a query cost the same with 8 passes as with 63 (28 November 2026).
@@ -25,10 +26,10 @@ pub struct Limits {
 }
 
 impl Default for Limits {
-    /// Returns limits of 4,096 pages, and the maximum numbers of passes and entries.
+    /// Returns limits of 16,384 pages, and the maximum numbers of passes and entries.
     fn default() -> Self {
         Self {
-            pages: 4096,
+            pages: 16_384,
             passes: MOST_PASSES,
             commits: u32::MAX.into(),
         }

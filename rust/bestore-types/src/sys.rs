@@ -51,6 +51,7 @@ constants! {
     BES_BAD_CURSOR = 78;
     BES_NO_ROOM = 79;
     BES_WRONG_KIND = 80;
+    BES_NESTED = 81;
 
     BES_CLASS_NONE = 0;
     BES_CLASS_RETRY = 1;

@@ -1,8 +1,8 @@
 //! Changes: atomic reads and writes.
 
-use crate::pass::Waits;
 use crate::raw::{Parts, RawDraft, Refused};
 use crate::refused::of_write;
+use crate::waits::Waits;
 use crate::{Batch, Error, Kind, Pass, Result, Snapshot, Value};
 use bestore_sys as sys;
 
@@ -220,11 +220,11 @@ impl<'a> Change<'a> {
 
     /// Runs the closure on successively newer snapshots until its operations have been written on top of the snapshot that it read.
     pub(crate) fn run<T>(pass: &mut Pass, closure: &mut impl FnMut(&mut Change<'_>) -> Result<T>) -> Result<T> {
-        let mut waits = Waits::of(pass);
+        let mut waits = Waits::of_change(pass);
         loop {
             let snapshot = pass.pin()?;
             let mut change = Change::new(&snapshot)?;
-            let value = closure(&mut change)?;
+            let value = snapshot.pass().while_changing(|| closure(&mut change))?;
             if !change.has_operations()? {
                 return Ok(value);
             }

@@ -71,14 +71,16 @@ fn read(found: &Comparisons, one: &bes_compared) -> Compared {
     }
 }
 
+/// Returns an operator as it is written in a query. An operator that this crate doesn't know is shown as `?`.
 const fn sign(kind: u32) -> &'static str {
     match kind {
+        sys::BES_ITEM_EQ => "==",
         sys::BES_ITEM_NE => "!=",
         sys::BES_ITEM_LT => "<",
         sys::BES_ITEM_LE => "<=",
         sys::BES_ITEM_GT => ">",
         sys::BES_ITEM_GE => ">=",
-        _ => "==",
+        _ => "?",
     }
 }
 

@@ -80,6 +80,7 @@ mod snapshot;
 mod store;
 mod succession;
 mod text;
+mod waits;
 mod writes;
 
 pub use bestore_types::{
@@ -91,13 +92,14 @@ pub use copying::StateCopy;
 pub use hints::{compared, hints, Compared, Form};
 pub use journal::{Entries, Entry};
 pub use page::Ordered;
-pub use pass::{Keeper, MakeWrite, Oldest, Pass, Retry, Status, Witness};
+pub use pass::{Keeper, MakeWrite, Oldest, Pass, Status, Witness};
 pub use predicate::{attribute, Attribute, Operand, Predicate};
 pub use prepared::{Live, Prepared, Updates};
 pub use shelf::{Shelf, ShelfChange, ShelfLive, ShelfNodes, ShelfPass, ShelfSnapshot, ShelfWritten};
 pub use snapshot::{Nodes, Snapshot, State};
 pub use store::Store;
 pub use text::any_case;
+pub use waits::Retry;
 
 /// Returns the version of the running library: major, minor and patch.
 #[must_use]

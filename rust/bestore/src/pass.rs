@@ -4,115 +4,14 @@ use crate::raw::{Answer, RawDraft, RawPass, RawWitness};
 use crate::refused::of_write;
 use crate::store::Shared;
 use crate::succession::{Place, Seat, Succession};
+use crate::waits::{Retry, Waits};
 use crate::writes::writes_of_one_operation;
 use crate::{Batch, Change, Entries, Error, Kind, Limits, Result, Snapshot, Value, Written};
 use bestore_sys as sys;
 use bestore_types::raw::OPERATIONS;
-use std::cell::RefCell;
+use std::cell::{Cell, RefCell};
 use std::fmt;
 use std::sync::Arc;
-use std::thread;
-use std::time::Duration;
-
-/// How many times to retry a call before returning its error. On each retry, [`Pass::change`] runs its closure again.
-#[derive(Clone, Copy, Debug, PartialEq, Eq)]
-pub struct Retry {
-    /// Retries while another pass is writing. Before each retry, the call yields to other threads: once at first, then twice as often each
-    /// time, up to 1,024 times.
-    pub busy: u32,
-    /// Retries while the store is full and another pass holds, or has just held, an older snapshot. Before each retry, the call waits for 1
-    /// to 64 milliseconds.
-    pub full: u32,
-    /// Retries by [`Pass::change`] after a conflict with another write. Before each retry, it yields to other threads, as with `busy`.
-    pub conflict: u32,
-}
-
-impl Retry {
-    /// Never retries a call.
-    pub const NEVER: Retry = Retry {
-        busy: 0,
-        full: 0,
-        conflict: 0,
-    };
-}
-
-impl Default for Retry {
-    /// Retries 10,000 times if the store is busy or after a conflict, which takes a few seconds, and 40 times if the store is full, which
-    /// takes about 2 seconds.
-    fn default() -> Self {
-        Self {
-            busy: 10_000,
-            full: 40,
-            conflict: 10_000,
-        }
-    }
-}
-
-/// How a change waits between its attempts.
-pub(crate) struct Waits {
-    left: Retry,
-    pauses: u32,
-    stand_back: StandBack,
-}
-
-impl Waits {
-    /// If a snapshot is held, a conflict is final, because every attempt would read the same snapshot.
-    pub(crate) fn of(pass: &Pass) -> Self {
-        let mut left = pass.retry();
-        if pass.held().is_some() {
-            left.conflict = 0;
-        }
-        Self {
-            left,
-            pauses: 0,
-            stand_back: StandBack::new(),
-        }
-    }
-
-    /// Waits after an error, or returns the error if no attempts are left.
-    pub(crate) fn after(&mut self, pass: &Pass, error: Error) -> Result<()> {
-        let left = match error {
-            Error::Conflict { .. } => &mut self.left.conflict,
-            Error::Busy { .. } => &mut self.left.busy,
-            Error::Full { oldest } if self.left.full > 0 && pass.may_find_pages(oldest)? => &mut self.left.full,
-            error => return Err(error),
-        };
-        if *left == 0 {
-            return Err(error);
-        }
-        *left -= 1;
-        if matches!(error, Error::Full { .. }) {
-            pause_at_full(self.pauses);
-            self.pauses += 1;
-        } else {
-            self.stand_back.wait();
-        }
-        Ok(())
-    }
-}
-
-/// Waits for free pages, given the number of pauses so far.
-fn pause_at_full(pauses: u32) {
-    thread::sleep(Duration::from_millis(1 << pauses.min(6)));
-}
-
-/// Yields to other threads before a retry, twice as often each time.
-pub(crate) struct StandBack(u32);
-
-impl StandBack {
-    pub(crate) fn new() -> Self {
-        Self(1)
-    }
-
-    pub(crate) fn wait(&mut self) {
-        for _ in 0..self.0 {
-            thread::yield_now();
-        }
-        if self.0 < 1024 {
-            self.0 *= 2;
-        }
-    }
-}
 
 /// A record of what a pass has seen of its store, for a pass of the same store in another thread. [`Pass::witness`] creates a witness, and
 /// [`Pass::join`] joins it. A witness can be moved to another thread but not shared between threads.
@@ -189,6 +88,8 @@ pub struct Pass {
     store: Option<Arc<Shared>>,
     retry: Retry,
     held: Option<u64>,
+    /// Whether the closure of a change is running.
+    is_changing: Cell<bool>,
     keeper: Option<Arc<dyn Keeper>>,
     /// Dropped after the seats.
     _place: Option<Place>,
@@ -226,6 +127,7 @@ impl Pass {
             store: None,
             retry: Retry::default(),
             held: None,
+            is_changing: Cell::new(false),
             keeper: None,
             _place: None,
         })
@@ -240,6 +142,7 @@ impl Pass {
             store: Some(store),
             retry: Retry::default(),
             held: None,
+            is_changing: Cell::new(false),
             keeper: None,
             _place: Some(place),
         }
@@ -333,9 +236,12 @@ impl Pass {
     fn write_on_newest(&self, batch: &Batch, mut write: impl FnMut(&Seat) -> Answer<u64>) -> Answer<u64> {
         loop {
             let open = self.succession.enter()?;
-            let written = self.with_newest(|seat| match write(seat) {
-                Ok(number) => Ok(seat.outside(number)),
-                Err(refused) => Err(seat.refused(refused)),
+            let written = self.with_newest(|seat| {
+                let _turn = self.succession.turn();
+                match write(seat) {
+                    Ok(number) => Ok(seat.outside(number)),
+                    Err(refused) => Err(seat.refused(refused)),
+                }
             });
             if let Some(written) = written {
                 match &written {
@@ -367,11 +273,24 @@ impl Pass {
         Ok(true)
     }
 
+    /// Calls the closure of a change. Meanwhile, this pass refuses to write.
+    pub(crate) fn while_changing<T>(&self, call: impl FnOnce() -> T) -> T {
+        struct Ends<'a>(&'a Cell<bool>);
+        impl Drop for Ends<'_> {
+            fn drop(&mut self) {
+                self.0.set(false);
+            }
+        }
+        self.is_changing.set(true);
+        let _ends = Ends(&self.is_changing);
+        call()
+    }
+
     pub(crate) fn retry(&self) -> Retry {
         self.retry
     }
 
-    /// Sets how many times this pass retries a call.
+    /// Sets how long this pass retries a call.
     pub fn set_retry(&mut self, retry: Retry) {
         self.retry = retry;
     }
@@ -443,7 +362,7 @@ impl Pass {
     /// Writes either all of the batch's operations or none.
     ///
     /// # Errors
-    /// [`Error::Busy`] and [`Error::Full`] once the retries set by [`Retry`] are used up. [`Error::BadCount`], [`Error::NameLength`],
+    /// [`Error::Busy`] and [`Error::Full`] once the time set by [`Retry`] is up. [`Error::BadCount`], [`Error::NameLength`],
     /// [`Error::DataLength`], [`Error::HasNul`]: an operation isn't valid. [`Error::NoNode`] to [`Error::NotIndexable`]: the store refused
     /// an operation. [`Error::CommitsSpent`], [`Error::OutOfMemory`], [`Error::Forked`].
     pub fn apply(&self, batch: &Batch) -> Result<Written> {
@@ -477,18 +396,18 @@ impl Pass {
 
     /// Writes a batch in memory. Returns the number to pass to `end_write`.
     pub(crate) fn begin_write(&self, expected: Option<u64>, batch: &Batch) -> Result<(Written, u64)> {
-        let mut full = 0;
+        if self.is_changing.get() {
+            return Err(Error::Nested);
+        }
+        let mut waits = Waits::of_call(self.retry);
         loop {
-            let mut write = || self.write_now(expected, batch);
+            let mut write = || self.write_now(expected, batch, &mut waits);
             let written = match &self.keeper {
                 None => write().map(|written| (written, 0)),
                 Some(keeper) => keeper.keep(self.number()?, batch, &mut write),
             };
             match written {
-                Err(Error::Full { oldest }) if full < self.retry.full && self.may_find_pages(oldest)? => {
-                    pause_at_full(full);
-                    full += 1;
-                }
+                Err(Error::Full { oldest }) if waits.pause_at_full(self, oldest)? => {}
                 written => return written,
             }
         }
@@ -525,13 +444,13 @@ impl Pass {
         self.keeper.as_ref().map_or(Ok(()), |keeper| keeper.wait(number))
     }
 
-    fn write_now(&self, expected: Option<u64>, batch: &Batch) -> Result<Written> {
+    fn write_now(&self, expected: Option<u64>, batch: &Batch, waits: &mut Waits) -> Result<Written> {
         let mut made = vec![0; batch.len()];
         let mut write = |seat: &Seat| {
             let expected = expected.map(|commit| seat.within(commit));
             seat.raw().apply(expected, batch.raw(), &mut made)
         };
-        match self.tried(|| self.write_on_newest(batch, &mut write)) {
+        match tried(waits, || self.write_on_newest(batch, &mut write)) {
             Ok(number) => {
                 made.retain(|node| *node != 0);
                 Ok(Written { number, nodes: made })
@@ -547,20 +466,13 @@ impl Pass {
         Ok(repeated.set_nodes(&written.nodes) == batch)
     }
 
-    fn may_find_pages(&self, oldest: u64) -> Result<bool> {
+    pub(crate) fn may_find_pages(&self, oldest: u64) -> Result<bool> {
         Ok(self.status()?.may_free_pages(self.number()?, oldest))
     }
 
     /// Retries a call while another pass is writing.
-    pub(crate) fn tried<T>(&self, mut call: impl FnMut() -> Answer<T>) -> Answer<T> {
-        let mut stand_back = StandBack::new();
-        for _ in 0..self.retry.busy {
-            match call() {
-                Err(refused) if refused.code == sys::BES_BUSY => stand_back.wait(),
-                answer => return answer,
-            }
-        }
-        call()
+    pub(crate) fn tried<T>(&self, call: impl FnMut() -> Answer<T>) -> Answer<T> {
+        tried(&mut Waits::of_call(self.retry), call)
     }
 
     /// Reads and writes atomically. Runs the closure on the current snapshot, and writes the operations that it collects, unless there has
@@ -587,10 +499,22 @@ impl Pass {
     /// page is free, the closure runs again on the same snapshot.
     ///
     /// If the closure collects no operations, nothing is written. If it returns an error, the change is abandoned and nothing is written.
-    /// [`Error::other`] turns any error into an [`Error`].
+    /// [`Error::other`] turns any error into an [`Error`]. While the closure runs, this pass is borrowed, so the closure can neither unpin it
+    /// nor write through it by its name:
+    ///
+    /// ```compile_fail
+    /// # use bestore::{Limits, Store};
+    /// # let mut pass = Store::open(Limits::default())?.pass()?;
+    /// pass.change(|change| {
+    ///     pass.new_node()?; // should be `change.new_node()`
+    ///     Ok(())
+    /// })?;
+    /// # Ok::<(), bestore::Error>(())
+    /// ```
     ///
     /// # Errors
-    /// The closure's errors; [`Error::Conflict`], [`Error::Busy`] and [`Error::Full`] once the retries set by [`Retry`] are used up;
+    /// The closure's errors, such as [`Error::Nested`] from a write through [`Snapshot::pass`]; [`Error::Conflict`], [`Error::Busy`] and
+    /// [`Error::Full`] once the time set by [`Retry`] is up;
     /// otherwise the same errors as [`apply`](Self::apply).
     pub fn change<T>(&mut self, mut change: impl FnMut(&mut Change<'_>) -> Result<T>) -> Result<T> {
         Change::run(self, &mut change)
@@ -735,5 +659,15 @@ impl Pass {
             None => Ok(is_of_store.then_some(seat.begin())),
         });
         seen?.ok_or(Error::OtherStore)
+    }
+}
+
+/// Retries a call while another pass is writing.
+fn tried<T>(waits: &mut Waits, mut call: impl FnMut() -> Answer<T>) -> Answer<T> {
+    loop {
+        match call() {
+            Err(refused) if refused.code == sys::BES_BUSY && waits.pause(|left| &mut left.busy) => {}
+            answer => return answer,
+        }
     }
 }

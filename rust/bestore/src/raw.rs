@@ -148,24 +148,28 @@ fn shrunk(mut nodes: Vec<u64>) -> Vec<u64> {
     nodes
 }
 
-/// No store has more nodes: it has at most 16,384 pages, and a page has at most 12 nodes.
-const MOST_NODES: usize = 16_384 * 12;
+/// The buffer's capacity for part of an answer, in nodes, unless fewer are wanted. If more nodes are there, it is larger at the next attempt.
+const SOME_NODES: usize = 1 << 16;
 
-/// Returns up to `most` nodes from a call that counts all nodes but writes only as many as fit. The buffer has room for at most `all`
-/// nodes, because there can't be more.
-fn some(all: u64, most: usize, call: impl FnOnce(*mut u64, usize, &mut u64) -> u32) -> Answer<Vec<u64>> {
+/// Returns up to `most` nodes from a call that writes only as many as fit. There can't be more than `all` nodes. The call is repeated with
+/// more room if it may have left out nodes.
+fn some(all: u64, most: usize, mut call: impl FnMut(*mut u64, usize, &mut u64) -> u32) -> Answer<Vec<u64>> {
     // The buffer has room for at least one node, so that a page from a store without nodes is empty and not an error.
-    let room = usize::try_from(all)
-        .unwrap_or(usize::MAX)
-        .clamp(1, MOST_NODES)
-        .min(most);
-    let mut nodes = Vec::with_capacity(room);
-    let mut count = 0;
-    let code = call(nodes.as_mut_ptr(), room, &mut count);
-    check(code, count)?;
-    // SAFETY: the library has written `count` nodes, or as many as fit.
-    unsafe { nodes.set_len(room.min(count as usize)) };
-    Ok(shrunk(nodes))
+    let most = usize::try_from(all).unwrap_or(usize::MAX).max(1).min(most);
+    let mut room = most.min(SOME_NODES);
+    loop {
+        let mut nodes = Vec::with_capacity(room);
+        let mut count = 0;
+        let code = call(nodes.as_mut_ptr(), room, &mut count);
+        check(code, count)?;
+        let count = room.min(count as usize);
+        if count < room || room == most {
+            // SAFETY: the library has written `count` nodes.
+            unsafe { nodes.set_len(count) };
+            return Ok(shrunk(nodes));
+        }
+        room = most.min(room.saturating_mul(4));
+    }
 }
 
 /// Returns the attribute that a call reads. The call stores the attribute's bytes in `bytes`.
@@ -365,7 +369,9 @@ impl RawPass {
         let (pass, prepared) = (self.handle.get()?, prepared.0.get()?);
         let by = checked_name(order.name())?;
         let (descending, mut more) = (u32::from(order.is_descending()), 0);
+        let begin = *cursor;
         let nodes = some(self.next()?, most, |nodes, room, count| {
+            *cursor = begin;
             // SAFETY: see the top of this module; the name and the cursor outlive the call.
             unsafe { sys::bes_ordered(pass, prepared, &by, descending, cursor, nodes, room, count, &mut more) }
         })?;
@@ -696,16 +702,31 @@ mod tests {
     use super::*;
 
     #[test]
-    fn a_part_takes_no_more_room_than_a_store_has_nodes() {
-        let mut rooms = Vec::new();
-        for (all, most) in [(0, 5), (7, 5), (5, 7), (u64::MAX, usize::MAX)] {
-            let nodes = some(all, most, |_, room, _| {
+    fn a_part_gets_more_room_until_all_its_nodes_fit() {
+        let rooms_for = |there: usize, all, most| {
+            let mut rooms = Vec::new();
+            let nodes = some(all, most, |nodes, room, count| {
                 rooms.push(room);
+                *count = there.min(room) as u64;
+                // SAFETY: there is room for as many nodes.
+                (0..*count).for_each(|it| unsafe { *nodes.add(it as usize) = it });
                 sys::BES_OK
             });
-            assert!(nodes.unwrap().capacity() <= NODES);
-        }
-        assert_eq!(rooms, [1, 5, 5, MOST_NODES]);
+            (nodes.unwrap().len(), rooms)
+        };
+        assert_eq!(rooms_for(0, 0, 5), (0, vec![1]));
+        assert_eq!(rooms_for(9, 7, 5), (5, vec![5]));
+        assert_eq!(rooms_for(5, 5, 7), (5, vec![5]));
+        assert_eq!(rooms_for(3, u64::MAX, usize::MAX), (3, vec![SOME_NODES]));
+        let more = 5 * SOME_NODES;
+        assert_eq!(
+            rooms_for(more, u64::MAX, usize::MAX),
+            (more, vec![SOME_NODES, 4 * SOME_NODES, 16 * SOME_NODES])
+        );
+        assert_eq!(
+            rooms_for(more, u64::MAX, 2 * SOME_NODES),
+            (2 * SOME_NODES, vec![SOME_NODES, 2 * SOME_NODES])
+        );
     }
 
     #[test]

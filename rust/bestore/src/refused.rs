@@ -87,6 +87,7 @@ impl From<Refused> for Error {
             sys::BES_NO_PASS => Error::NoPass,
             sys::BES_IN_USE => Error::InUse,
             sys::BES_NO_ROOM => Error::NoRoom,
+            sys::BES_NESTED => Error::Nested,
             // surface.toml: end
             sys::BES_BUSY => Error::Busy { pass: refused.carried },
             sys::BES_FULL => Error::Full {

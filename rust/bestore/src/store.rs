@@ -149,8 +149,8 @@ impl Store {
     /// snapshots don't change, commit numbers and node numbers continue, and [`Pass::journal_from`] still returns the entries made since
     /// that snapshot.
     ///
-    /// While this runs, it needs as much memory again as all the pages. It takes as long as [copying](Self::copy_state) and writing the
-    /// state. The old memory is freed once every pass has called [`Pass::pin`] or [`Pass::follow`].
+    /// While this opens a store, it needs memory for all pages, and then as much again as the pages in use. It takes as long as
+    /// [copying](Self::copy_state) and writing the state. The old memory is freed once every pass has called [`Pass::pin`] or [`Pass::follow`].
     ///
     /// ```
     /// # use bestore::{Limits, Store};

@@ -131,6 +131,9 @@ pub(crate) struct Succession {
     newest: AtomicU64,
     /// Locked for reading during each write in memory, and for writing while no write may take place.
     gate: RwLock<()>,
+    /// Locked during each of the library's writes, so that threads wait for each other instead of trying again and again. Nothing is
+    /// locked while it is held.
+    turn: Mutex<()>,
     /// The number of writes that found no free page.
     full_writes: AtomicU64,
     /// The approximate size of the newest generation's journal in bytes, and the size at which the next generation is due.
@@ -159,6 +162,11 @@ fn lock<T>(mutex: &Mutex<T>) -> MutexGuard<'_, T> {
 }
 
 impl Succession {
+    /// Waits for this thread's turn to write.
+    pub(crate) fn turn(&self) -> MutexGuard<'_, ()> {
+        lock(&self.turn)
+    }
+
     pub(crate) fn new(limits: Limits) -> Arc<Self> {
         let due_after = LEAST.max(limits.pages * FOR_PAGE);
         Arc::new(Self {
@@ -166,6 +174,7 @@ impl Succession {
             birthplace: Birthplace::here(),
             newest: AtomicU64::new(0),
             gate: RwLock::default(),
+            turn: Mutex::default(),
             full_writes: AtomicU64::new(0),
             journal_bytes: AtomicU64::new(0),
             due_bytes: AtomicU64::new(due_after),

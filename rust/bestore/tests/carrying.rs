@@ -6,6 +6,7 @@ use bestore::{Batch, Error, Kind, Live, Pass, Retry, Store, Value};
 use common::{shared, sized, store, ten};
 use std::sync::atomic::{AtomicBool, Ordering};
 use std::thread;
+use std::time::Duration;
 
 /// Creates a node with this size.
 fn of_size(pass: &Pass, size: i64) -> u64 {
@@ -324,6 +325,7 @@ fn a_store_without_room_for_a_snapshot_is_carried_on() {
     let write = || {
         let (mut pass, mut writes) = (store.pass().unwrap(), 0);
         pass.set_retry(Retry {
+            within: Duration::MAX,
             full: u32::MAX,
             busy: u32::MAX,
             ..Retry::default()

@@ -495,6 +495,7 @@ fn check_spent(refused: &SavedError, entry: u64) {
         SavedError::TooLarge {
             place,
             error: Error::CommitsSpent,
+            pages: None,
         } => assert_eq!(*place, Place::Entry(entry)),
         other => panic!("{other}"),
     }

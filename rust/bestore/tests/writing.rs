@@ -387,7 +387,7 @@ fn a_status_says_whether_a_write_may_find_pages() {
 #[test]
 fn limits_are_kept() {
     let open = |pages, passes, commits| Store::open(Limits { pages, passes, commits });
-    for (pages, passes, commits) in [(7, 1, 1), (16385, 1, 1), (8, 0, 1), (8, 64, 1), (8, 1, 0)] {
+    for (pages, passes, commits) in [(7, 1, 1), (16_777_217, 1, 1), (8, 0, 1), (8, 64, 1), (8, 1, 0)] {
         assert!(matches!(open(pages, passes, commits), Err(Error::BadLimits)));
     }
     let store = open(16, 63, 2).unwrap();

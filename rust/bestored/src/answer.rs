@@ -24,7 +24,16 @@ use std::time::{Duration, Instant};
 pub const WATCHES: usize = 32;
 
 /// The features that the server adds to the first version of the protocol.
-const FEATURES: [&str; 7] = ["token", "run", "collect", "info", "clients", "kick", "text"];
+const FEATURES: [&str; 8] = [
+    "token",
+    "run",
+    "collect",
+    "info",
+    "clients",
+    "kick",
+    "text",
+    "confirmed",
+];
 
 /// How many bytes of replies to collect before sending them.
 const COLLECTED: usize = 1 << 16;
@@ -153,6 +162,8 @@ pub struct Desk<'a> {
     watches: Option<Arc<Watches>>,
     last_watch: u64,
     queries: Queries,
+    /// Whether the client has asked for confirmed reads.
+    is_confirmed: bool,
 }
 
 impl Drop for Desk<'_> {
@@ -175,6 +186,7 @@ impl<'a> Desk<'a> {
             watches: None,
             last_watch: 0,
             queries: Queries::default(),
+            is_confirmed: false,
         }
     }
 
@@ -216,6 +228,14 @@ impl<'a> Desk<'a> {
         }
     }
 
+    /// If the client has asked for confirmed reads, waits until everything that reads can see is in the file or the log.
+    pub fn confirm(&self) -> Result<(), Failure> {
+        match self.is_confirmed {
+            true => self.shared.kept.flush_if_each().map_err(Failure::of_read),
+            false => Ok(()),
+        }
+    }
+
     /// Answers any command except `pin` and `unpin`.
     pub fn answer(&mut self, id: u64, command: Command<'_>, view: &mut View<'_, '_>) -> io::Result<()> {
         let is_of_server = matches!(
@@ -246,14 +266,17 @@ impl<'a> Desk<'a> {
             Command::Unwatch(watching) => self.unwatch(id, &watching),
             Command::Hello(greeting) => self.hello(id, &greeting, view),
             Command::Status(_) => self.status(id, view),
-            Command::Journal(journal) => page::journal(view, &journal).map(|page| self.reply(id, &page)),
+            Command::Journal(journal) => {
+                let page = page::journal(view, &journal);
+                page.and_then(|page| self.confirm().map(|()| self.reply(id, &page)))
+            }
             Command::State(from) => self.state(view, &from).map(|page| self.reply(id, &page)),
             Command::Collect(_) => self.collect(view).map(|next| self.reply(id, &next)),
             Command::Reach(reach) => {
                 // Earlier replies must not wait for the commit.
                 self.send(view.since())?;
                 let reached = reach::reach(view, &self.shared.pressure, self.client, &reach);
-                reached.map(|reached| self.reply(id, &reached))
+                reached.and_then(|reached| self.confirm().map(|()| self.reply(id, &reached)))
             }
             Command::Info(_) => info::info(self.shared, view).map(|info| self.reply(id, &info)),
             Command::Clients(_) => {
@@ -285,6 +308,7 @@ impl<'a> Desk<'a> {
 
     /// Answers a command that reads from a snapshot.
     fn read(&mut self, id: u64, command: Command<'_>, snapshot: &ShelfSnapshot<'_>) -> Result<(), Failure> {
+        self.confirm()?;
         let (commit, commits) = (snapshot.number(), commits(snapshot));
         match command {
             Command::Query(query) => {
@@ -326,6 +350,7 @@ impl<'a> Desk<'a> {
             let failure = Failure::named(ErrorName::Protocol);
             return Err(failure.with("known", vec![wire::PROTOCOL]));
         }
+        self.is_confirmed |= greeting.confirmed;
         let (major, minor, patch) = bestore::library_version();
         let options = &self.shared.options;
         let hello = wire::Hello {
@@ -369,6 +394,7 @@ impl<'a> Desk<'a> {
     fn collect(&mut self, view: &mut View<'_, '_>) -> Result<wire::Next, Failure> {
         self.copy = None;
         let (copy, next) = copy::collect(self.shared, view)?;
+        self.confirm()?;
         self.copy = Some(copy);
         Ok(next)
     }
@@ -393,6 +419,7 @@ impl<'a> Desk<'a> {
         let number = self.last_watch + 1;
         let mut live = watch.query.map(|query| ShelfLive::new(&query)).transpose()?;
         let (numbers, mut found) = view.read(|snapshot| {
+            self.confirm()?;
             let found = match &mut live {
                 Some(live) => live.refresh_changed(snapshot)?,
                 None => Updates::default(),
@@ -415,7 +442,7 @@ impl<'a> Desk<'a> {
     fn refresh(&mut self, watching: &wire::Watching, view: &mut View<'_, '_>) -> Result<(wire::Push, Watch), Failure> {
         let watches = self.watches.as_ref().ok_or_else(Failure::no_watch)?;
         let mut watch = watches.take(watching.watch).ok_or_else(Failure::no_watch)?;
-        match view.read(|snapshot| watch.refresh(snapshot)) {
+        match view.read(|snapshot| self.confirm().and_then(|()| watch.refresh(snapshot))) {
             Ok(push) => Ok((push, watch)),
             Err(failure) => {
                 self.shared.watcher.add(watches, watch);

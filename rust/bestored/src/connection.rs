@@ -86,7 +86,10 @@ impl<'a> Connection<'a> {
     /// could be pinned; the reply then says why.
     fn keep(&mut self, id: u64, pass: &mut ShelfPass) -> io::Result<Option<Turn>> {
         let pinned = pass.pin().map_err(Failure::from);
-        let pinned = pinned.and_then(|snapshot| Ok((volumes::next(&snapshot)?, snapshot)));
+        let pinned = pinned.and_then(|snapshot| {
+            self.desk.confirm()?;
+            Ok((volumes::next(&snapshot)?, snapshot))
+        });
         match pinned {
             Ok((next, snapshot)) => {
                 self.desk.reply(id, &next);

@@ -62,6 +62,15 @@ impl Failure {
         Self::new(ErrorName::Expired, message).with("from", entry)
     }
 
+    /// Converts the error of a write that a confirmed read has waited for.
+    pub fn of_read(self) -> Self {
+        let message = format!(
+            "nothing was read, because what it shows may never be kept: {}",
+            self.0.message
+        );
+        Self(Refusal { message, ..self.0 })
+    }
+
     /// Returns whether a batch was meant for a different snapshot.
     pub fn is_conflict(&self) -> bool {
         self.0.name == ErrorName::Conflict

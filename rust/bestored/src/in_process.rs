@@ -36,6 +36,7 @@ fn options(volumes: u32) -> Options {
         journal: None,
         hold: Duration::from_secs(86_400),
         slow: None,
+        hung: Duration::MAX,
     }
 }
 

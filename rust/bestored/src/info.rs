@@ -3,6 +3,7 @@
 use crate::answer::View;
 use crate::clients::{Client, Seat};
 use crate::failure::Failure;
+use crate::hang::Hang;
 use crate::server::Shared;
 use crate::volumes;
 use bestore::{Oldest, Status, Store};
@@ -23,6 +24,8 @@ pub fn info(shared: &Shared, view: &View<'_, '_>) -> Result<wire::Info, Failure>
         writes: shared.meter.writes(),
         writes_per_second: rate.per_second,
         latency: rate.latency,
+        unsaved: shared.kept.hang().and_then(Hang::unsaved),
+        commits: shared.kept.hang().and_then(Hang::commits),
         writing: shared.meter.writing(),
         pages: sums.pages,
         free: sums.free,

@@ -2,6 +2,7 @@
 
 use crate::disk::Disk;
 use crate::failure::Failure;
+use crate::hang::{self, Hang};
 #[cfg(feature = "log")]
 use crate::log::Log;
 use crate::notify::Notifier;
@@ -52,6 +53,7 @@ pub struct InFiles {
     path: PathBuf,
     each: bool,
     disk: Disk,
+    hang: Hang,
     /// Whether the server is ending because a commit has failed.
     is_over: AtomicBool,
     /// The thread that rewrites the states, if one has been started.
@@ -61,12 +63,15 @@ pub struct InFiles {
 impl InFiles {
     fn open(options: &Options, path: &Path, tokens: &Tokens) -> Result<Self, Box<dyn Error>> {
         let mut saved = open_files(options, path)?;
+        report_lone_files(&saved, path);
         add_tokens(saved.take_tokens(), tokens);
+        let progress = saved.volumes().iter().map(Saved::progress).collect();
         Ok(Self {
             saved: Arc::new(saved),
             path: path.to_owned(),
             each: options.every.is_none(),
             disk: Disk::of(path, options.spare)?,
+            hang: Hang::new(path.to_owned(), progress, options.hung),
             is_over: AtomicBool::new(false),
             compacting: Mutex::default(),
         })
@@ -91,8 +96,15 @@ impl InFiles {
         self.saved.volumes().iter().find_map(Saved::failure)
     }
 
+    /// Returns an error if a file isn't at its path any more.
+    fn check_files(&self) -> saved::Result<()> {
+        self.saved.volumes().iter().try_for_each(Saved::check_file)
+    }
+
+    /// Ends the server after a failed commit. While a file isn't at its path, the server goes on: a restart would find no store there,
+    /// and what is in memory can still be read.
     fn end_if_failed(&self) {
-        if self.failure().is_some() && !self.is_over.swap(true, Ordering::Relaxed) {
+        if self.failure().is_some() && self.check_files().is_ok() && !self.is_over.swap(true, Ordering::Relaxed) {
             os::end_program();
         }
     }
@@ -164,7 +176,8 @@ impl Kept {
             }
             Some(path) => path,
         };
-        Ok(Some(Kept::File(Box::new(InFiles::open(options, path, tokens)?))))
+        let files = hang::while_loading(opening.signals, || InFiles::open(options, path, tokens))?;
+        Ok(Some(Kept::File(Box::new(files))))
     }
 
     #[cfg(feature = "log")]
@@ -251,6 +264,14 @@ impl Kept {
         }
     }
 
+    /// Returns how the saving in the files is going, if there are any.
+    pub fn hang(&self) -> Option<&Hang> {
+        match self {
+            Kept::File(files) => Some(&files.hang),
+            _ => None,
+        }
+    }
+
     /// Returns the server's role in the log, if there is a log.
     pub fn role(&self) -> Option<wire::Role> {
         match self {
@@ -266,6 +287,8 @@ impl Kept {
             Kept::Memory(_) => None,
             Kept::File(files) => {
                 let failure = files.failure().map(|error| error.to_string());
+                let failure = failure.or_else(|| files.check_files().err().map(|error| error.to_string()));
+                let failure = failure.or_else(|| files.hang.trouble());
                 failure.or_else(|| files.disk.trouble())
             }
             #[cfg(feature = "log")]
@@ -351,6 +374,23 @@ impl Kept {
 
 fn not_kept() -> Failure {
     Failure::named(ErrorName::NotKept)
+}
+
+/// Reports files that are empty because their WALs weren't copied with them.
+fn report_lone_files(saved: &SavedShelf, path: &Path) {
+    let files = saved::files_of(path, saved.volumes().len() as u32);
+    for (_, file) in saved
+        .volumes()
+        .iter()
+        .zip(files)
+        .filter(|(volume, _)| volume.lacks_wal())
+    {
+        report!(
+            "bestored: {0}: the store is empty, but this file seems to be a copy of one in use, without its -wal; to copy a store, use \
+             be backup, or copy {0}-wal and {0}-last too",
+            file.display()
+        );
+    }
 }
 
 /// Adds the tokens that were found in the volumes' files.

@@ -13,16 +13,20 @@ macro_rules! report {
 
 mod answer;
 mod background;
+mod bell;
 mod carrying;
 mod clients;
 mod connection;
 mod copy;
 mod disk;
 mod failure;
+mod hang;
 pub mod in_process;
 mod info;
 mod kept;
 mod lines;
+mod listening;
+mod lobby;
 #[cfg(feature = "log")]
 mod log;
 mod meter;
@@ -43,17 +47,22 @@ mod watcher;
 mod writes;
 
 use background::{Side, Starter};
+use bell::Bell;
 use copy::Copies;
 use kept::{Kept, Opening};
+use listening::Listening;
+use lobby::Lobby;
 use meter::Meter;
 use notify::Notifier;
 use options::Options;
 use pressure::Pressure;
 use server::Shared;
-use socket::Place;
+use socket::{Place, Socket};
 use std::error::Error;
 use std::fmt;
+use std::fs::File;
 use std::io::{self, Write};
+use std::path::Path;
 use std::process::ExitCode;
 use std::sync::{Arc, Mutex};
 use tokens::Tokens;
@@ -116,35 +125,55 @@ fn place(options: &Options) -> Result<Place, Box<dyn Error>> {
 }
 
 /// Opens the volumes, and serves clients until a signal ends the program.
-fn serve(options: Options, place: Place, starter: Option<Starter>) -> Result<(), Box<dyn Error>> {
+fn serve(mut options: Options, place: Place, starter: Option<Starter>) -> Result<(), Box<dyn Error>> {
     let signals = os::ending_signals()?;
+    let mut notifier = Notifier::of_environment();
+    let path = place.socket();
+    let mut listening = Listening::Not(place, starter);
+    while let Some(socket) = serve_once(&options, path.as_deref(), listening, &mut notifier, &signals)? {
+        // Another server leads the log now.
+        if let Some(log) = &mut options.log {
+            log.leads = false;
+        }
+        listening = Listening::Already(socket);
+    }
+    Ok(())
+}
+
+/// Opens the volumes, and serves clients until a signal ends the program, or until the server has to begin again. In that case,
+/// returns the socket.
+fn serve_once(
+    options: &Options,
+    path: Option<&Path>,
+    listening: Listening,
+    notifier: &mut Notifier,
+    signals: &File,
+) -> Result<Option<Socket>, Box<dyn Error>> {
     let run = server::run_text()?;
-    let notifier = Notifier::of_environment();
     let tokens = Arc::new(Tokens::default());
-    let socket = place.socket();
     let opening = Opening {
-        options: &options,
-        socket: socket.as_deref(),
+        options,
+        socket: path,
         run: &run,
         tokens: &tokens,
-        notifier: &notifier,
-        signals: &signals,
+        notifier,
+        signals,
     };
     let kept = match notifier.while_loading(|| Kept::open(opening))? {
         Some(kept) => kept,
-        None => return Ok(()),
+        None => return Ok(None),
     };
     if let Some(bytes) = options.journal {
         let stores = kept.shelf().volumes().iter();
         stores.for_each(|store| store.set_due_after(bytes));
     }
     let own = kept.pass()?;
-    let shared = share(kept, tokens, run, options)?;
-    server::run(place, starter, notifier, &signals, shared, own)
+    let shared = share(kept, tokens, run, options.clone())?;
+    server::run(listening, notifier, signals, shared, own)
 }
 
 /// Returns the state that all connections to the server share.
-fn share(kept: Kept, tokens: Arc<Tokens>, run: String, options: Options) -> bestore::Result<Shared> {
+fn share(kept: Kept, tokens: Arc<Tokens>, run: String, options: Options) -> Result<Shared, Box<dyn Error>> {
     let mut visits = kept.pass()?;
     visits.set_retry(pressure::retry());
     Ok(Shared {
@@ -156,8 +185,11 @@ fn share(kept: Kept, tokens: Arc<Tokens>, run: String, options: Options) -> best
         meter: Meter::new(),
         copies: Copies::new(options.hold),
         carrying: Default::default(),
+        again: Bell::new()?,
+        lobby: Lobby::new()?,
         is_full: Default::default(),
         not_accepted: Default::default(),
+        is_foreign: Default::default(),
         visits: Mutex::new(visits),
         run,
         options,

@@ -24,6 +24,8 @@ pub struct Notifier {
     /// How often to notify the watchdog that the server is alive.
     every: Option<Duration>,
     last: Instant,
+    /// Whether the watchdog isn't notified at the moment, because the server can't go on.
+    is_silent: bool,
 }
 
 /// Returns how often to notify a watchdog that waits this many µs. `process` is the process that the watchdog expects to hear
@@ -46,6 +48,7 @@ impl Notifier {
                 .and_then(|_| interval(wait.as_deref(), process.as_deref(), std::process::id())),
             socket,
             last: Instant::now(),
+            is_silent: false,
         }
     }
 
@@ -79,7 +82,9 @@ impl Notifier {
         thread::scope(|scope| {
             let request = move || {
                 while is_loaded.recv_timeout(every) == Err(RecvTimeoutError::Timeout) {
-                    self.send_within(FOR_LIFE, &format!("EXTEND_TIMEOUT_USEC={}", EXTENSION.as_micros()));
+                    // A server that begins again is still watched.
+                    let more = EXTENSION.as_micros();
+                    self.send_within(FOR_LIFE, &format!("EXTEND_TIMEOUT_USEC={more}\nWATCHDOG=1"));
                 }
             };
             // If the thread can't be started, the manager only gives the server less time.
@@ -98,12 +103,18 @@ impl Notifier {
         self.send(&format!("EXTEND_TIMEOUT_USEC={more}\nSTATUS={why}"));
     }
 
-    /// Reports that the server is alive, if a report is due. Returns how long to wait before the next one.
-    pub fn lives(&mut self) -> Option<Duration> {
+    /// Reports that the server is alive, if a report is due and there is no trouble. Returns how long to wait before the next one.
+    pub fn lives(&mut self, trouble: impl FnOnce() -> Option<String>) -> Option<Duration> {
         let every = self.every?;
         if self.last.elapsed() >= every {
             self.last = Instant::now();
-            self.send_within(FOR_LIFE, "WATCHDOG=1");
+            let trouble = trouble();
+            let was_silent = std::mem::replace(&mut self.is_silent, trouble.is_some());
+            match trouble {
+                Some(_) if was_silent => {}
+                Some(trouble) => report!("bestored: the watchdog isn't notified while {trouble}"),
+                None => self.send_within(FOR_LIFE, "WATCHDOG=1"),
+            }
         }
         Some(every.saturating_sub(self.last.elapsed()))
     }
@@ -128,12 +139,13 @@ mod tests {
             socket: Some(path.clone().into()),
             every: None,
             last: Instant::now(),
+            is_silent: false,
         };
         let mut bytes = [0; 99];
         // The store is loaded once the manager has got two messages.
         let load = || [(); 2].map(|()| manager.recv(&mut bytes).unwrap());
         let [_, length] = notifier.requesting_every(Duration::from_millis(1), load);
-        assert_eq!(&bytes[..length], b"EXTEND_TIMEOUT_USEC=30000000");
+        assert_eq!(&bytes[..length], b"EXTEND_TIMEOUT_USEC=30000000\nWATCHDOG=1");
         fs::remove_file(path).unwrap();
     }
 

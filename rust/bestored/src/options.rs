@@ -51,6 +51,8 @@ pub struct Options {
     pub hold: Duration,
     /// The time after which a request is reported as slow.
     pub slow: Option<Duration>,
+    /// How long the disk may be overdue with a commit before it counts as one that hangs. Only tests change this.
+    pub hung: Duration,
 }
 
 fn command() -> Command {
@@ -113,7 +115,10 @@ fn command() -> Command {
                 .value_parser(value_parser!(u32).range(1..=i64::from(MOST_VOLUMES)))
                 .help("The number of volumes, which each query searches; by default as many as the folder has, or 1"),
         )
-        .arg(number("pages", "N", 8..=16_384, "4096").help("Pages of 4 KiB in each volume"))
+        .arg(
+            number("pages", "N", 8..=16_777_216, "16384")
+                .help("Pages of 4 KiB in each volume, which take memory once they are used"),
+        )
         .arg(number("passes", "N", 1..=61, "61").help("How many clients may be connected at the same time"))
         .arg(
             number("commits", "N", 1..=u32::MAX.into(), "4294967295")
@@ -133,6 +138,7 @@ fn command() -> Command {
                 .value_parser(value_parser!(u64).range(1..=3_600_000))
                 .help("Reports requests that take longer than this, on standard error"),
         )
+        .arg(number("hung", "MS", 1..=3_600_000, "5000").hide(true))
         .arg(number("hold", "SECONDS", 1..=86_400, "60").help("How long a client may keep a snapshot"))
 }
 
@@ -162,6 +168,7 @@ impl Options {
             journal: read.get_one::<u64>("journal").map(|kib| kib << 10),
             hold: Duration::from_secs(number("hold")),
             slow: read.get_one("slow").copied().map(Duration::from_millis),
+            hung: Duration::from_millis(number("hung")),
         }
     }
 

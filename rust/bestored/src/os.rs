@@ -55,22 +55,42 @@ pub fn wait_closed(stream: &UnixStream, time: Duration) -> io::Result<bool> {
     wait([stream.as_raw_fd()], 0, Some(time)).map(|[is_closed]| is_closed)
 }
 
+/// Waits until at least one of any number of descriptors is readable, and returns which ones are.
+pub fn wait_any_readable(descriptors: &[RawFd], time: Option<Duration>) -> io::Result<Vec<bool>> {
+    let polled = descriptors.iter().map(|fd| polled(*fd, libc::POLLIN));
+    let mut polled: Vec<_> = polled.collect();
+    poll(&mut polled, time)?;
+    Ok(polled.iter().map(|one| one.revents != 0).collect())
+}
+
 /// Waits for any of these events on the descriptors, and returns which descriptors have one.
 fn wait<const N: usize>(
     descriptors: [RawFd; N],
     events: libc::c_short,
     time: Option<Duration>,
 ) -> io::Result<[bool; N]> {
-    let mut polled = descriptors.map(|fd| libc::pollfd { fd, events, revents: 0 });
+    let mut polled = descriptors.map(|fd| polled(fd, events));
+    poll(&mut polled, time)?;
+    Ok(polled.map(|one| one.revents != 0))
+}
+
+fn polled(fd: RawFd, events: libc::c_short) -> libc::pollfd {
+    libc::pollfd { fd, events, revents: 0 }
+}
+
+/// Waits for any of the events. If a signal arrives first, there are none.
+fn poll(polled: &mut [libc::pollfd], time: Option<Duration>) -> io::Result<()> {
     let milliseconds = time.map_or(-1, |time| {
         let rounded_up = time.as_millis() + u128::from(time.subsec_nanos() % 1_000_000 > 0);
         libc::c_int::try_from(rounded_up).unwrap_or(libc::c_int::MAX)
     });
-    // SAFETY: the array has N entries.
-    match check(unsafe { libc::poll(polled.as_mut_ptr(), N as libc::nfds_t, milliseconds) }) {
-        Err(error) if error.kind() == io::ErrorKind::Interrupted => Ok([false; N]),
-        Err(error) => Err(error),
-        Ok(_) => Ok(polled.map(|one| one.revents != 0)),
+    // SAFETY: the pointer and the length are those of the slice.
+    match check(unsafe { libc::poll(polled.as_mut_ptr(), polled.len() as libc::nfds_t, milliseconds) }) {
+        Err(error) if error.kind() == io::ErrorKind::Interrupted => {
+            polled.iter_mut().for_each(|one| one.revents = 0);
+            Ok(())
+        }
+        polled => polled.map(drop),
     }
 }
 

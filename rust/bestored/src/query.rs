@@ -137,14 +137,26 @@ fn most_of(name: &str, nodes: u64) -> Result<usize, Failure> {
     }
 }
 
+/// Returns whether the error is about the query, and not, for example, about a page's order or cursor.
+fn is_of_query(error: &Error) -> bool {
+    match error {
+        Error::Query(_) => true,
+        Error::InVolume { error, .. } => is_of_query(error),
+        _ => false,
+    }
+}
+
 impl Parsed {
-    /// Runs the query. If its text isn't valid, the error says where.
+    /// Runs the query. If the indices don't cover it, the error says where in its text.
     fn ask<T>(
         &self,
         snapshot: &ShelfSnapshot<'_>,
         ask: impl FnOnce(&Prepared) -> Result<T, Error>,
     ) -> Result<T, Failure> {
-        ask(&self.prepared).map_err(|error| snapshot.explain(&self.text).err().unwrap_or(error).into())
+        ask(&self.prepared).map_err(|error| match is_of_query(&error) {
+            true => snapshot.explain(&self.text).err().unwrap_or(error).into(),
+            false => error.into(),
+        })
     }
 
     fn count(&self, snapshot: &ShelfSnapshot<'_>, query: &wire::Query<'_>) -> Result<wire::Hits, Failure> {

@@ -1,18 +1,21 @@
 //! The server: a thread and a pass for each client.
 
-use crate::background::Starter;
+use crate::bell::Bell;
 use crate::carrying::Carrying;
 use crate::clients::{Client, Clients};
 use crate::connection::Connection;
 use crate::copy::Copies;
 use crate::failure::Failure;
+use crate::hang::Hang;
 use crate::kept::{self, Kept};
+use crate::listening::Listening;
+use crate::lobby::Lobby;
 use crate::meter::Meter;
 use crate::notify::Notifier;
 use crate::options::Options;
 use crate::os;
 use crate::pressure::{self, Pressure};
-use crate::socket::{Place, Socket};
+use crate::socket::Socket;
 use crate::tokens::Tokens;
 use crate::watcher::Watcher;
 use bestore::{Error, ShelfPass};
@@ -20,9 +23,9 @@ use bestore_client::socket::{peer_process, peer_user, user};
 use bestore_client::wire::{Command, ErrorName, Greeting, Request};
 use std::fs::File;
 use std::io::{self, ErrorKind};
+use std::ops::Deref;
 use std::os::unix::io::AsRawFd;
 use std::os::unix::net::{UnixListener, UnixStream};
-use std::path::PathBuf;
 use std::sync::{Arc, Mutex, MutexGuard, PoisonError, TryLockError};
 use std::thread;
 use std::time::{Duration, Instant, SystemTime};
@@ -51,7 +54,7 @@ pub struct Seldom(Mutex<Option<Instant>>);
 
 impl Seldom {
     /// Returns whether to report it now.
-    fn is_due(&self) -> bool {
+    pub fn is_due(&self) -> bool {
         let mut said = self.0.lock().unwrap_or_else(PoisonError::into_inner);
         let is_due = said.map_or(true, |said| said.elapsed() >= SAID);
         if is_due {
@@ -73,27 +76,32 @@ pub struct Shared {
     pub meter: Meter,
     pub copies: Copies,
     pub carrying: Carrying,
-    /// For the reports that all places are taken, and that a client couldn't be accepted.
+    /// Rung when the server has to begin again, because its store has writes that the log lacks.
+    #[cfg_attr(not(feature = "log"), allow(dead_code))]
+    pub again: Bell,
+    pub lobby: Lobby,
+    /// For the reports that all places are taken, that a client couldn't be accepted, and that one belongs to another user.
     pub is_full: Seldom,
     pub not_accepted: Seldom,
+    pub is_foreign: Seldom,
     /// The pass for clients that can't get another. Each of them may use it for a short time.
     pub visits: Mutex<ShelfPass>,
     /// A string that is different for each run.
     pub run: String,
 }
 
-/// Listens, and serves clients until a signal ends the program.
+/// Listens, and serves clients until a signal ends the program, or until the server has to begin again. In that case, returns the
+/// socket, which is still listening.
 pub fn run(
-    place: Place,
-    starter: Option<Starter>,
-    mut notifier: Notifier,
+    listening: Listening,
+    notifier: &mut Notifier,
     signals: &File,
     shared: Shared,
     own: ShelfPass,
-) -> Result<(), Box<dyn std::error::Error>> {
+) -> Result<Option<Socket>, Box<dyn std::error::Error>> {
     let shared = Arc::new(shared);
     kept::start(&shared)?;
-    let socket = listen(place, starter, &shared.run)?;
+    let socket = listening.begin(&shared.run)?;
     let watching = {
         let shared = shared.clone();
         thread::spawn(move || shared.watcher.run(own, &shared.pressure, &shared.kept))
@@ -102,41 +110,60 @@ pub fn run(
         let shared = shared.clone();
         thread::spawn(move || shared.carrying.run(&shared))
     };
+    let lobby = {
+        let shared = shared.clone();
+        thread::spawn(move || shared.lobby.run(&shared))
+    };
     notifier.ready();
-    accept(&socket.listener, &mut notifier, signals, &shared);
-    notifier.ends();
-    drop(socket);
+    let turn = accept(&socket.listener, notifier, signals, &shared);
+    if let (Turn::End, Some(hang)) = (turn, shared.kept.hang()) {
+        hang.end_program_if_hung();
+    }
+    let socket = match turn {
+        Turn::Again => Some(socket),
+        Turn::End => {
+            notifier.ends();
+            drop(socket);
+            None
+        }
+    };
+    shared.lobby.end();
     shared.clients.end();
     shared.watcher.end();
     shared.carrying.end();
-    for (what, thread) in [("the live queries", watching), ("the journals", carrying)] {
+    for (what, thread) in [
+        ("the live queries", watching),
+        ("the journals", carrying),
+        ("clients without a place", lobby),
+    ] {
         if thread.join().is_err() {
             report!("bestored: the thread for {what} has crashed");
         }
     }
-    shared.kept.finish()
-}
-
-/// Starts listening, and reports this to the process that started the server.
-fn listen(place: Place, starter: Option<Starter>, run: &str) -> io::Result<Socket> {
-    let path = place.path().map(PathBuf::from);
-    let socket = place.listen()?;
-    if let (Some(starter), Some(path)) = (starter, &path) {
-        starter.listens_at(path)?;
-    }
-    match path {
-        Some(path) => report!("bestored: run {run} listens at {}", path.display()),
-        None => report!("bestored: run {run} listens at the socket of systemd"),
+    match (shared.kept.finish(), &socket) {
+        (Err(error), Some(_)) => report!("bestored: {error}; beginning again with the log's entries"),
+        (finished, _) => finished?,
     }
     Ok(socket)
 }
 
-fn accept(listener: &UnixListener, notifier: &mut Notifier, signals: &File, shared: &Arc<Shared>) {
-    let waited_for = [listener.as_raw_fd(), signals.as_raw_fd()];
+/// Why the server accepts no more clients.
+#[derive(Clone, Copy, Debug, PartialEq, Eq)]
+enum Turn {
+    /// A signal ends the program.
+    End,
+    /// The server begins again with a new store.
+    Again,
+}
+
+fn accept(listener: &UnixListener, notifier: &mut Notifier, signals: &File, shared: &Arc<Shared>) -> Turn {
+    let waited_for = [listener.as_raw_fd(), signals.as_raw_fd(), shared.again.as_raw_fd()];
     loop {
-        match os::wait_readable(waited_for, notifier.lives()) {
-            Ok([_, true]) => break,
-            Ok([true, _]) => {}
+        let trouble = || shared.kept.hang().and_then(Hang::long_trouble);
+        match os::wait_readable(waited_for, notifier.lives(trouble)) {
+            Ok([_, true, _]) => break,
+            Ok([_, _, true]) => return Turn::Again,
+            Ok([true, ..]) => {}
             Ok(_) => continue,
             Err(error) => report!("bestored: waiting for clients failed: {error}"),
         }
@@ -145,6 +172,7 @@ fn accept(listener: &UnixListener, notifier: &mut Notifier, signals: &File, shar
     // Clients that connected before the signal still get replies.
     let most = shared.options.passes as usize + WAITING;
     (0..most).take_while(|_| take_client(listener, shared)).count();
+    Turn::End
 }
 
 /// Accepts a waiting client. Returns whether there was a client to accept.
@@ -170,14 +198,16 @@ fn welcome(shared: &Arc<Shared>, stream: Arc<UnixStream>) {
         Ok(client) if client == user() || client == 0 => {}
         other => {
             let other = other.map_or_else(|error| error.to_string(), |user| format!("user {user}"));
-            let process = peer_process(&stream).unwrap_or(0);
-            report!("bestored: process {process} of {other} was refused: the server belongs to another user");
+            if shared.is_foreign.is_due() {
+                let process = peer_process(&stream).unwrap_or(0);
+                report!("bestored: process {process} of {other} was refused: the server belongs to another user");
+            }
             return refuse(&stream, &Failure::named(ErrorName::NotAllowed));
         }
     }
     let clients = shared.clients.count();
     if clients >= shared.options.passes as usize + WAITING {
-        return refuse_for_now(shared, &stream);
+        return shared.lobby.enter(stream);
     }
     let client = shared.clients.enter(stream.clone());
     let (of_thread, entered) = (shared.clone(), client.clone());
@@ -187,7 +217,7 @@ fn welcome(shared: &Arc<Shared>, stream: Arc<UnixStream>) {
             shared: &of_thread,
             client: entered,
         };
-        serve(&of_thread, &leaving.client, stream);
+        serve(&of_thread, &leaving, stream);
     });
     if let Err(error) = started {
         report!("bestored: no thread could be started for a client: {error}");
@@ -196,7 +226,7 @@ fn welcome(shared: &Arc<Shared>, stream: Arc<UnixStream>) {
 }
 
 /// Refuses a client because there is no place for it, and reports this from time to time.
-fn refuse_for_now(shared: &Shared, stream: &UnixStream) {
+pub fn refuse_for_now(shared: &Shared, stream: &UnixStream) {
     let failure = no_pass(shared);
     if shared.is_full.is_due() {
         let process = peer_process(stream).unwrap_or(0);
@@ -206,9 +236,27 @@ fn refuse_for_now(shared: &Shared, stream: &UnixStream) {
 }
 
 /// Removes a client from the list when it is dropped, even if the connection's thread panics.
-struct Leaving<'a> {
+pub struct Leaving<'a> {
     shared: &'a Shared,
     client: Arc<Client>,
+}
+
+impl<'a> Leaving<'a> {
+    /// Adds a client to the list.
+    pub fn of(shared: &'a Shared, stream: Arc<UnixStream>) -> Self {
+        Self {
+            shared,
+            client: shared.clients.enter(stream),
+        }
+    }
+}
+
+impl Deref for Leaving<'_> {
+    type Target = Client;
+
+    fn deref(&self) -> &Client {
+        &self.client
+    }
 }
 
 impl Drop for Leaving<'_> {
@@ -224,7 +272,7 @@ fn serve(shared: &Shared, client: &Client, stream: Arc<UnixStream>) {
             Some(mut pass) => talk(shared, client, stream, &mut pass, true),
             None => refuse_for_now(shared, &stream),
         },
-        Err(Error::NoPass) => refuse_for_now(shared, &stream),
+        Err(Error::NoPass) => shared.lobby.enter(stream),
         Err(error) => refuse(&stream, &error.into()),
     }
 }

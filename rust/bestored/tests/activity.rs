@@ -100,6 +100,19 @@ fn files_that_a_link_names_are_measured() {
 }
 
 #[test]
+fn a_copy_without_its_wal_is_reported() {
+    let folder = Folder::new();
+    let server = Server::start_kept(&folder, &[]);
+    make(&mut server.client(), 1);
+    let copy = folder.join("copy");
+    fs::copy(folder.join("kept"), &copy).unwrap();
+    server.kill();
+    let command = command(&folder.join("socket"), &["--keep", copy.to_str().unwrap()]);
+    let saying = Saying::run(folder, command);
+    saying.says("copy: the store is empty, but this file seems to be a copy of one in use, without its -wal;");
+}
+
+#[test]
 fn a_server_without_descriptors_says_so_once_and_goes_on() {
     let folder = Folder::new();
     let server = command(&folder.join("socket"), &[]);

@@ -3,6 +3,7 @@
 use crate::common::disk::Disk;
 use crate::common::writers::{check_history, Writers};
 use crate::common::{command, wait_until, Folder, Server};
+use bestore::saved::{About, Backup};
 use bestore::Batch;
 use bestore_client::wire::{Command, Nothing};
 use bestore_client::{Client, Error, ErrorName};
@@ -198,6 +199,32 @@ fn a_file_that_may_not_grow_can_be_read() {
     let mut client = server.client();
     assert_eq!(count_of(&mut client), Some(1));
     set_count(&mut client, 2).unwrap();
+}
+
+#[test]
+fn a_backup_on_a_full_disk_can_be_read() {
+    let disk = present!(disk_of("a backup on a full disk"));
+    let folder = Folder::new();
+    let backup = folder.join("backup");
+    let mut made = Backup::create(&backup, 1).unwrap();
+    made.add(0, Batch::new().new_node().set(1, "count", 1_u64)).unwrap();
+    made.finish(&[About { entries: 1, next: 2 }]).unwrap();
+    let copied = disk.run("cp").arg(&backup).arg(disk.join("file")).status();
+    assert!(copied.unwrap().success());
+    disk.resize(disk.used());
+    let server = start(&disk, &folder, &["--spare", "0"]).expect("the backup can be opened");
+    let mut client = server.client();
+    assert_eq!(count_of(&mut client), Some(1));
+    let refused = set_count(&mut client, 2).unwrap_err();
+    assert!(refused.is(ErrorName::NotSaved), "{refused}");
+    assert!(!server.wait_end().success());
+    disk.resize(LARGE);
+    for count in 2..4 {
+        let server = start(&disk, &folder, &[]).unwrap();
+        assert_eq!(count_of(&mut server.client()), Some(count - 1));
+        set_count(&mut server.client(), count).unwrap();
+        server.kill();
+    }
 }
 
 /// Returns a disk for a test that needs one, or prints that there is none.

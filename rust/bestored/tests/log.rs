@@ -122,12 +122,18 @@ impl Member {
     }
 }
 
-fn status(server: &Server) -> Option<LogStatus> {
+/// Returns the attribute `count` of node 1.
+pub fn count_of(member: &Member) -> Option<u64> {
+    let value = member.client().get(1, "count").unwrap();
+    value.and_then(|value| value.as_u64())
+}
+
+pub fn status(server: &Server) -> Option<LogStatus> {
     Client::connect(server.socket()).ok()?.log().ok()
 }
 
 /// Waits until one of the servers leads, and returns its index.
-fn leader_of(members: &[Member]) -> usize {
+pub fn leader_of(members: &[Member]) -> usize {
     let mut leader = None;
     wait_until("one leads", || {
         leader = members.iter().position(Member::leads);
@@ -137,7 +143,7 @@ fn leader_of(members: &[Member]) -> usize {
 }
 
 /// Waits until all servers have the leader's entries, and compares their states.
-fn check_all_alike(members: &[Member], leader: usize) {
+pub fn check_all_alike(members: &[Member], leader: usize) {
     let mut client = members[leader].client();
     let entry = client.log().unwrap().entry;
     client.pin().unwrap();
@@ -152,12 +158,12 @@ fn check_all_alike(members: &[Member], leader: usize) {
 }
 
 /// Sends a signal to the process with this ID.
-fn signal(process: &str, signal: &str) {
+pub fn signal(process: &str, signal: &str) {
     let sent = process::Command::new("kill").args(["-s", signal, process]).status();
     assert!(sent.unwrap().success());
 }
 
-fn set_count(count: u64) -> Batch {
+pub fn set_count(count: u64) -> Batch {
     let mut batch = Batch::new();
     batch.set(1, "count", count);
     batch
@@ -408,11 +414,12 @@ fn leave_leader(database: &Database, is_next_one_killed: bool) {
     old.server.signal("CONT");
     let answer = waiting.receive::<Written>(sent.unwrap());
     assert!(answer.is_err(), "{answer:?}");
-    let said = old.end();
-    assert!(
-        said.contains("leads the log now") && said.contains("1 writes"),
-        "{said}"
-    );
+    // It discards the write and follows.
+    wait_until("the old leader begins again", || {
+        old.said().contains("leads the log now")
+    });
+    let said = old.said();
+    assert!(said.contains("1 writes"), "{said}");
     assert_eq!(
         database.sql("SELECT last, count(*) FROM bestore_log, bestore_entry GROUP BY last"),
         "2|2"
@@ -421,12 +428,14 @@ fn leave_leader(database: &Database, is_next_one_killed: bool) {
         true => new.follow_again(database),
         false => new,
     };
-    wait_until("it leads", || new.leads());
-    let found = new.client().get(1, "count").unwrap().and_then(|value| value.as_u64());
-    assert_eq!(found, Some(2));
+    let members = [old, new];
+    let leader = leader_of(&members);
+    check_all_alike(&members, leader);
+    assert_eq!(count_of(&members[leader]), Some(2));
     if !is_next_one_killed {
         // A server can't start as the leader of a log that already has one.
-        let said = Member::start_in(old.folder, database, "--log").end();
+        assert_eq!(leader, 1);
+        let said = Member::start(database, "--log").end();
         assert!(said.contains(" already leads the log; use --follow"), "{said}");
     }
 }
@@ -440,8 +449,13 @@ fn a_leader_without_its_term_adds_nothing() {
     // The leader's session continues, and still holds the lock.
     database.sql("UPDATE bestore_log SET term = term + 1, leader = 'another', run = 'another'");
     client.apply(&set_count(1)).unwrap_err();
-    let said = leader.end();
+    // It discards the write, and leads again, since no other server does.
+    wait_until("it leads in a new term", || {
+        status(&leader.server).map_or(false, |status| status.term == Some(3))
+    });
+    let said = leader.said();
     assert!(said.contains("another leads the log now"), "{said}");
+    assert_eq!(count_of(&leader), Some(0));
     let found = database.sql("SELECT last, count(*) FROM bestore_log, bestore_entry GROUP BY last");
     assert_eq!(found, "1|1");
 }

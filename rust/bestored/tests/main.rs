@@ -18,16 +18,20 @@ mod carrying;
 mod changes;
 mod common;
 mod crowd;
+#[cfg(feature = "log")]
+mod cuts;
 mod full;
 mod growth;
 #[cfg(feature = "log")]
 mod hanging;
+mod hung;
 mod killed;
 mod live;
 #[cfg(feature = "log")]
 mod log;
 mod manual;
 mod memory;
+mod moved;
 mod notify;
 mod ordered;
 mod pages;

@@ -158,6 +158,26 @@ fn a_cursor_of_another_page_is_refused() {
     talk.check(&other, &format!(r#""error":{{{}}}"#, fault(why)));
 }
 
+/// What is wrong with the order or the cursor is reported even if no index covers the query.
+#[test]
+fn a_page_of_a_query_that_is_not_covered() {
+    let (_folder, _server, mut talk) = four();
+    let cursor = cursor_of(&mut talk, r#""query":{"query":"size>0","by":"size","limit":1}"#);
+    for (parameters, parts) in [
+        (
+            r#""by":"size""#.into(),
+            [r#""name":"NotCovered""#, r#""missing":"kind""#],
+        ),
+        (r#""by":"kind""#.into(), [r#""name":"NoIndex""#, r#""missing":"kind""#]),
+        (
+            format!(r#""by":"size","after":"{cursor}""#),
+            [r#""name":"BadCursor""#, "belongs to another query"],
+        ),
+    ] {
+        talk.check_parts(&format!(r#""query":{{"query":"kind>0",{parameters}}}"#), &parts);
+    }
+}
+
 /// A cursor is also valid for the same query written in a different way, but not for an index that has been removed and created
 /// again.
 #[test]

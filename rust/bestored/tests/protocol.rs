@@ -133,7 +133,7 @@ fn reads() {
     }
     let status = talk.ask(r#"{"id":1,"status":{}}"#);
     assert!(
-        status.contains(r#""pages":4096"#) && status.contains(r#""watches":0"#),
+        status.contains(r#""pages":16384"#) && status.contains(r#""watches":0"#),
         "{status}"
     );
     let hello = talk.ask(r#"{"id":1,"hello":{"protocol":1}}"#);

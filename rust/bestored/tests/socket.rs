@@ -3,7 +3,7 @@
 use crate::common::{command, wait_until, Folder, Server, Talk, PATIENCE};
 use bestore::Batch;
 use bestore_client::ErrorName;
-use std::fs::{self, Permissions};
+use std::fs::{self, File, Permissions};
 use std::io::Read;
 use std::os::unix::fs::PermissionsExt;
 use std::os::unix::io::AsRawFd;
@@ -203,9 +203,13 @@ fn another_user_cant_connect() {
         println!("skipped: only root can act as another user");
         return;
     }
-    let folder = Folder::new();
-    let server = Server::start(&folder, &[]);
-    let connect = r#"$s = IO::Socket::UNIX->new(Peer => $ARGV[0]) or die "$!\n"; print scalar <$s>"#;
+    let (folder, reports) = (Folder::new(), Folder::new());
+    let socket = folder.join("socket");
+    let mut command = command(&socket, &[]);
+    command.stderr(File::create(reports.join("said")).unwrap());
+    let server = Server::run(command, &socket);
+    wait_until("the server listens", || UnixStream::connect(&socket).is_ok());
+    let connect = r#"for (1..9) { $s = IO::Socket::UNIX->new(Peer => $ARGV[0]) or die "$!\n"; print scalar <$s> }"#;
     let as_nobody = || {
         let nobody = [
             "--reuid=65534",
@@ -227,8 +231,12 @@ fn another_user_cant_connect() {
     // Even if the files' permissions let others connect, the server itself refuses them.
     fs::set_permissions(folder.path(), Permissions::from_mode(0o755)).unwrap();
     fs::set_permissions(folder.join("socket"), Permissions::from_mode(0o777)).unwrap();
-    assert!(as_nobody().contains("NotAllowed"), "{}", as_nobody());
+    let said = as_nobody();
+    assert_eq!(said.matches("NotAllowed").count(), 9, "{said}");
     server.client().hello().unwrap();
+    // However often it tries, this is reported only now and then.
+    let said = fs::read_to_string(reports.join("said")).unwrap();
+    assert_eq!(said.matches("the server belongs to another user").count(), 1, "{said}");
 }
 
 /// Runs a server with these options once a client connects to this socket, which systemd's tool then passes to it. Returns `None` if

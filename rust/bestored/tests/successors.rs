@@ -2,7 +2,7 @@
 
 use crate::common::postgres::{Database, Postgres};
 use crate::common::{wait_until, wait_within};
-use crate::log::{database, database_of, Member, OF_LEADER, SOON};
+use crate::log::{database, database_of, signal, status, Member, OF_LEADER, SOON};
 use crate::repeats::make;
 use bestore::Batch;
 use bestore_client::wire::{Command, Nothing, Numbers, Token, Write, Written};
@@ -66,8 +66,33 @@ fn a_leader_that_is_paused_is_replaced() {
         .contains("has been silent for 7 seconds; ending its session"));
     assert_eq!(second.unwrap().nodes, [2]);
     paused.server.signal("CONT");
-    assert!(paused.end().contains("leads"));
-    assert_eq!(make(&mut following.client(), "c").unwrap().nodes, [3]);
+    let third = make(&mut following.client(), "c").unwrap();
+    assert_eq!(third.nodes, [3]);
+    check_follows(&paused, &third);
+}
+
+/// Waits until a server that has led follows, and has this entry.
+fn check_follows(member: &Member, written: &Written) {
+    wait_until("it follows", || {
+        status(&member.server).map_or(false, |status| status.role == "follower")
+    });
+    member.client().wait_for_entry(written.entry.unwrap(), SOON).unwrap();
+}
+
+#[test]
+fn a_silent_leader_is_reported_once() {
+    let database = present!(database());
+    let (paused, _, following) = leader_and_follower(&database);
+    // PostgreSQL can't end the session of a process that is stopped.
+    let session = database.sql(&format!("SELECT pid {OF_LEADER}"));
+    signal(&session, "STOP");
+    paused.server.signal("STOP");
+    let reports = || following.said().matches("has been silent for 7 seconds").count();
+    wait_until("it is reported", || reports() > 0);
+    thread::sleep(Duration::from_secs(1));
+    assert_eq!(reports(), 1);
+    signal(&session, "CONT");
+    wait_until("the follower leads", || following.leads());
 }
 
 #[test]
@@ -126,9 +151,10 @@ fn a_leader_that_is_paused_while_it_writes_the_state_is_replaced() {
         paused.server.stop();
     });
     wait_within(SOON, "the other one leads", || following.leads());
-    assert_eq!(make(&mut following.client(), "b").unwrap().nodes, [2]);
+    let second = make(&mut following.client(), "b").unwrap();
+    assert_eq!(second.nodes, [2]);
     paused.server.signal("CONT");
-    assert!(paused.end().contains("leads"));
+    check_follows(&paused, &second);
 }
 
 /// Returns the identifier of a server's run.

@@ -11,10 +11,7 @@ use serde::Serialize;
 use std::path::{Path, PathBuf};
 
 /// The maximum number of pages in a store.
-const MOST_PAGES: u64 = 16_384;
-
-/// The maximum number of volumes of a server.
-const MOST_VOLUMES: u64 = 64;
+const MOST_PAGES: u64 = 16_777_216;
 
 /// The maximum number of paths to print for each problem.
 const SHOWN: usize = 10;
@@ -183,22 +180,14 @@ fn what_helps(files: usize, left: usize, pages: u64, used: u64, volumes: u64) ->
     // Add a tenth, because files differ.
     let needed = (used * (files + left) / files * 11 / 10).max(pages + 1);
     let each = (needed + volumes - 1) / volumes;
-    let words = match (each <= MOST_PAGES, volumes) {
-        (true, 1) => format!("--pages {}", each.next_power_of_two().min(MOST_PAGES)),
-        (true, _) => format!(
-            "--volumes {volumes} --pages {}",
-            each.next_power_of_two().min(MOST_PAGES)
-        ),
-        (false, _) => {
-            let volumes = (needed + MOST_PAGES - 1) / MOST_PAGES;
-            if volumes > MOST_VOLUMES {
-                let largest = format!("bestored --volumes {MOST_VOLUMES} --pages {MOST_PAGES}");
-                return format!("even the largest server, {largest}, doesn't have room for all");
-            }
-            format!("--volumes {volumes} --pages {MOST_PAGES}")
-        }
-    };
-    format!("bestored {words} has room for all")
+    if each > MOST_PAGES {
+        return format!("even the largest store, bestored --pages {MOST_PAGES}, doesn't have room for all");
+    }
+    let pages = each.next_power_of_two();
+    match volumes {
+        1 => format!("bestored --pages {pages} has room for all"),
+        _ => format!("bestored --volumes {volumes} --pages {pages} has room for all"),
+    }
 }
 
 fn complain_of<'a>(list: impl ExactSizeIterator<Item = (&'a Path, String)>, what: &str) {
@@ -224,13 +213,13 @@ mod tests {
         check(100, 100, 1024, 1000, 1, "--pages 4096");
         check(100, 10, 1024, 1000, 1, "--pages 2048");
         check(100, 100, 1024, 1000, 4, "--volumes 4 --pages 1024");
-        check(14_000, 46_000, 16_384, 16_000, 1, "--volumes 5 --pages 16384");
+        check(14_000, 46_000, 16_384, 16_000, 1, "--pages 131072");
         check(0, 5, 8, 8, 1, "--pages 64");
-        check(13_000, 740_000, 16_384, 16_384, 1, "--volumes 64 --pages 16384");
-        let said = what_helps(13_000, 760_000, 16_384, 16_384, 1);
+        check(13_000, 12_000_000, 16_384, 16_384, 1, "--pages 16777216");
+        let said = what_helps(13_000, 13_000_000, 16_384, 16_384, 1);
         assert_eq!(
             said,
-            "even the largest server, bestored --volumes 64 --pages 16384, doesn't have room for all"
+            "even the largest store, bestored --pages 16777216, doesn't have room for all"
         );
     }
 }

@@ -23,6 +23,10 @@ replies! {
         pub writes_per_second: u64,
         /// How long the writes of those 10 seconds took, including the time to save them. Missing if there were none.
         pub latency?: Latency,
+        /// How old the oldest write is that isn't in the file yet, in milliseconds. Missing if all writes are in the file.
+        pub unsaved?: u64,
+        /// How long the last 64 commits to each file took. Missing if there were none.
+        pub commits?: Latency,
         /// How many writes are in progress, or waiting for other writes or the disk.
         pub writing: u64,
         /// The total number of pages.

@@ -101,8 +101,8 @@ names! {
     DataLength = Some(19), Mine, "a value has more than 255 bytes";
     /// A name or a text has a zero byte; only a raw value may have one.
     HasNul = Some(20), Mine, "a name or a text has a zero byte; only a raw value may have one";
-    /// A limit of the store is out of range; a store has 8 to 16,384 pages, 1 to 64 passes and 1 to 4,294,967,295 commits.
-    BadLimits = Some(21), Mine, "a limit of the store is out of range; a store has 8 to 16,384 pages, 1 to 64 passes and 1 to 4,294,967,295 commits";
+    /// A limit of the store is out of range; a store has 8 to 16,777,216 pages, 1 to 64 passes and 1 to 4,294,967,295 commits.
+    BadLimits = Some(21), Mine, "a limit of the store is out of range; a store has 8 to 16,777,216 pages, 1 to 64 passes and 1 to 4,294,967,295 commits";
     /// The items don't form a query; each operator takes the items before it, and exactly one query must remain at the end.
     BadRpn = Some(22), Mine, "the items don't form a query; each operator takes the items before it, and exactly one query must remain at the end";
     /// The handle is closed; use an open one.
@@ -139,6 +139,8 @@ names! {
     NoRoom = Some(79), Mine, "a page has at least one node; ask for one or more";
     /// The index of this name takes values of another kind; set a value of the index's kind.
     KindMismatch = Some(80), Mine, "the index of this name takes values of another kind; set a value of the index's kind";
+    /// A change's function wrote through the change's own pass, or unpinned it; add the operation to the change, or use another pass.
+    Nested = Some(81), Mine, "a change's function wrote through the change's own pass, or unpinned it; add the operation to the change, or use another pass";
     /// The request isn't valid.
     BadRequest = None, Mine, "the request isn't valid";
     /// The snapshot expired, because it was kept too long; pin again.

@@ -45,6 +45,9 @@ parameters! {
         /// Whether the client will leave after a few requests, so that the server admits it even when it is full.
         #[serde(default, skip_serializing_if = "std::ops::Not::not")]
         pub visit: bool,
+        /// Whether replies to reads on this connection wait until what they show is in the file or the log.
+        #[serde(default, skip_serializing_if = "std::ops::Not::not")]
+        pub confirmed: bool,
     }
 
     /// The parameters of `batch`.

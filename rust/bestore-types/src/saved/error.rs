@@ -65,6 +65,31 @@ pub enum Error {
         /// The file.
         path: PathBuf,
     },
+    /// The file has been removed, moved or replaced while it was open. Nothing is written until it is back at its path.
+    Moved {
+        /// The path at which the file was opened.
+        path: PathBuf,
+    },
+    /// The file's WAL has been removed, moved or replaced while the file was open.
+    WalMoved {
+        /// The path at which the file was opened.
+        path: PathBuf,
+    },
+    /// There is something other than a file at the path, such as a FIFO.
+    NotAFile {
+        /// The path.
+        path: PathBuf,
+    },
+    /// The file belongs to another user, and every user may write to it.
+    NotPrivate {
+        /// The file.
+        path: PathBuf,
+    },
+    /// The WAL beside the file belongs to another file, which was at this path before.
+    OtherWal {
+        /// The file.
+        path: PathBuf,
+    },
     /// A backup would replace something that exists at its path.
     Exists {
         /// The path.
@@ -128,6 +153,8 @@ pub enum Error {
         place: Place,
         /// The store's error.
         error: crate::Error,
+        /// A number of pages that is enough for the file, if the store had too few and such a number is known.
+        pages: Option<u64>,
     },
     /// An SQLite error.
     Sqlite {
@@ -185,7 +212,8 @@ impl Error {
     pub fn refused(place: Place, error: crate::Error) -> Self {
         match error {
             crate::Error::Full { .. } | crate::Error::CommitsSpent | crate::Error::OutOfMemory => {
-                Error::TooLarge { place, error }
+                let pages = None;
+                Error::TooLarge { place, error, pages }
             }
             error => Error::differs(place, error),
         }
@@ -294,6 +322,32 @@ impl fmt::Display for Error {
                 path.display()
             ),
             Error::Held { path } => write!(f, "{}: the file is open in another process or store; close it there first", path.display()),
+            Error::Moved { path } => write!(
+                f,
+                "{}: the file was removed, moved or replaced while it was open; move it back to this path. If it was removed, the \
+                 store is only in memory: print it with be dump before it is closed",
+                path.display()
+            ),
+            Error::WalMoved { path } => write!(
+                f,
+                "{0}-wal: this file was removed, moved or replaced while {0} was open; close the store, which writes everything to \
+                 {0}, and open it again",
+                path.display()
+            ),
+            Error::NotAFile { path } => {
+                write!(f, "{}: this isn't a regular file; name one, or a path where nothing is yet", path.display())
+            }
+            Error::NotPrivate { path } => write!(
+                f,
+                "{}: this file belongs to another user, and every user may write to it; name a file of your own",
+                path.display()
+            ),
+            Error::OtherWal { path } => write!(
+                f,
+                "{0}: {0}-wal belongs to another file that was at this path before; put that file back, or remove {0}-wal and {0}-last \
+                 to go on without it",
+                path.display()
+            ),
             Error::Exists { path } => write!(
                 f,
                 "{}: this file or folder exists, and won't be overwritten; remove it, or name another",
@@ -337,8 +391,12 @@ impl fmt::Display for Error {
             Error::Differs { place, why } => {
                 write!(f, "{place}: the file contains something that no store wrote: {why}")
             }
-            Error::TooLarge { place, error } => {
-                write!(f, "{place}: the file doesn't fit the limits of the store: {error}")
+            Error::TooLarge { place, error, pages } => {
+                write!(f, "{place}: the file doesn't fit the limits of the store: {error}")?;
+                match pages {
+                    Some(pages) => write!(f, "; it can be opened with {pages} pages (--pages {pages}, or Limits::pages)"),
+                    None => Ok(()),
+                }
             }
             Error::Sqlite { path, error } => write!(f, "{}: {error}", path.display()),
             Error::Thread(error) => write!(f, "the thread that saves can't be started: {error}"),

@@ -1,6 +1,8 @@
 //! The file: an SQLite database with the last state and the entries made since that state. docs/KEPT.md describes the format.
 
+use super::beside;
 use super::last::LastEntry;
+use super::presence::Presence;
 use super::tables::{self, APPLICATION, FORMAT, WITHOUT_CHECKSUMS};
 use super::{Error, Place, Result};
 use crate::{Batch, Limits};
@@ -20,7 +22,6 @@ use std::time::Duration;
 /// 1,000 pages would be larger than many stores. Each reuse costs three calls of `fsync` besides those of the commits.
 /// The last two statements take the lock.
 const SETTINGS: &str = "
-    PRAGMA journal_mode = WAL;
     PRAGMA synchronous = FULL;
     PRAGMA wal_autocheckpoint = 120;
     PRAGMA journal_size_limit = 524288;
@@ -155,11 +156,16 @@ pub struct File {
     path: PathBuf,
     /// Whether the rows have checksums, which they lack in the earlier format.
     has_checksums: bool,
+    /// Whether nothing has been written to the file since it was created.
+    is_unused: bool,
+    /// Whether the file was alone when it was opened, as a copy is.
+    was_alone: bool,
     /// The entries whose tokens are in the file, sorted by number.
     with_token: VecDeque<u64>,
     /// The size of the entries in bytes, and the size at which the state is rewritten.
     entry_bytes: u64,
     due_bytes: u64,
+    presence: Presence,
     /// Dropped after the connection.
     last: Option<LastEntry>,
 }
@@ -182,14 +188,12 @@ impl File {
         let flags = OpenFlags::SQLITE_OPEN_READ_WRITE | OpenFlags::SQLITE_OPEN_CREATE | OpenFlags::SQLITE_OPEN_NO_MUTEX;
         // SQLite doesn't treat `:memory:` or an empty name as a file. After a folder's name, SQLite takes every name as that of a file.
         let within = Path::new(".").join(path);
+        beside::check(path)?;
+        beside::check_private(path)?;
         make_private(&within);
-        let opened = Self::connect(&within, path, flags).and_then(|mut file| match file.take() {
-            Ok(()) => Ok(file),
-            Err(error) => {
-                file.leave();
-                Err(error)
-            }
-        });
+        let presence = Presence::before_opening(path);
+        let was_alone = beside::is_alone(path);
+        let opened = Self::connect(&within, path, flags).and_then(|file| Self { was_alone, ..file }.taken(presence));
         explained(opened, &within, true)
     }
 
@@ -200,9 +204,12 @@ impl File {
             connection: opened.map_err(|error| Error::of_sqlite(path, error))?,
             path: path.to_owned(),
             has_checksums: true,
+            is_unused: false,
+            was_alone: false,
             with_token: VecDeque::new(),
             entry_bytes: 0,
             due_bytes: LEAST_DUE,
+            presence: Presence::default(),
             last: None,
         })
     }
@@ -211,6 +218,7 @@ impl File {
     pub fn open_to_read(path: &Path) -> Result<Self> {
         let flags = OpenFlags::SQLITE_OPEN_READ_ONLY | OpenFlags::SQLITE_OPEN_NO_MUTEX;
         let within = Path::new(".").join(path);
+        beside::check(path)?;
         let mut file = explained(Self::connect(&within, path, flags), &within, false)?;
         file.sqlite(file.connection.busy_timeout(Duration::ZERO))?;
         match file.check_format()? {
@@ -226,7 +234,7 @@ impl File {
         let flags = OpenFlags::SQLITE_OPEN_READ_WRITE | OpenFlags::SQLITE_OPEN_NO_MUTEX;
         let file = Self::connect(&Path::new(".").join(place), path, flags)?;
         file.run(STATE_SETTINGS)?;
-        file.sqlite(tables::make(&file.connection))?;
+        file.sqlite(tables::make(&file.connection, false))?;
         file.run("BEGIN")?;
         Ok(file)
     }
@@ -259,16 +267,55 @@ impl File {
         self.sqlite(self.connection.pragma_query_value(None, name, |row| row.get(0)))
     }
 
+    /// Returns the file once it is locked.
+    fn taken(mut self, presence: Presence) -> Result<Self> {
+        match self.take(presence) {
+            Ok(()) => Ok(self),
+            Err(error) => {
+                self.leave();
+                Err(error)
+            }
+        }
+    }
+
     /// Locks the file and checks that it is a store's. In an empty file, first creates the tables, so that they can't be lost with the WAL.
-    fn take(&mut self) -> Result<()> {
+    fn take(&mut self, presence: Presence) -> Result<()> {
         self.sqlite(self.connection.busy_timeout(Duration::ZERO))?;
         self.sqlite(self.connection.pragma_update(None, "locking_mode", "EXCLUSIVE"))?;
         if self.check_format()? {
             self.run("PRAGMA auto_vacuum = FULL; PRAGMA synchronous = FULL")?;
-            self.sqlite(tables::make(&self.connection))?;
+            self.sqlite(tables::make(&self.connection, true))?;
+            self.was_alone = false;
+        }
+        // If the file is damaged, reading it says where.
+        self.is_unused = tables::is_unused(&self.connection).unwrap_or(false);
+        match self.run("PRAGMA journal_mode = WAL") {
+            // A backup has no WAL yet. On a full disk, it can still be read.
+            Err(error) if error.is_of_writing() => {}
+            set => set?,
         }
         self.run(SETTINGS)?;
+        self.presence = presence;
+        self.presence.add_wal()?;
         self.sqlite(tables::make_tokens(&self.connection, self.has_checksums))
+    }
+
+    /// Returns whether the file seems to be a copy, without its WAL, of one that was in use.
+    pub fn lacks_wal(&self) -> bool {
+        self.was_alone && self.is_unused
+    }
+
+    /// Closes the file.
+    pub fn close(self) {
+        if self.is_unused && tables::set_used(&self.connection).is_err() {
+            // The WAL stays, which shows that the file wasn't closed.
+            self.leave();
+        }
+    }
+
+    /// Returns the paths at which the file and its WAL must stay.
+    pub fn presence(&self) -> &Presence {
+        &self.presence
     }
 
     /// Returns `true` if the file is new. Refuses a file that belongs to another program or is in a newer format.
@@ -383,6 +430,11 @@ impl File {
     /// Returns `true` if the entries are more than half the size of the state, and larger than the minimum.
     pub fn is_due(&self) -> bool {
         self.entry_bytes > self.due_bytes
+    }
+
+    /// Returns about how many bytes the state and the entries take, or more.
+    pub fn bytes(&self) -> u64 {
+        2 * self.due_bytes + self.entry_bytes
     }
 
     /// Measures the sizes of the state and the entries in bytes.
@@ -506,10 +558,11 @@ impl File {
     /// Adds the rows, all in one commit. A single row needs no statements to begin and end a transaction.
     pub fn append(&mut self, rows: &[Row]) -> Result<()> {
         let added = match rows {
-            [row] if row.token.is_none() => self.insert(row),
+            [row] if row.token.is_none() && !self.is_unused => self.insert(row),
             rows => self.insert_all(rows),
         };
         self.sqlite(added)?;
+        self.is_unused = false;
         self.entry_bytes += rows.iter().map(|row| row.batch.len() as u64 + ROW_BYTES).sum::<u64>();
         if let (Some(last), Some(row)) = (&self.last, rows.last()) {
             last.set(row.number);
@@ -593,7 +646,10 @@ impl File {
     fn insert_all(&mut self, rows: &[Row]) -> rusqlite::Result<()> {
         let run = |connection: &Connection, sql: &str| connection.prepare_cached(sql)?.execute([]).map(drop);
         run(&self.connection, "BEGIN IMMEDIATE")?;
-        let inserted = rows.iter().try_for_each(|row| self.insert(row));
+        let mut inserted = rows.iter().try_for_each(|row| self.insert(row));
+        if self.is_unused {
+            inserted = inserted.and_then(|()| tables::set_used(&self.connection));
+        }
         let added = inserted.and_then(|()| run(&self.connection, "COMMIT"));
         if added.is_err() && !self.connection.is_autocommit() {
             // The error from the rows matters more than that of the rollback.
@@ -630,6 +686,7 @@ impl File {
         let committed = transaction.commit();
         committed.map_err(|error| Error::of_sqlite(&self.path, error))?;
         self.has_checksums = true;
+        self.is_unused = false;
         self.checkpoint("TRUNCATE");
         self.measure()
     }
@@ -660,6 +717,7 @@ fn replace_state(
         insert.execute((place as i64, bytes, sum))?;
     }
     drop(insert);
+    tables::set_used(&transaction)?;
     tables::set_about(&transaction, about)?;
     Ok(transaction)
 }

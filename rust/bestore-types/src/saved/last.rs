@@ -29,7 +29,7 @@ impl Drop for LastEntry {
 }
 
 /// Returns the path of a file next to a store's, named as SQLite names its own. It follows links.
-fn beside(path: &Path, ending: &str) -> PathBuf {
+pub(super) fn beside(path: &Path, ending: &str) -> PathBuf {
     let mut path = fs::canonicalize(path)
         .unwrap_or_else(|_| path.to_owned())
         .into_os_string();
@@ -45,15 +45,35 @@ fn line(id: u64, number: u64) -> String {
 impl LastEntry {
     /// Returns the last entry that the file with this id had, if known.
     pub(super) fn read(path: &Path, id: u64) -> Option<u64> {
-        let text = fs::read_to_string(beside(path, "-last")).ok()?;
-        let number = text.split(' ').nth(1)?.parse().ok()?;
-        (text == line(id, number)).then_some(number)
+        let (of, number) = Self::read_both(path)?;
+        (of == id).then_some(number)
+    }
+
+    /// Returns the id of the file whose last entry is known, if any is.
+    pub(super) fn id(path: &Path) -> Option<u64> {
+        Self::read_both(path).map(|(id, _)| id)
+    }
+
+    fn read_both(path: &Path) -> Option<(u64, u64)> {
+        let path = beside(path, "-last");
+        // Reading anything else might wait for ever.
+        if !fs::metadata(&path).ok()?.is_file() {
+            return None;
+        }
+        let text = fs::read_to_string(path).ok()?;
+        let mut words = text.split(' ');
+        let id = u64::from_str_radix(words.next()?, 16).ok()?;
+        let number = words.next()?.parse().ok()?;
+        (text == line(id, number)).then_some((id, number))
     }
 
     /// Begins to keep the number, starting with this entry. Returns `None` if the number can't be kept, for example because the disk is
     /// full.
     pub(super) fn begin(path: &Path, id: u64, number: u64) -> Option<Self> {
         let (path, wal) = (beside(path, "-last"), beside(path, "-wal"));
+        if path.metadata().map_or(false, |found| !found.is_file()) {
+            return None;
+        }
         let file = OpenOptions::new()
             .write(true)
             .create(true)

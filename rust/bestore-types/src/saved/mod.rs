@@ -3,6 +3,7 @@
 //! The repository's `docs/KEPT.md` describes the format. The crate `bestore` opens such a file and keeps writes in it.
 
 mod backup;
+mod beside;
 mod checksum;
 mod contents;
 mod error;
@@ -10,6 +11,9 @@ mod error;
 #[doc(hidden)]
 pub mod file;
 mod last;
+#[allow(missing_docs)]
+#[doc(hidden)]
+pub mod presence;
 mod tables;
 mod volumes;
 

@@ -24,19 +24,36 @@ const COLUMNS: &str = "
     ALTER TABLE token ADD COLUMN checksum INTEGER;
 ";
 
+/// The row of `about` that marks a file to which nothing has been written. Only the WAL of a file in use has the row's removal at first.
+const UNUSED: &str = "unused";
+
 /// Files from earlier versions lack this table.
 const TOKENS: &str =
     "CREATE TABLE IF NOT EXISTS token (number INTEGER PRIMARY KEY, token TEXT NOT NULL, nodes BLOB NOT NULL";
 
-/// Marks an empty file as a store's, and creates its tables.
-pub(super) fn make(connection: &Connection) -> rusqlite::Result<()> {
+/// Marks an empty file as a store's, and creates its tables. A file that is going to have a WAL also gets the mark that it is unused.
+pub(super) fn make(connection: &Connection, has_wal: bool) -> rusqlite::Result<()> {
     connection.execute_batch(&format!(
         "BEGIN IMMEDIATE; PRAGMA application_id = {APPLICATION}; PRAGMA user_version = {FORMAT}; {TABLES}"
     ))?;
     make_tokens(connection, true)?;
     set_id(connection)?;
     set_about(connection, About { entries: 0, next: 1 })?;
+    if has_wal {
+        set_number(connection, UNUSED, 1)?;
+    }
     connection.execute_batch("COMMIT")
+}
+
+/// Returns whether nothing has been written to the file since it was created. Then it also hasn't been closed: closing removes the mark.
+pub(super) fn is_unused(connection: &Connection) -> rusqlite::Result<bool> {
+    connection.query_row("SELECT count(*) FROM about WHERE what = ?", [UNUSED], |row| row.get(0))
+}
+
+/// Removes the mark of an unused file.
+pub(super) fn set_used(connection: &Connection) -> rusqlite::Result<()> {
+    let mut delete = connection.prepare_cached("DELETE FROM about WHERE what = ?")?;
+    delete.execute([UNUSED]).map(drop)
 }
 
 /// Creates the token table if it doesn't exist.

@@ -30,10 +30,13 @@
 //!
 //! Opening the file and calling [`Saved::compact`] rewrite its state, so that the file doesn't grow forever.
 
+mod progress;
 mod queue;
+mod room;
 mod shelf;
 
 pub use bestore_types::saved::{files_of, About, Backup, Error, Place, Result, TOKENS};
+pub use progress::Progress;
 pub use shelf::SavedShelf;
 
 use crate::{Batch, Limits, Pass, Shelf, Snapshot, Store};
@@ -104,8 +107,9 @@ impl Options {
     /// Opens or creates the file, and rebuilds the store. If the file is refused, it isn't changed.
     ///
     /// # Errors
-    /// [`Error::Foreign`], [`Error::Newer`], [`Error::Held`], [`Error::Damaged`], [`Error::CutOff`], [`Error::Differs`],
-    /// [`Error::TooLarge`], [`Error::DiskFull`], [`Error::Sqlite`], [`Error::Store`].
+    /// [`Error::NotAFile`], [`Error::NotPrivate`], [`Error::OtherWal`], [`Error::Foreign`], [`Error::Newer`], [`Error::Held`],
+    /// [`Error::Damaged`], [`Error::CutOff`], [`Error::Differs`], [`Error::Moved`], [`Error::TooLarge`], [`Error::DiskFull`],
+    /// [`Error::Sqlite`], [`Error::Store`].
     pub fn open(&self, path: impl AsRef<Path>) -> Result<Saved> {
         let mut file = File::open(path.as_ref())?;
         let Loaded { store, number, tokens } = self.open_store(&mut file).map_err(|error| {
@@ -121,6 +125,7 @@ impl Options {
         };
         file.keep_last(number)?;
         file.measure()?;
+        let lacks_wal = file.lacks_wal() && number == 0;
         let token = |(entry, token): (u64, file::Token)| Token {
             text: token.text.into(),
             // The state's batches come before the entries and aren't entries themselves.
@@ -129,13 +134,18 @@ impl Options {
         };
         let tokens = tokens.into_iter().map(token).collect();
         let queue = Queue::start(file, number, in_memory, self.every)?;
-        Ok(Saved { store, queue, tokens })
+        Ok(Saved {
+            store,
+            queue,
+            tokens,
+            lacks_wal,
+        })
     }
 
     /// Creates the store for a file.
     fn open_store(&self, file: &mut File) -> Result<Loaded> {
-        let store = Store::open(file.limits_within(self.limits)?)?;
-        let number = load(file, &store, u64::MAX)?;
+        let limits = file.limits_within(self.limits)?;
+        let (store, number) = room::load_within(file, limits, u64::MAX)?;
         let tokens = file.tokens(number)?;
         file.check_end(None, number)?;
         Ok(Loaded { store, number, tokens })
@@ -166,9 +176,8 @@ impl Options {
     }
 
     fn load_file(&self, path: &Path, until: Option<u64>) -> Result<Store> {
-        let store = Store::open(self.limits)?;
         let file = File::open_to_read(path)?;
-        let last = load(&file, &store, until.unwrap_or(u64::MAX))?;
+        let (store, last) = room::load_within(&file, self.limits, until.unwrap_or(u64::MAX))?;
         file.check_end(until, last)?;
         Ok(store)
     }
@@ -237,6 +246,7 @@ pub struct Saved {
     store: Store,
     queue: Queue,
     tokens: Vec<Token>,
+    lacks_wal: bool,
 }
 
 impl Saved {
@@ -245,6 +255,13 @@ impl Saved {
     #[must_use]
     pub fn store(&self) -> &Store {
         &self.store
+    }
+
+    /// Returns `true` if the store is empty, and its file seems to be a copy of one that was in use, made without the WAL that had the
+    /// writes.
+    #[must_use]
+    pub fn lacks_wal(&self) -> bool {
+        self.lacks_wal
     }
 
     /// Takes a pass whose writes are saved.
@@ -264,7 +281,8 @@ impl Saved {
     /// Waits until everything written before the call is in the file.
     ///
     /// # Errors
-    /// The error from the commit that failed, in [`Error::Stopped`]; [`Error::Store`] in a forked child.
+    /// The error from the commit that failed, in [`Error::Stopped`]; [`Error::Moved`], [`Error::WalMoved`]; [`Error::Store`] in a forked
+    /// child.
     pub fn flush(&self) -> Result<()> {
         self.store.check()?;
         self.queue.flush(None)
@@ -275,6 +293,20 @@ impl Saved {
     #[must_use]
     pub fn failure(&self) -> Option<Arc<Error>> {
         self.queue.failure()
+    }
+
+    /// Returns how the saving is going, which can be asked without waiting for the file.
+    #[must_use]
+    pub fn progress(&self) -> Progress {
+        self.queue.progress()
+    }
+
+    /// Returns an error if the file isn't at its path any more. Writes then return [`Stopped`](crate::Error::Stopped), until the file is back.
+    ///
+    /// # Errors
+    /// [`Error::Moved`].
+    pub fn check_file(&self) -> Result<()> {
+        self.queue.check_file()
     }
 
     /// Writes a [copy](Store::copy_state) of the current snapshot to the file, where it replaces the state and the entries that the copy

@@ -1,11 +1,13 @@
 //! The queue of writes to be saved. One of the waiting writers saves them or, if writes are saved within a given time, a separate thread
 //! does.
 
+use super::progress::Progress;
 use super::{Error, Result};
 use crate::pass::{Keeper, MakeWrite};
 use crate::raw::Birthplace;
 use crate::{Batch, Written};
 use bestore_types::saved::file::{File, Row};
+use bestore_types::saved::presence::Presence;
 use std::mem;
 use std::sync::atomic::{AtomicBool, Ordering};
 use std::sync::{Arc, Condvar, Mutex, MutexGuard, PoisonError};
@@ -15,7 +17,7 @@ use std::time::{Duration, Instant};
 /// The number of bytes that can wait to be saved before further writes must wait too.
 const WAITING: usize = 16 << 20;
 
-fn lock<T>(mutex: &Mutex<T>) -> MutexGuard<'_, T> {
+pub(super) fn lock<T>(mutex: &Mutex<T>) -> MutexGuard<'_, T> {
     mutex.lock().unwrap_or_else(PoisonError::into_inner)
 }
 
@@ -83,6 +85,8 @@ struct Shared {
     done: Condvar,
     /// `Some` until the queue is closed.
     file: Mutex<Option<File>>,
+    presence: Presence,
+    progress: Progress,
     /// Whether the file's state should be rewritten.
     is_due: AtomicBool,
     every: Option<Duration>,
@@ -121,12 +125,19 @@ impl Shared {
     /// Commits the waiting rows. Writes that arrive in the meantime wait for the next commit.
     fn save_rows<'a>(&'a self, mut line: MutexGuard<'a, Line>) -> MutexGuard<'a, Line> {
         let rows = line.take_rows();
+        let begin = self.progress.begins();
         drop(line);
         let saving = Saving(self);
-        let answer = self.with_file(|file| file.append(&rows));
+        let bytes = rows.iter().map(|row| row.batch.len() as u64).sum();
+        let answer = self.with_file(|_| bytes, |file| file.append(&rows));
+        // A file that isn't at its path any more has the rows, but whoever opens the path doesn't find them.
+        let answer = answer.and_then(|()| self.presence.check());
         let mut line = lock(&self.line);
         match answer {
-            Ok(()) => line.saved = rows.last().map_or(line.saved, |row| row.number),
+            Ok(()) => {
+                line.saved = rows.last().map_or(line.saved, |row| row.number);
+                self.progress.ends(begin);
+            }
             Err(error) => line.failed = Some(Arc::new(error)),
         }
         line.is_saving = false;
@@ -162,9 +173,11 @@ impl Shared {
         }
     }
 
-    fn with_file<T>(&self, work: impl FnOnce(&mut File) -> Result<T>) -> Result<T> {
+    /// Uses the file for work that writes about this many bytes.
+    fn with_file<T>(&self, bytes: impl FnOnce(&File) -> u64, work: impl FnOnce(&mut File) -> Result<T>) -> Result<T> {
         match lock(&self.file).as_mut() {
             Some(file) => {
+                let _working = self.progress.works(bytes(file));
                 let outcome = work(file);
                 self.is_due.store(file.is_due(), Ordering::Relaxed);
                 outcome
@@ -188,6 +201,8 @@ impl Drop for Saving<'_> {
 
 impl Keeper for Shared {
     fn keep(&self, pass: u64, batch: &Batch, write: MakeWrite<'_>) -> crate::Result<(Written, u64)> {
+        let is_in_place = self.presence.check_file();
+        is_in_place.map_err(|error| crate::Error::Stopped(Arc::new(error)))?;
         let mut line = lock(&self.line);
         while line.waiting_bytes > WAITING && line.failed.is_none() {
             line = self.advance(line);
@@ -208,6 +223,7 @@ impl Keeper for Shared {
         line.written = number;
         line.waiting_bytes += row.batch.len();
         line.waiting.push(row);
+        self.progress.waits();
         if let (Some(time), None) = (self.every, line.due) {
             line.due = Some(Instant::now() + time);
             self.work.notify_one();
@@ -251,6 +267,8 @@ impl Queue {
             work: Condvar::new(),
             done: Condvar::new(),
             is_due: AtomicBool::new(file.is_due()),
+            presence: file.presence().clone(),
+            progress: Progress::default(),
             file: Mutex::new(Some(file)),
             every,
             shift: number.wrapping_sub(in_memory) as i64,
@@ -277,8 +295,13 @@ impl Queue {
         self.shared.number_in_file(commit)
     }
 
+    /// Uses the file for work that may rewrite all of it.
     pub(super) fn with_file<T>(&self, work: impl FnOnce(&mut File) -> Result<T>) -> Result<T> {
-        self.shared.with_file(work)
+        self.shared.with_file(File::bytes, work)
+    }
+
+    pub(super) fn progress(&self) -> Progress {
+        self.shared.progress.clone()
     }
 
     pub(super) fn is_due(&self) -> bool {
@@ -293,14 +316,21 @@ impl Queue {
         }
     }
 
-    /// Waits until the entry with this number has been saved or, if no number is given, until all entries have been.
+    /// Waits until the entry with this number has been saved or, if no number is given, until all entries have been. Then checks that the
+    /// file is still at its path.
     pub(super) fn flush(&self, number: Option<u64>) -> Result<()> {
         let mut line = lock(&self.shared.line);
         let number = number.unwrap_or(line.written);
         if number > line.written {
             line.failed.get_or_insert_with(|| Arc::new(unsaved()));
         }
-        self.shared.wait_for(line, number).map_err(Error::Stopped)
+        self.shared.wait_for(line, number).map_err(Error::Stopped)?;
+        self.shared.presence.check()
+    }
+
+    /// Returns an error if the file isn't at its path any more.
+    pub(super) fn check_file(&self) -> Result<()> {
+        self.shared.presence.check_file()
     }
 
     /// Saves all waiting writes and ends the thread.
@@ -321,7 +351,10 @@ impl Queue {
             let _ = saving.join();
         }
         let flushed = self.flush(None);
-        drop(lock(&self.shared.file).take());
+        if let Some(file) = lock(&self.shared.file).take() {
+            let _working = self.shared.progress.works(file.bytes());
+            file.close();
+        }
         flushed
     }
 }
@@ -329,5 +362,185 @@ impl Queue {
 impl Drop for Queue {
     fn drop(&mut self) {
         let _ = self.close();
+    }
+}
+
+#[cfg(test)]
+mod tests {
+    use super::*;
+    use crate::saved::{Options, Saved};
+    use rusqlite::Connection;
+    use std::fs;
+    use std::path::PathBuf;
+    use std::thread::{Scope, ScopedJoinHandle};
+
+    const WRITERS: u64 = 4;
+    const HOUR: Duration = Duration::from_secs(3_600);
+
+    /// A test doesn't wait longer than this for anything.
+    const PATIENCE: Duration = Duration::from_secs(60);
+
+    /// A test's folder with a file, which is removed when the test ends.
+    struct Folder(PathBuf);
+
+    impl Folder {
+        fn new(name: &str) -> Self {
+            let folder = std::env::temp_dir().join(format!("bestore-queue-{name}-{}", std::process::id()));
+            fs::create_dir_all(&folder).unwrap();
+            Self(folder)
+        }
+
+        fn file(&self) -> PathBuf {
+            self.0.join("test.bestore")
+        }
+
+        fn open(&self, every: Option<Duration>) -> Saved {
+            let mut options = Options::new();
+            every.map(|time| options.every(time));
+            options.open(self.file()).unwrap()
+        }
+
+        /// Creates the file, in which SQLite refuses the entry with this number, and undoes a commit with it.
+        fn refuse(&self, entry: u64) {
+            self.open(None).close().unwrap();
+            let trigger = format!(
+                "CREATE TRIGGER refuse BEFORE INSERT ON entry WHEN new.number = {entry} BEGIN SELECT RAISE(ABORT, 'refused'); END"
+            );
+            Connection::open(self.file()).unwrap().execute_batch(&trigger).unwrap();
+        }
+
+        /// Returns the number of the last entry in the closed file.
+        fn last(&self) -> u64 {
+            let saved = self.open(None);
+            let line = lock(&saved.queue.shared.line);
+            line.saved
+        }
+    }
+
+    impl Drop for Folder {
+        fn drop(&mut self) {
+            let _ = fs::remove_dir_all(&self.0);
+        }
+    }
+
+    /// Returns whether the condition was true in time.
+    fn in_time(mut is_true: impl FnMut() -> bool) -> bool {
+        let begin = Instant::now();
+        while begin.elapsed() < PATIENCE {
+            if is_true() {
+                return true;
+            }
+            thread::sleep(Duration::from_millis(1));
+        }
+        false
+    }
+
+    type Writer<'scope> = ScopedJoinHandle<'scope, crate::Result<u64>>;
+
+    /// Starts threads that each make a write, and returns once one of them has begun a commit of all these writes. If the file is
+    /// locked, the commit doesn't get any further.
+    fn write_at_once<'scope>(scope: &'scope Scope<'scope, '_>, saved: &'scope Saved) -> Vec<Writer<'scope>> {
+        let shared = &saved.queue.shared;
+        // As if a commit were in progress.
+        lock(&shared.line).is_saving = true;
+        let writer = |_| {
+            let pass = saved.pass().unwrap();
+            scope.spawn(move || pass.new_node())
+        };
+        let writers = (0..WRITERS).map(writer).collect();
+        let are_waiting = in_time(|| lock(&shared.line).waiting.len() as u64 == WRITERS);
+        lock(&shared.line).is_saving = false;
+        shared.done.notify_all();
+        assert!(are_waiting && in_time(|| lock(&shared.line).waiting.is_empty()));
+        writers
+    }
+
+    #[test]
+    fn each_write_of_a_commit_that_fails_returns_the_error() {
+        let folder = Folder::new("refused");
+        folder.refuse(WRITERS);
+        let saved = folder.open(None);
+        let answers: Vec<_> = thread::scope(|scope| {
+            let writers = write_at_once(scope, &saved);
+            writers.into_iter().map(|writer| writer.join().unwrap()).collect()
+        });
+        let is_refused = |answer: &crate::Result<u64>| matches!(answer, Err(crate::Error::NotSaved(error)) if matches!(**error, Error::Sqlite { .. }));
+        assert!(answers.iter().all(is_refused), "{answers:?}");
+        assert!(matches!(saved.flush(), Err(Error::Stopped(_))));
+        assert!(saved.close().is_err());
+        assert_eq!(folder.last(), 0);
+    }
+
+    #[test]
+    fn a_flush_returns_the_error_of_a_commit_of_several_writes() {
+        let folder = Folder::new("flushed");
+        folder.refuse(WRITERS);
+        let saved = folder.open(Some(HOUR));
+        for _ in 0..WRITERS {
+            saved.pass().unwrap().new_node().unwrap();
+        }
+        let flushed = saved.flush();
+        assert!(
+            matches!(&flushed, Err(Error::Stopped(error)) if matches!(**error, Error::Sqlite { .. })),
+            "{flushed:?}"
+        );
+        assert!(saved.close().is_err());
+        assert_eq!(folder.last(), 0);
+    }
+
+    #[test]
+    fn no_write_returns_before_the_commit_with_it() {
+        let folder = Folder::new("held");
+        let saved = folder.open(None);
+        let shared = &saved.queue.shared;
+        thread::scope(|scope| {
+            let file = lock(&shared.file);
+            let writers = write_at_once(scope, &saved);
+            // Whoever waits looks again.
+            shared.done.notify_all();
+            thread::sleep(Duration::from_millis(50));
+            let counted = lock(&shared.line).saved;
+            let returned = writers.iter().filter(|writer| writer.is_finished()).count();
+            drop(file);
+            assert_eq!((counted, returned), (0, 0));
+            let mut nodes: Vec<u64> = writers
+                .into_iter()
+                .map(|writer| writer.join().unwrap().unwrap())
+                .collect();
+            nodes.sort_unstable();
+            assert_eq!(nodes, (1..=WRITERS).collect::<Vec<_>>());
+        });
+        assert_eq!(lock(&shared.line).saved, WRITERS);
+    }
+
+    /// Such a write, and such a flush, find the saving thread neither waiting nor looking.
+    #[test]
+    fn a_write_during_a_commit_is_saved_without_another_signal() {
+        let folder = Folder::new("gap");
+        for (every, flushes) in [(HOUR, true), (Duration::from_millis(1), false)] {
+            let saved = folder.open(Some(every));
+            let (shared, pass) = (&saved.queue.shared, saved.pass().unwrap());
+            let first = lock(&shared.line).saved + 1;
+            let flush = || {
+                if flushes {
+                    drop(saved.flush());
+                }
+            };
+            thread::scope(|scope| {
+                let file = lock(&shared.file);
+                pass.new_node().unwrap();
+                scope.spawn(flush);
+                let has_begun = in_time(|| lock(&shared.line).is_saving);
+                pass.new_node().unwrap();
+                scope.spawn(flush);
+                let is_asked = in_time(|| !flushes || lock(&shared.line).is_urgent);
+                drop(file);
+                let is_saved = in_time(|| lock(&shared.line).saved > first);
+                // Ends the threads that still wait.
+                lock(&shared.line).is_closed = true;
+                shared.work.notify_one();
+                assert!(has_begun && is_asked && is_saved);
+            });
+        }
     }
 }

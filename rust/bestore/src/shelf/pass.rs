@@ -2,7 +2,7 @@
 
 use super::snapshot::{at, roomiest};
 use super::{ShelfChange, ShelfSnapshot};
-use crate::pass::Waits;
+use crate::waits::Waits;
 use crate::writes::writes_of_one_operation;
 use crate::{Batch, Error, Keeper, Kind, Node, Pass, Result, Retry, Status, Value};
 use std::sync::{Arc, Mutex};
@@ -62,14 +62,14 @@ impl ShelfPass {
         at(&self.volumes, volume)
     }
 
-    /// Sets how many times this pass retries a call.
+    /// Sets how long this pass retries a call.
     pub fn set_retry(&mut self, retry: Retry) {
         self.volumes.iter_mut().for_each(|pass| pass.set_retry(retry));
     }
 
     /// Returns how a change waits between its attempts.
     pub(super) fn waits(&self) -> Waits {
-        Waits::of(&self.volumes[0])
+        Waits::of_change(&self.volumes[0])
     }
 
     pub(super) fn error(&self, volume: u32, error: Error) -> Error {

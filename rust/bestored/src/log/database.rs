@@ -23,6 +23,9 @@ const ENCODINGS: [&str; 2] = ["UTF8", "SQL_ASCII"];
 /// How long a call may take. PostgreSQL cancels a statement slightly sooner.
 pub const LIMIT: Duration = Duration::from_secs(6);
 
+/// How long a server that is ending waits for its last report.
+const SIGNING_OFF: Duration = Duration::from_secs(1);
+
 /// How long a call may take that writes part of a state or removes old entries. PostgreSQL cancels the statement slightly sooner.
 const STATE_LIMIT: Duration = Duration::from_secs(60);
 
@@ -394,6 +397,14 @@ impl Database {
             .collect();
         let parameters: [&(dyn ToSql + Sync); 5] = [&(term as i64), &(last as i64), &passes, &batches, &tokens];
         Ok(limited(self.client.query_opt(&statement, &parameters)).await?.is_some())
+    }
+
+    /// Reports that the leader of this term has added all of its writes and is ending.
+    pub async fn sign_off(&self, term: u64) -> Result<()> {
+        let sql = "UPDATE bestore_log SET touched_term = NULL WHERE term = $1";
+        limited_to(SIGNING_OFF, self.client.execute(sql, &[&(term as i64)]))
+            .await
+            .map(drop)
     }
 
     /// Returns the next entries after this one, and whether there may be more.

@@ -268,6 +268,29 @@ impl Line {
         state.saved
     }
 
+    /// Makes this server a follower of that leader, unless it has made writes that the log may lack. Returns whether it now follows.
+    pub fn step_down(&self, leader: &str) -> bool {
+        let is_follower = self.change(|state| {
+            let is_follower = state.written == state.saved && state.failed.is_none();
+            if is_follower {
+                state.role = Role::Follower;
+                state.leader = leader.into();
+                state.last = state.saved;
+            }
+            is_follower
+        });
+        if is_follower {
+            Role::Follower.say(leader);
+        }
+        is_follower
+    }
+
+    /// Returns whether memory has writes that the log may lack.
+    pub fn has_unsaved(&self) -> bool {
+        let state = self.lock();
+        state.written > state.saved
+    }
+
     /// Records that the log can no longer be read or written.
     pub fn fail(&self, error: Error) {
         self.change(|state| state.failed = Some(Arc::new(error)));

@@ -5,13 +5,16 @@ use super::error::{Error, Result};
 use super::line::{Line, Role};
 use super::{state, Access, FOR_LOCK, REST};
 use crate::pressure::Pressure;
-use crate::server::Shared;
+use crate::server::{Seldom, Shared};
 use crate::tokens::Tokens;
 use crate::volumes;
 use bestore::saved::Place;
 use bestore::{Batch, Pass, Written};
 use bestore_types::saved::file::Row;
+use std::future::Future;
+use std::pin::Pin;
 use std::sync::Arc;
+use std::task::{Context, Poll};
 use std::thread;
 use std::time::{Duration, Instant};
 
@@ -20,6 +23,10 @@ const LOOK: Duration = Duration::from_millis(100);
 
 /// How often a leader with nothing to write checks whether it still leads.
 const LEADING: Duration = Duration::from_millis(500);
+
+/// How many seconds a leader must have been silent before a follower takes the free lock. A leader whose connection has broken
+/// comes back sooner.
+const ABSENCE: f64 = 1.0;
 
 /// How many seconds a leader may be silent before a follower takes over. When a leader is paused, clients can write again within 9
 /// seconds. A database call that begins half a second after the leader's last report ends before this time is up.
@@ -34,6 +41,9 @@ const GRACE: Duration = Duration::from_secs(3);
 
 /// How long to retry an entry that finds no free page while clients' snapshots hold pages.
 const FOR_PAGES: Duration = Duration::from_secs(60);
+
+/// How long to wait before the first retry of a connection. The wait doubles with each retry, up to `REST`.
+const FIRST_REST: Duration = Duration::from_millis(20);
 
 /// The number of entries after which the leader writes the state.
 const STATE_EVERY: u64 = 100_000;
@@ -65,6 +75,10 @@ pub struct Member {
     may_lead: Instant,
     /// When the last attempt to use the database began.
     tried: Instant,
+    /// When this server last connected.
+    connected: Instant,
+    /// For the report that the leader is silent.
+    is_silent: Seldom,
 }
 
 impl Member {
@@ -96,6 +110,8 @@ impl Member {
             state,
             may_lead: Instant::now(),
             tried: Instant::now(),
+            connected: Instant::now(),
+            is_silent: Seldom::default(),
         };
         member.apply_to(head.last, None).await?;
         Ok((member, line))
@@ -112,13 +128,27 @@ impl Member {
             match turn {
                 Ok(Turn::Next) => {}
                 Ok(Turn::End) => return Ok(()),
-                Err(error) if error.is_passing() => {
-                    self.note(error);
-                    if self.connect_again(role).await? == Turn::End {
+                Err(error) => {
+                    if self.recover(role, error).await? == Turn::End {
                         return Ok(());
                     }
                 }
-                Err(error) => return Err(error),
+            }
+        }
+    }
+
+    /// Connects again after an error, if that can help. A server that no longer leads then follows. Returns the error if this
+    /// server can't go on with its store.
+    async fn recover(&mut self, mut role: Role, mut error: Error) -> Result<Turn> {
+        loop {
+            match error {
+                Error::Deposed { ref leader, .. } if self.line.step_down(leader) => role = Role::Follower,
+                error if error.is_passing() => self.note(error),
+                error => return Err(error),
+            }
+            match self.connect_again(role).await {
+                Ok(turn) => return Ok(turn),
+                Err(next) => error = next,
             }
         }
     }
@@ -131,34 +161,42 @@ impl Member {
         }
     }
 
-    /// Tries to connect until it succeeds. If this server leads, the log must then be unchanged.
+    /// Tries to connect until it succeeds. If this server leads, the log must then be unchanged. The first attempt comes at once,
+    /// so that a leader is back before a follower takes its lock.
     async fn connect_again(&mut self, role: Role) -> Result<Turn> {
         // If the old session stayed open, it could hang, resume later, and still hold the lock.
         self.database.close();
+        let mut rest = REST.saturating_sub(self.connected.elapsed());
+        let mut next_rest = FIRST_REST;
         loop {
             if self.line.is_at_end() || role == Role::Follower && self.line.is_closing() {
                 return Ok(Turn::End);
             }
-            tokio::time::sleep(REST).await;
+            tokio::time::sleep(rest).await;
             self.let_go();
-            let connected = async {
-                let database = self.access.connect().await?;
-                self.check(&database.head().await?)?;
-                if let Role::Leader { .. } = role {
-                    self.lead_again(&database).await?;
-                }
-                Result::Ok(database)
-            };
-            match connected.await {
+            match self.connect(role).await {
                 Ok(database) => {
                     self.database = database;
-                    self.may_lead = Instant::now() + GRACE;
+                    self.connected = Instant::now();
+                    self.may_lead = self.connected + GRACE;
                     return Ok(Turn::Next);
                 }
                 Err(error) if error.is_passing() => self.note(error),
                 Err(error) => return Err(error),
             }
+            rest = next_rest;
+            next_rest = REST.min(2 * next_rest);
         }
+    }
+
+    /// Connects, and takes the lead again if this server leads.
+    async fn connect(&mut self, role: Role) -> Result<Database> {
+        let database = self.access.connect().await?;
+        self.check(&database.head().await?)?;
+        if let Role::Leader { .. } = role {
+            self.lead_again(&database).await?;
+        }
+        Ok(database)
     }
 
     /// Returns an error unless this is the same log as before and has all entries that this server knows.
@@ -196,7 +234,7 @@ impl Member {
                     state.trouble = None;
                 });
                 self.end_silent_leader(&head).await?;
-                if Instant::now() >= self.may_lead && self.database.try_lock().await? {
+                if self.may_take_over(&head) && self.database.try_lock().await? {
                     self.take_over(shared).await?;
                     return Ok(Turn::Next);
                 }
@@ -204,6 +242,13 @@ impl Member {
             self.database.news(LOOK).await;
         }
         Ok(Turn::End)
+    }
+
+    /// Returns whether this server may take the lock if it is free. A leader whose connection has just broken gets the time to
+    /// come back. A leader that ends normally leaves no report behind, so that nobody waits for it.
+    fn may_take_over(&self, head: &Head) -> bool {
+        let is_absent = head.silence.map_or(true, |silence| silence >= ABSENCE);
+        is_absent && Instant::now() >= self.may_lead
     }
 
     /// Ends the session of a leader that has been silent for too long, for example because its machine is paused. If such a leader tries
@@ -215,10 +260,12 @@ impl Member {
         }
         match self.database.end_leader(LEASE).await? {
             Some(true) => {
-                report!(
-                    "bestored: {} leads, but has been silent for {LEASE} seconds; ending its session",
-                    head.leader
-                );
+                if self.is_silent.is_due() {
+                    report!(
+                        "bestored: {} leads, but has been silent for {LEASE} seconds; ending its session",
+                        head.leader
+                    );
+                }
                 tokio::time::sleep(ENDING).await;
             }
             Some(false) => self.may_lead = Instant::now() + GRACE,
@@ -338,6 +385,7 @@ impl Member {
             self.write_state_if_due(shared);
             self.let_go();
             if self.line.is_at_end() {
+                self.sign_off(term).await;
                 return Ok(Turn::End);
             }
             if self.sending.is_empty() {
@@ -350,6 +398,14 @@ impl Member {
                 }
                 None => self.rest(term).await?,
             }
+        }
+    }
+
+    /// Lets a follower take over at once, if the log has every write.
+    async fn sign_off(&self, term: u64) {
+        if !self.line.has_unsaved() {
+            // If this fails, the followers only wait a little longer.
+            let _ = self.database.sign_off(term).await;
         }
     }
 
@@ -379,12 +435,13 @@ impl Member {
         }
     }
 
-    /// Waits for writes, and checks from time to time whether this server still leads.
+    /// Waits for writes, and checks from time to time whether this server still leads. If the connection breaks, the check fails
+    /// at once.
     async fn rest(&mut self, term: u64) -> Result<()> {
         let begin = Instant::now();
-        self.line.work(LEADING).await;
+        Either::of(self.line.work(LEADING), self.database.news(LEADING)).await;
         let asked = self.line.asked();
-        if begin.elapsed() < LEADING && asked.is_none() {
+        if begin.elapsed() < LEADING && asked.is_none() && !self.database.is_closed() {
             return Ok(());
         }
         self.tried = Instant::now();
@@ -468,6 +525,28 @@ impl Member {
         if let Err(error) = writing {
             report!("bestored: no thread could be started to write the state of the log: {error}");
         }
+    }
+}
+
+/// Ends when the first of two futures does.
+struct Either<'a>([Pin<Box<dyn Future<Output = ()> + Send + 'a>>; 2]);
+
+impl<'a> Either<'a> {
+    fn of(one: impl Future<Output = ()> + Send + 'a, other: impl Future<Output = ()> + Send + 'a) -> Self {
+        Self([Box::pin(one), Box::pin(other)])
+    }
+}
+
+impl Future for Either<'_> {
+    type Output = ();
+
+    fn poll(mut self: Pin<&mut Self>, context: &mut Context<'_>) -> Poll<()> {
+        for future in &mut self.0 {
+            if future.as_mut().poll(context).is_ready() {
+                return Poll::Ready(());
+            }
+        }
+        Poll::Pending
     }
 }
 

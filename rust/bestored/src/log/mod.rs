@@ -145,7 +145,8 @@ impl Log {
         Ok(self.shelf.pass()?.kept_by(|_| self.line.clone()))
     }
 
-    /// Starts the log's thread, which runs until [`finish`](Self::finish) is called. If the thread fails, the program ends.
+    /// Starts the log's thread, which runs until [`finish`](Self::finish) is called. If another server leads and this one has writes
+    /// that the log lacks, the server begins again. If the thread fails otherwise, the program ends.
     pub fn start(shared: &Arc<Shared>) -> std::io::Result<()> {
         let shared = shared.clone();
         let thread = thread::Builder::new().name("log".into());
@@ -165,8 +166,12 @@ impl Log {
             None => return,
         };
         if let Err(error) = runtime.block_on(member.run(shared)) {
+            let is_deposed = matches!(error, Error::Deposed { .. });
             self.line.fail(error);
-            os::end_program();
+            match is_deposed {
+                true => shared.again.ring(),
+                false => os::end_program(),
+            }
         }
     }
 

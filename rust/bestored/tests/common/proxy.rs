@@ -2,7 +2,7 @@
 
 use std::io::{Read, Write};
 use std::net::{Shutdown, TcpListener, TcpStream};
-use std::sync::atomic::{AtomicBool, AtomicU8, Ordering::SeqCst};
+use std::sync::atomic::{AtomicBool, AtomicU8, AtomicUsize, Ordering::SeqCst};
 use std::sync::{Arc, Mutex};
 use std::thread;
 use std::time::Duration;
@@ -22,6 +22,9 @@ pub struct Proxy {
     lost: Arc<AtomicU8>,
     /// A connection hangs from the request on that contains this text.
     hangs_at: Arc<Mutex<Option<&'static str>>>,
+    /// Both sides of the connections, and how many connections there have been.
+    connections: Arc<Mutex<Vec<TcpStream>>>,
+    count: Arc<AtomicUsize>,
 }
 
 /// What one direction of a connection does to the bytes.
@@ -49,7 +52,10 @@ impl Proxy {
             port: listener.local_addr().unwrap().port(),
             lost: Arc::new(AtomicU8::new(Lost::Nothing as u8)),
             hangs_at: Arc::default(),
+            connections: Arc::default(),
+            count: Arc::default(),
         };
+        let (connections, count) = (proxy.connections.clone(), proxy.count.clone());
         let requests = Way {
             what: Lost::Requests,
             lost: proxy.lost.clone(),
@@ -72,6 +78,8 @@ impl Proxy {
                     };
                     forward(&client, &server, requests);
                     forward(&server, &client, replies);
+                    connections.lock().unwrap().extend([client, server]);
+                    count.fetch_add(1, SeqCst);
                 }
             }
         });
@@ -86,6 +94,19 @@ impl Proxy {
     /// Returns whether these bytes have been dropped.
     pub fn has_lost(&self) -> bool {
         self.lost.load(SeqCst) == Lost::Nothing as u8
+    }
+
+    /// Breaks all connections.
+    pub fn cut(&self) {
+        for connection in self.connections.lock().unwrap().drain(..) {
+            // Either side may already be closed.
+            let _ = connection.shutdown(Shutdown::Both);
+        }
+    }
+
+    /// Returns how many connections there have been.
+    pub fn count(&self) -> usize {
+        self.count.load(SeqCst)
     }
 
     /// Lets each connection hang from its next request on that contains this text. Without a text, new connections no longer hang.

@@ -1,24 +1,32 @@
-use Rattle.std.proofs.Common.{◌∙◌, sym}
+use Rattle.std.proofs.Common.{◌∙◌, sym, ap, count_by, map}
+use Rattle.std.specs.Prelude.{IsTrue}
 use Rattle.be_pages.specs.declared.page_pool.Place.TheVariants.{Filled}
-use Rattle.be_pages.specs.FreePages.{has_free}
-use Rattle.be_pages.specs.Place.{is_free, place_of}
-use Rattle.be_pages.proofs.Pools.{in_hand, in_hand_inside, flags_same, touches_same, count_same, retires_same, order_same}
+use Rattle.be_pages.specs.PagePool.{places}
+use Rattle.be_pages.specs.Place.{is_expired, is_in_hand, place_of, swept_place}
+use Rattle.be_pages.proofs.Pools.{in_hand_inside, passes_same}
+use Rattle.be_pages.proofs.Marks.{in_hand_seen, in_hand_unexpired, seen, seen_set}
 use Rattle.be_pages.proofs.page_pool.PagePool.fill.Goals as goal
 
+pub fill-requires : goal.fill-requires
+unfolding places
+fill-requires c =
+    let pool = c.args.self.now in
+    let m = pool.mark in
+    let P = pool.lists.places.items in
+    sym (ap is_in_hand (seen m P c.args.page) ∙ in_hand_seen m (place_of P c.args.page)) ∙ c.requires
+
 pub invariant_of-self : goal.invariant_of-self
+unfolding places
 invariant_of-self c =
     let pool = c.args.self.now in
-    let P = pool.places.items in
+    let m = pool.mark in
+    let P = pool.lists.places.items in
     let p = c.args.page in
-    let lt = in_hand_inside P p c.requires in
-    let is = in_hand (place_of P p) c.requires in
-    record {
-      free_pages = pool.free_pages;
-      touched_pages = pool.touched_pages;
-      retired_room = pool.retired_room;
-      retired_count = pool.retired_count ∙ sym (count_same P p Filled lt is.1);
-      frees = flags_same P p Filled lt is_free (has_free pool.free) pool.frees is.0;
-      touches = touches_same P p Filled lt pool.touched.places.items pool.touches (λ _. is.2);
-      retires = retires_same P p Filled lt pool.retired.items pool.retires is.1;
-      oldest_first = order_same P p Filled lt pool.retired.items pool.retires is.1 pool.oldest_first;
-    }
+    let is : IsTrue (is_in_hand (place_of P p)) = sym (ap is_in_hand (seen m P p) ∙ in_hand_seen m (place_of P p)) ∙ c.requires in
+    record { counted = pool.counted ∙ sym (ap (count_by (is_expired m)) c.fill.ensures ∙ passes_same P p Filled (in_hand_inside P p is) (is_expired m) (in_hand_unexpired m (place_of P p) is)) }
+
+pub returns : goal.returns
+unfolding places
+returns c =
+    let pool = c.args.self.now in
+    ap (map (swept_place pool.mark)) c.fill.ensures ∙ seen_set pool.mark pool.lists.places.items c.args.page Filled

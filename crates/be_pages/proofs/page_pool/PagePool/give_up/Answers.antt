@@ -1,25 +1,37 @@
-use Rattle.std.proofs.Common.{◌∙◌, sym, refl, true}
-use mathlib.Core.Bool.{false≢true}
-use Rattle.be_pages.specs.declared.page_pool.Place.TheVariants.{Free}
-use Rattle.be_pages.specs.FreePages.{has_free}
-use Rattle.be_pages.specs.Place.{is_free, place_of}
-use Rattle.be_pages.proofs.Pools.{held_unretired, flags_to, touches_same, count_same, retires_same, order_same}
+use Rattle.std.proofs.Common.{◌<◌, ◌∙◌, sym, ap, arith, length, count_by, map, slice_set}
+use Rattle.std.proofs.lemmas.List.{length-map}
+use Rattle.be_pages.specs.PagePool.{places}
+use Rattle.be_pages.specs.Place.{given_place, is_expired, is_held_page, place_of, swept_place}
+use Rattle.be_pages.proofs.Pools.{passes_same}
+use Rattle.be_pages.proofs.Marks.{given_expired, given_seen, held_seen, seen, seen_set}
 use Rattle.be_pages.proofs.page_pool.PagePool.give_up.Goals as goal
 
-pub invariant_of-self-in_default : goal.invariant_of-self-in_default
-invariant_of-self-in_default c =
+pub give_up-requires : goal.give_up-requires
+unfolding places
+give_up-requires c =
     let pool = c.args.self.now in
-    let P = pool.places.items in
-    let p = c.args.page in
-    let lt = c.requires.inside in
-    let is = held_unretired (place_of P p) c.requires.held in
+    let m = pool.mark in
+    let P = pool.lists.places.items in
     record {
-      free_pages = c.insert-in_default.ensures.pages ∙ pool.free_pages;
-      touched_pages = pool.touched_pages;
-      retired_room = pool.retired_room;
-      retired_count = pool.retired_count ∙ sym (count_same P p Free lt is);
-      frees = flags_to P p Free lt is_free true (has_free pool.free) (has_free c.insert-in_default.new.self) pool.frees c.insert-in_default.ensures.has refl;
-      touches = touches_same P p Free lt pool.touched.places.items pool.touches (λ e. absurd (false≢true (sym e)));
-      retires = retires_same P p Free lt pool.retired.items pool.retires is;
-      oldest_first = order_same P p Free lt pool.retired.items pool.retires is pool.oldest_first;
+      inside = omega (arith, c.requires.inside, length-map P (swept_place m));
+      held = sym (ap is_held_page (seen m P c.args.page) ∙ held_seen m (place_of P c.args.page)) ∙ c.requires.held;
     }
+
+pub invariant_of-self : goal.invariant_of-self
+unfolding places
+invariant_of-self c =
+    let pool = c.args.self.now in
+    let m = pool.mark in
+    let P = pool.lists.places.items in
+    let lt : c.args.page < length P = omega (arith, c.requires.inside, length-map P (swept_place m)) in
+    record { counted = pool.counted ∙ sym (ap (count_by (is_expired m)) c.give_up.ensures ∙ passes_same P c.args.page (given_place (place_of P c.args.page)) lt (is_expired m) (given_expired m (place_of P c.args.page))) }
+
+pub returns : goal.returns
+unfolding places
+returns c =
+    let pool = c.args.self.now in
+    let m = pool.mark in
+    let P = pool.lists.places.items in
+    let p = c.args.page in
+    ap (map (swept_place m)) c.give_up.ensures ∙ seen_set m P p (given_place (place_of P p))
+    ∙ ap (slice_set (map (swept_place m) P) p) (given_seen m (place_of P p) ∙ ap given_place (sym (seen m P p)))

@@ -1,25 +1,44 @@
-use Rattle.std.proofs.Common.{◌∙◌, ◌<◌, ◌≡◌, sym, length, arith, refl, true, false}
-use Rattle.be_pages.specs.declared.page_pool.Place.TheVariants.{Reserved}
-use Rattle.be_pages.specs.FreePages.{has_free}
-use Rattle.be_pages.specs.Place.{is_free, place_of, is_retired}
-use Rattle.be_pages.proofs.FreePages.{free_below}
-use Rattle.be_pages.proofs.Pools.{free_unretired, flags_to, touches_to, count_same, retires_same, order_same}
+use Rattle.std.proofs.Common.{◌≡◌, ◌<◌, ◌∙◌, ℕ, List, sym, ap, subst, arith, length, map, slice_set}
+use Rattle.std.proofs.lemmas.List.{length-map}
+use Rattle.be_pages.specs.declared.page_pool.Place.{Place}
+use Rattle.be_pages.specs.declared.page_pool.Place.TheVariants.{Free, Reserved}
+use Rattle.be_pages.specs.PagePool.{places}
+use Rattle.be_pages.specs.Place.{place_of, swept_place}
+use Rattle.be_pages.proofs.Marks.{if_none, none_free, seen, seen_set, taken_counted}
 use Rattle.be_pages.proofs.page_pool.PagePool.take.Goals as goal
 
-pub invariant_of-self-2 : goal.invariant_of-self-2
-invariant_of-self-2 c =
-    let pool = c.args.self.now in
-    let P = pool.places.items in
+pub invariant_of-self : goal.invariant_of-self
+invariant_of-self c =
+    let pool = c.supply.new.self in
+    record { counted = pool.counted ∙ sym (taken_counted pool.mark pool.lists.places.items c.take.new.self.places.items c.take.result c.take.ensures.free c.take.ensures.some c.take.ensures.same) }
+
+pub returns : goal.returns
+unfolding places
+returns c =
+    let pool = c.supply.new.self in
+    let m = pool.mark in
+    let P = pool.lists.places.items in
     let p = c.in_ok-page.page in
-    let lt : p < length P = omega (arith, free_below pool.free p c.in_ok-page.ensures.some, pool.free_pages, pool.places.ok.0) in
-    let is : is_retired (place_of P p) ≡ false = free_unretired (place_of P p) (sym (pool.frees p) ∙ c.in_ok-page.ensures.some) in
+    let is = c.in_ok-page.ensures.free in
+    let same = c.supply.ensures.same in
     record {
-      free_pages = c.pop.ensures.pages ∙ pool.free_pages;
-      touched_pages = c.insert.ensures.pages ∙ pool.touched_pages;
-      retired_room = pool.retired_room;
-      retired_count = pool.retired_count ∙ sym (count_same P p Reserved lt is);
-      frees = flags_to P p Reserved lt is_free false (has_free pool.free) (has_free c.pop.new.self) pool.frees c.in_ok-page.ensures.has refl;
-      touches = touches_to P p Reserved lt true pool.touched.places.items c.insert.new.self.places.items pool.touches c.insert.ensures.has (λ _. refl);
-      retires = retires_same P p Reserved lt pool.retired.items pool.retires is;
-      oldest_first = order_same P p Reserved lt pool.retired.items pool.retires is pool.oldest_first;
+      free = (
+        omega (arith, is.0, length-map P (swept_place m), ap length same),
+        ap (λ (xs : List Place). place_of xs p) (sym same) ∙ seen m P p ∙ ap (swept_place m) is.1,
+      );
+      some = ap (map (swept_place m)) c.in_ok-page.ensures.some ∙ seen_set m P p Reserved ∙ ap (λ (xs : List Place). slice_set xs p Reserved) same;
+      none = tt;
+      same = tt;
     }
+
+pub returns-in_err-page-clause-none : goal.returns-in_err-page-clause-none
+unfolding places
+returns-in_err-page-clause-none c =
+    let pool = c.supply.new.self in
+    if_none c.from_residual.result (subst (λ (xs : List Place). (q : ℕ) → q < length xs → place_of xs q ≡ Free → ⊥) c.supply.ensures.same
+    (none_free pool.mark pool.expired pool.lists.places.items pool.counted c.supply.ensures.left c.in_err-page.ensures.none))
+
+pub returns-in_err-page-clause-same : goal.returns-in_err-page-clause-same
+unfolding places
+returns-in_err-page-clause-same c =
+    if_none c.from_residual.result (ap (map (swept_place c.supply.new.self.mark)) c.in_err-page.ensures.same ∙ c.supply.ensures.same)

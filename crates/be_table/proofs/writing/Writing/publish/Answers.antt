@@ -5,7 +5,7 @@ use Rattle.be_journal.specs.Journal.{Agrees, replay}
 use Rattle.be_pages.specs.Place.{is_retired, retired_at, place_of, published_place}
 use Rattle.be_table.specs.declared.pass.Knowledge.{Knowledge}
 use Rattle.be_table.specs.Place.{Work}
-use Rattle.be_table.specs.Rule.{alone, entries, writer_state_places, page_at, pass_of}
+use Rattle.be_table.specs.Rule.{largest_pool, alone, entries, writer_state_places, page_at, pass_of}
 use Rattle.be_table.specs.Seats.{pin_of}
 use Rattle.be_table.specs.WriterState.{is_of_next}
 use Rattle.be_pages.specs.declared.room.PageState.TheVariants.{Taken}
@@ -29,7 +29,7 @@ store_version-requires-clause-pass c =
     let k : a ≡ c.args.self.now.knows = ap (λ (x : Work). x.knows) c.self.view_is in
     let e : Entry = record { by = w.marks.number; ops = c.args.ops.now; dones = c.args.dones.now } in
     let n0 : Knowledge = c.args.self.now.knows in
-    let few : length n0.places ≤ 16384 = (let p = ap length i.places in let pages = i.pass.within.few_pages in let l = ap (λ x. x.pages) i.limits_are in let n = ap (λ (x : Knowledge). length x.places) k in let count = i.count in omega arith) in
+    let few : length n0.places ≤ largest_pool = (let p = ap length i.places in let pages = i.pass.within.few_pages in let l = ap (λ x. x.pages) i.limits_are in let n = ap (λ (x : Knowledge). length x.places) k in let count = i.count in omega arith) in
     let reserved : w.reserved ≡ c.args.self.now.reserved = ap (λ (x : Work). x.reserved) c.self.view_is in (
       ap (λ m. m.0) i.me_is,
       record {
