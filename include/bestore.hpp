@@ -229,7 +229,8 @@ public:
     auto change(F &&f, std::uint32_t attempts = BES_TRIES, std::chrono::milliseconds within = detail::time_to_change)
     {
         using Result = std::invoke_result_t<F &, Change &>;
-        auto retry = detail::retry_of(attempts, within, session()->store.get());
+        const detail::Identity store = session()->store; // f may close this pass, and the store with it
+        auto retry = detail::retry_of(attempts, within, store.get());
         check_not_changing();
         if constexpr (std::is_void_v<Result>) {
             for (;;) {
