@@ -74,7 +74,7 @@ bool bes_again(bes_pass *pass, uint32_t error, uint64_t number, bes_retry *retry
 
 /* The states of a turn. KEPT: the next turn belongs to a thread that has waited for LONG. */
 enum { FREE, TAKEN, WAITED_FOR, KEPT };
-#define LONG (4 * MILLISECOND)
+#define LONG (16 * MILLISECOND)
 
 /* Takes the turn if this thread may. Otherwise marks it as waited for. Returns the state that was found. */
 static uint32_t try_turn(bes_turn *turn, bool is_urgent, bool *is_mine)
