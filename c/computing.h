@@ -12,7 +12,7 @@
 
 #define COMPUTING 30
 #define GIVEN .3 /* seconds, as BES_WITHIN and BES_CHANGE_WITHIN say in milliseconds */
-#define SPARE .5
+#define SPARE 5. /* for a busy machine. BES_TRIES tries would take longer */
 
 static pid_t computing[COMPUTING];
 

@@ -157,6 +157,30 @@ static void closed_in_a_change()
     }
 }
 
+// A change's function moves or destroys the object that runs it.
+static void moved_in_a_change()
+{
+    Store store = filled();
+    std::optional<Store> moved;
+    int runs = 0;
+    store.change([&](Change &change) {
+        if (runs++ == 0) {
+            moved = std::move(store);
+            moved->another().new_node(); // so the change runs again
+        }
+        refused(BES_NESTED, [&] { moved->new_node(); });
+        change.create();
+    });
+    CHECK(runs == 2 && moved->new_node() == 103);
+    refused(BES_CLOSED, [&] { store.new_node(); });
+    refused(BES_CLOSED, [&] {
+        moved->change([&](Change &change) {
+            change.create();
+            moved.reset();
+        });
+    });
+}
+
 // Live queries, witnesses and cursors outlive their store, and aren't taken for those of a store that may have its place in memory.
 static void outlived_store()
 {
@@ -204,6 +228,7 @@ int main()
     ended_query();
     next_pin();
     closed_in_a_change();
+    moved_in_a_change();
     outlived_store();
     closed_in_another_thread();
 }

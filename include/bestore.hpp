@@ -229,21 +229,21 @@ public:
     auto change(F &&f, std::uint32_t attempts = BES_TRIES, std::chrono::milliseconds within = detail::time_to_change)
     {
         using Result = std::invoke_result_t<F &, Change &>;
-        const detail::Identity store = session()->store; // f may close this pass, and the store with it
-        auto retry = detail::retry_of(attempts, within, store.get());
+        const auto pass = session(); // f may close, move or destroy this object
+        auto retry = detail::retry_of(attempts, within, pass->store.get());
         check_not_changing();
         if constexpr (std::is_void_v<Result>) {
             for (;;) {
-                Change change(session());
-                run(f, change);
-                if (const auto number = committed(change, retry))
+                Change change(pass);
+                run(f, change, *pass);
+                if (const auto number = committed(change, *pass, retry))
                     return *number;
             }
         } else {
             for (;;) {
-                Change change(session());
-                std::decay_t<Result> result = run(f, change);
-                if (const auto number = committed(change, retry))
+                Change change(pass);
+                std::decay_t<Result> result = run(f, change, *pass);
+                if (const auto number = committed(change, *pass, retry))
                     return Changed<std::decay_t<Result>>{*number, std::move(result)};
             }
         }
@@ -370,31 +370,31 @@ private:
 
     // Returns the commit number if the change was written. Returns nothing if the change must be run again, after a pause that this call
     // has made.
-    std::optional<std::uint64_t> committed(Change &change, bes_retry &retry)
+    static std::optional<std::uint64_t> committed(Change &change, detail::Session &pass, bes_retry &retry)
     {
         std::uint64_t number = 0;
         const auto error = ended(change, retry, &number);
         if (error == BES_OK)
             return number;
-        if (!(error == BES_CONFLICT ? bes_pause(&retry) : bes_again(handle(), error, number, &retry)))
+        if (!(error == BES_CONFLICT ? bes_pause(&retry) : bes_again(&pass, error, number, &retry)))
             throw Refusal(error, number, detail::Place::operation);
         return std::nullopt;
     }
 
-    // Runs a change's function. Meanwhile, this pass doesn't write.
-    template <class F> decltype(auto) run(F &f, Change &change)
+    // Runs a change's function. Meanwhile, the pass doesn't write.
+    template <class F> static decltype(auto) run(F &f, Change &change, detail::Session &pass)
     {
         struct Ends {
             bool &is_changing;
             ~Ends() { is_changing = false; }
         };
-        const Ends ends{is_changing_ = true};
+        const Ends ends{pass.is_changing = true};
         return f(change);
     }
 
     void check_not_changing() const
     {
-        if (is_changing_)
+        if (session()->is_changing)
             throw Refusal(BES_NESTED);
     }
 
@@ -405,7 +405,6 @@ private:
     }
 
     detail::Owner<detail::Session, bes_close> handle_;
-    bool is_changing_ = false; // whether a change's function is running
 };
 
 // A store's limits.

@@ -51,12 +51,13 @@ template <class T> struct Opened : T {
 // separately.
 using Identity = std::shared_ptr<bes_turn>;
 
-// A pass's handle, its store, and how often the pass has been unpinned.
+// A pass's handle, its store, how often the pass has been unpinned, and whether a change's function is running.
 struct Session : Opened<bes_pass> {
     explicit Session(Identity of) : store(std::move(of)) {}
 
     Identity store;
     std::uint64_t unpins = 0;
+    bool is_changing = false;
 };
 
 inline void unpin(Session *session) noexcept

@@ -48,9 +48,9 @@ run() {
         all+=("$1")
         shift
     done
-    if ! timeout -k 10 1500 cargo "${all[@]}" "${options[@]}" "$@" >"$work/said" 2>&1; then
+    if ! timeout -k 10 3000 cargo "${all[@]}" "${options[@]}" "$@" >"$work/said" 2>&1; then
         cat "$work/said" >&2
-        echo "$what: failed, or not at its end after 1500 seconds" >&2
+        echo "$what: failed, or not at its end after 3000 seconds" >&2
         exit 1
     fi
     local passed
@@ -123,21 +123,21 @@ else
     make -s -C ../python
     BESTORED=$(realpath "$CARGO_TARGET_DIR/debug/bestored")
     export BESTORED
-    if ! (cd ../python && timeout -k 10 600 env BESTORE_LIBRARY="$BESTORE_LIB_DIR/libbestore.so" PYTHONDONTWRITEBYTECODE=1 \
+    if ! (cd ../python && timeout -k 10 1500 env BESTORE_LIBRARY="$BESTORE_LIB_DIR/libbestore.so" PYTHONDONTWRITEBYTECODE=1 \
         python3 -W error -m unittest test_connect test_connected_ends test_connected_pages test_connected_programs test_connected_queries \
         test_live test_repeats test_shelf test_watches test_without_library test_saved_processes.Processes.test_rust) >"$work/said" 2>&1; then
         cat "$work/said" >&2
-        echo "Python, over the server: failed, or not at its end after 600 seconds" >&2
+        echo "Python, over the server: failed, or not at its end after 1500 seconds" >&2
         exit 1
     fi
     echo "Python, over the server: ok, $(sed -n 's/^Ran \([0-9]* tests\) in .*/\1/p' "$work/said")"
     if ! command -v Xvfb >/dev/null || ! python3 -c 'import tkinter' 2>/dev/null; then
         echo "the query window, over the server: skipped, there is no Xvfb or python3 has no Tk"
-    elif ! (cd ../python && timeout -k 10 600 env BESTORE_LIBRARY="$BESTORE_LIB_DIR/libbestore.so" PYTHONDONTWRITEBYTECODE=1 \
+    elif ! (cd ../python && timeout -k 10 1500 env BESTORE_LIBRARY="$BESTORE_LIB_DIR/libbestore.so" PYTHONDONTWRITEBYTECODE=1 \
         PYTHONPATH=.:window_tests python3 -W error -m unittest test_asker.OverServer test_window.OverServer test_window.OverVolumes \
         test_sixty_thousand.SixtyThousand.test_of_a_server) >"$work/said" 2>&1; then
         cat "$work/said" >&2
-        echo "the query window, over the server: failed, or not at its end after 600 seconds" >&2
+        echo "the query window, over the server: failed, or not at its end after 1500 seconds" >&2
         exit 1
     else
         echo "the query window, over the server: ok, $(sed -n 's/^Ran \([0-9]* tests\) in .*/\1/p' "$work/said")"
@@ -147,10 +147,10 @@ fi
 # Checks what the clients of killed servers have seen, with scripts that share no code with the server.
 if ! command -v python3 >/dev/null; then
     echo "histories of servers: skipped, there is no python3"
-elif ! (cd bestored/history && timeout -k 10 600 env BESTORED="$(realpath "$CARGO_TARGET_DIR/debug/bestored")" PYTHONDONTWRITEBYTECODE=1 \
+elif ! (cd bestored/history && timeout -k 10 1500 env BESTORED="$(realpath "$CARGO_TARGET_DIR/debug/bestored")" PYTHONDONTWRITEBYTECODE=1 \
     python3 -W error -m unittest -v test_history) >"$work/said" 2>&1; then
     cat "$work/said" >&2
-    echo "histories of servers: failed, or not at its end after 600 seconds" >&2
+    echo "histories of servers: failed, or not at its end after 1500 seconds" >&2
     exit 1
 else
     echo "histories of servers: ok, $(sed -n 's/^Ran \([0-9]* tests\) in .*/\1/p' "$work/said")"

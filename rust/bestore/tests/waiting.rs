@@ -10,7 +10,8 @@ use std::time::{Duration, Instant};
 
 const COMPUTING: usize = 30;
 const WITHIN: Duration = Duration::from_millis(300);
-const SPARE: Duration = Duration::from_millis(500);
+/// For a busy machine.
+const SPARE: Duration = Duration::from_secs(5);
 
 /// The time is the only limit.
 const RETRY: Retry = Retry {

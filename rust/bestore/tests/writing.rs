@@ -319,10 +319,15 @@ fn a_write_waits_for_another_pass_to_unpin() {
             writer.set(node, "a", "x".repeat(255)).unwrap();
         }
     });
+    writer.set_retry(Retry {
+        within: Duration::from_secs(60),
+        full: u32::MAX,
+        ..Retry::default()
+    });
     let own = writer.pin().unwrap();
     let started = std::time::Instant::now();
     assert!(matches!(fill(own.pass(), node), Error::Full { .. }));
-    assert!(started.elapsed() < Duration::from_millis(400));
+    assert!(started.elapsed() < Duration::from_secs(30));
 }
 
 /// A keeper that makes another pass release its snapshot as soon as a write finds no free page.
