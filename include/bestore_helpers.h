@@ -444,8 +444,8 @@ uint32_t bes_operations_from_bytes(const uint8_t *bytes, size_t length, bes_coun
 /* Encodes a batch as bytes that can be stored or sent, in the format described in bestore's KEPT.md. bes_batch_from_bytes decodes them.
  * [out] bytes    the first bytes; at most bytes_room, and BES_BATCH_BYTES suffice
  * [out] count    how many bytes there are; after an error in an operation, its index
- * BES_BAD_COUNT: the batch is empty. BES_BAD_PART, BES_NO_OPERATION, BES_NO_KIND, BES_NAME_LENGTH (empty, or more than 63 bytes): the batch
- * contains an operation that no call accepts. */
+ * BES_BAD_COUNT: the batch is empty. BES_BAD_PART, BES_NO_OPERATION, BES_NAME_LENGTH (empty, or more than 63 bytes), BES_NO_KIND,
+ * BES_NO_VALUE, BES_NOT_UTF8, BES_HAS_NUL: the batch contains an operation that no call accepts. */
 static inline uint32_t bes_batch_to_bytes(const bes_batch *batch, uint8_t *bytes, size_t bytes_room, uint64_t *count)
 {
     return bes_operations_to_bytes(batch->operations, batch->count, batch->bytes, batch->used, bytes, bytes_room, count);
@@ -455,8 +455,10 @@ static inline uint32_t bes_batch_to_bytes(const bes_batch *batch, uint8_t *bytes
  * [out] place    the byte offset of the error; otherwise 0
  * BES_BAD_PART: the bytes don't begin as an encoded batch does or are of another format version; a part is cut off (place is its first
  * byte); or more bytes follow the end of the batch.
- * BES_BAD_COUNT, BES_NO_OPERATION, BES_NAME_LENGTH (0, or more than 63), BES_NO_KIND: place is the offset of the invalid number. All other
- * errors in an operation are reported when the batch is applied. */
+ * BES_BAD_COUNT, BES_NO_OPERATION, BES_NAME_LENGTH (0, or more than 63), BES_NO_KIND, BES_NO_VALUE: place is the offset of the invalid
+ * number.
+ * BES_NOT_UTF8, BES_HAS_NUL: place is the first wrong byte of a name or a text.
+ * All other errors in an operation are reported when the batch is applied. */
 static inline uint32_t bes_batch_from_bytes(bes_batch *batch, const uint8_t *bytes, size_t length, uint64_t *place)
 {
     bes_counts counts = {0, 0};
