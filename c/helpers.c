@@ -180,7 +180,17 @@ static uint32_t stray(bes_pass *pass, bes_batch *it, uint64_t next, void *with)
     return bes_batch_set_int64(it, 1, "count", 8);
 }
 
-/* A change ends at once if its function writes through the change's own pass. */
+/* Unpins the change's own pass. */
+static uint32_t let_go(bes_pass *pass, bes_batch *it, uint64_t next, void *with)
+{
+    counting *counting = with;
+    (void)next;
+    counting->runs++;
+    OK(bes_unpin(pass));
+    return bes_batch_set_int64(it, 1, "count", 8);
+}
+
+/* A change ends at once if its function writes through the change's own pass, or unpins it. */
 static void nested(void)
 {
     bes_pass passes[3];
@@ -188,6 +198,7 @@ static void nested(void)
     counting it = {NULL, 0, 0, 0, BES_OK};
     open_three(passes, 64);
     CHECK(bes_change(&passes[0], BES_TRIES, stray, &it, &number) == BES_NESTED && it.runs == 1);
+    CHECK(bes_change(&passes[0], BES_TRIES, let_go, &it, &number) == BES_NOT_PINNED && it.runs == 2);
     CHECK(bes_pin(&passes[0], &number) == BES_OK && number == 3 && bes_unpin(&passes[0]) == BES_OK && count_of(&passes[0]) == 7);
     close_three(passes);
 }

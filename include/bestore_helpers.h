@@ -384,13 +384,17 @@ static inline uint32_t bes_change_retrying(bes_pass *pass, bes_retry *retry, bes
 
 /* Reads and writes atomically: pins the current snapshot, runs the changer, applies its batch if no other transaction has been committed in
  * the meantime, and unpins. If another transaction has been committed, or if bes_again returns true, bes_change starts over. It gives up
- * BES_CHANGE_WITHIN after the first failed attempt, or after `attempts` attempts, of which it makes at least one. If the batch is empty, nothing is written. An error that the changer returns ends the
- * change, even if it is one after which bes_change would start over.
+ * BES_CHANGE_WITHIN after the first failed attempt, or after `attempts` attempts, of which it makes at least one. If the batch is empty,
+ * nothing is written. An error that the changer returns ends the change, even if it is one after which bes_change would start over.
+ *
+ * The changer must not unpin the pass. If it unpins it and pins it again, its batch is written even if another transaction has been
+ * committed since its first reads: bes_change doesn't check this, because the check would make each change slower. bes_end_change does
+ * check it.
  * [in] pass      a pass that isn't pinned
  * [out] number   the commit number; for an empty batch, the snapshot's number
- * BES_CONFLICT: another transaction committed first on the last attempt. BES_NESTED: the changer wrote through the change's own
- * pass; what it wrote itself is in the store, and its batch isn't. The changer must not unpin the pass. BES_PINNED, the changer's errors, and the errors of
- * bes_apply_change except BES_BAD_COUNT, with number set as there. */
+ * BES_CONFLICT: another transaction committed first on the last attempt. BES_NESTED: the changer wrote through the change's own pass; what
+ * it wrote itself is in the store, and its batch isn't. BES_NOT_PINNED: the changer unpinned the pass; its batch isn't in the store.
+ * BES_PINNED, the changer's errors, and the errors of bes_apply_change except BES_BAD_COUNT, with number set as there. */
 static inline uint32_t bes_change(bes_pass *pass, uint32_t attempts, bes_changer *changer, void *with, uint64_t *number)
 {
     bes_retry retry = {attempts > 0 ? attempts - 1 : 0, 1, 0, BES_CHANGE_WITHIN, NULL};
