@@ -80,6 +80,12 @@ static uint32_t error_of(const char *part)
         return BES_NO_OPERATION;
     if (strcmp(part, "name") == 0)
         return BES_NAME_LENGTH;
+    if (strcmp(part, "utf8") == 0)
+        return BES_NOT_UTF8;
+    if (strcmp(part, "nul") == 0)
+        return BES_HAS_NUL;
+    if (strcmp(part, "number") == 0)
+        return BES_NO_VALUE;
     return strcmp(part, "kind") == 0 ? BES_NO_KIND : BES_BAD_PART;
 }
 

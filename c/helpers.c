@@ -180,7 +180,17 @@ static uint32_t stray(bes_pass *pass, bes_batch *it, uint64_t next, void *with)
     return bes_batch_set_int64(it, 1, "count", 8);
 }
 
-/* A change ends at once if its function writes through the change's own pass. */
+/* Unpins the change's own pass. */
+static uint32_t let_go(bes_pass *pass, bes_batch *it, uint64_t next, void *with)
+{
+    counting *counting = with;
+    (void)next;
+    counting->runs++;
+    OK(bes_unpin(pass));
+    return bes_batch_set_int64(it, 1, "count", 8);
+}
+
+/* A change ends at once if its function writes through the change's own pass, or unpins it. */
 static void nested(void)
 {
     bes_pass passes[3];
@@ -188,6 +198,7 @@ static void nested(void)
     counting it = {NULL, 0, 0, 0, BES_OK};
     open_three(passes, 64);
     CHECK(bes_change(&passes[0], BES_TRIES, stray, &it, &number) == BES_NESTED && it.runs == 1);
+    CHECK(bes_change(&passes[0], BES_TRIES, let_go, &it, &number) == BES_NOT_PINNED && it.runs == 2);
     CHECK(bes_pin(&passes[0], &number) == BES_OK && number == 3 && bes_unpin(&passes[0]) == BES_OK && count_of(&passes[0]) == 7);
     close_three(passes);
 }
@@ -257,6 +268,16 @@ static void fill(char *text, size_t length)
     text[length] = 0;
 }
 
+/* Returns a random number of this type code, or 0 if its values aren't numbers. */
+static uint64_t any_number(uint32_t code)
+{
+    switch (code) {
+    case BES_INT32_TYPE: return below(1u << 31) - below(2) * (1u << 31);
+    case BES_UINT32_TYPE: return below((uint64_t)1 << 32);
+    default: return bes_is_number_code(code) ? below(1u << 30) << below(34) : 0;
+    }
+}
+
 /* Fills a batch with random operations. */
 static void any_batch(void)
 {
@@ -267,7 +288,7 @@ static void any_batch(void)
     bes_batch_clear(&batch);
     while (batch.count < count) {
         uint32_t code = codes[below(7)];
-        uint64_t number = bes_is_number_code(code) ? below(1u << 30) << below(34) : 0;
+        uint64_t number = any_number(code);
         size_t length = bes_is_number_code(code) ? 0 : below(256);
         fill(name, 1 + below(63));
         fill(value, length);
@@ -341,15 +362,38 @@ static void bytes_by_hand(void)
     CHECK(bes_batch_to_bytes(&batch, bytes, 64, &count) == BES_NO_KIND && count == 2);
     batch.operations[2].code = BES_INT64_TYPE, batch.operations[2].name_length = 0;
     CHECK(bes_batch_to_bytes(&batch, bytes, 64, &count) == BES_NAME_LENGTH && count == 2);
+    batch.operations[1].number = 1u << 31;
+    CHECK(bes_batch_to_bytes(&batch, bytes, 64, &count) == BES_NO_VALUE && count == 1);
     batch.operations[1].name_at = 0xffffffffu;
     CHECK(bes_batch_to_bytes(&batch, bytes, 64, &count) == BES_BAD_PART && count == 1);
+}
+
+/* Returns the error for a batch of one operation, whose name or text has two of these bytes. */
+static uint32_t error_with(const char *name, const char *value, uint32_t code)
+{
+    uint8_t bytes[64];
+    uint64_t count = 7;
+    uint32_t error;
+    bes_batch_clear(&batch);
+    CHECK(bes_batch_add_bytes(&batch, BES_SET, 1, (const uint8_t *)name, 2, code, 0, (const uint8_t *)value, 2) == BES_OK);
+    error = bes_batch_to_bytes(&batch, bytes, sizeof bytes, &count);
+    CHECK(error == BES_OK || count == 0);
+    return error;
+}
+
+static void texts_without_bytes(void)
+{
+    CHECK(error_with("\xc3\xa9", "\xc3\xa9", BES_STRING_TYPE) == BES_OK);
+    CHECK(error_with("\xc3(", "ab", BES_STRING_TYPE) == BES_NOT_UTF8 && error_with("a\0", "ab", BES_STRING_TYPE) == BES_HAS_NUL);
+    CHECK(error_with("ab", "a\xc3", BES_STRING_TYPE) == BES_NOT_UTF8 && error_with("ab", "a\xc3", BES_MIME_STRING_TYPE) == BES_NOT_UTF8);
+    CHECK(error_with("ab", "\0\xc3", BES_STRING_TYPE) == BES_HAS_NUL && error_with("ab", "\0\xc3", BES_RAW_TYPE) == BES_OK);
 }
 
 /* Encodes into arrays and decodes into arrays: the counts tell how much space is needed, and nothing is written past the end of
  * an array. */
 static void bytes_into_arrays(void)
 {
-    uint8_t bytes[200], parts[16], name[64] = {'n'};
+    uint8_t bytes[200], parts[16];
     bes_operation operations[3];
     bes_counts counts = {7, 7};
     uint64_t count = 0, place = 7;
@@ -369,7 +413,7 @@ static void bytes_into_arrays(void)
     CHECK(bes_operations_from_bytes(bytes, count - 1, &counts, operations, 3, parts, 16, &place) == BES_BAD_PART);
     CHECK(counts.operations == 0 && counts.bytes == 0 && place == count - 5);
     memcpy(bytes, "BEB\1\1\5\100", 7);
-    memcpy(bytes + 7, name, sizeof name);
+    memset(bytes + 7, 'n', 64);
     CHECK(bes_operations_from_bytes(bytes, 71, &counts, operations, 3, parts, 16, &place) == BES_NAME_LENGTH && place == 6);
     bytes[6] = 63;
     CHECK(bes_operations_from_bytes(bytes, 70, &counts, operations, 3, parts, 16, &place) == BES_OK && counts.bytes == 63);
@@ -539,6 +583,7 @@ int main(void)
     changes();
     entries();
     bytes_by_hand();
+    texts_without_bytes();
     bytes_into_arrays();
     bytes_come_back();
     moves();

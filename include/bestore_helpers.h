@@ -384,13 +384,17 @@ static inline uint32_t bes_change_retrying(bes_pass *pass, bes_retry *retry, bes
 
 /* Reads and writes atomically: pins the current snapshot, runs the changer, applies its batch if no other transaction has been committed in
  * the meantime, and unpins. If another transaction has been committed, or if bes_again returns true, bes_change starts over. It gives up
- * BES_CHANGE_WITHIN after the first failed attempt, or after `attempts` attempts, of which it makes at least one. If the batch is empty, nothing is written. An error that the changer returns ends the
- * change, even if it is one after which bes_change would start over.
+ * BES_CHANGE_WITHIN after the first failed attempt, or after `attempts` attempts, of which it makes at least one. If the batch is empty,
+ * nothing is written. An error that the changer returns ends the change, even if it is one after which bes_change would start over.
+ *
+ * The changer must not unpin the pass. If it unpins it and pins it again, its batch is written even if another transaction has been
+ * committed since its first reads: bes_change doesn't check this, because the check would make each change slower. bes_end_change does
+ * check it.
  * [in] pass      a pass that isn't pinned
  * [out] number   the commit number; for an empty batch, the snapshot's number
- * BES_CONFLICT: another transaction committed first on the last attempt. BES_NESTED: the changer wrote through the change's own
- * pass; what it wrote itself is in the store, and its batch isn't. The changer must not unpin the pass. BES_PINNED, the changer's errors, and the errors of
- * bes_apply_change except BES_BAD_COUNT, with number set as there. */
+ * BES_CONFLICT: another transaction committed first on the last attempt. BES_NESTED: the changer wrote through the change's own pass; what
+ * it wrote itself is in the store, and its batch isn't. BES_NOT_PINNED: the changer unpinned the pass; its batch isn't in the store.
+ * BES_PINNED, the changer's errors, and the errors of bes_apply_change except BES_BAD_COUNT, with number set as there. */
 static inline uint32_t bes_change(bes_pass *pass, uint32_t attempts, bes_changer *changer, void *with, uint64_t *number)
 {
     bes_retry retry = {attempts > 0 ? attempts - 1 : 0, 1, 0, BES_CHANGE_WITHIN, NULL};
@@ -444,8 +448,8 @@ uint32_t bes_operations_from_bytes(const uint8_t *bytes, size_t length, bes_coun
 /* Encodes a batch as bytes that can be stored or sent, in the format described in bestore's KEPT.md. bes_batch_from_bytes decodes them.
  * [out] bytes    the first bytes; at most bytes_room, and BES_BATCH_BYTES suffice
  * [out] count    how many bytes there are; after an error in an operation, its index
- * BES_BAD_COUNT: the batch is empty. BES_BAD_PART, BES_NO_OPERATION, BES_NO_KIND, BES_NAME_LENGTH (empty, or more than 63 bytes): the batch
- * contains an operation that no call accepts. */
+ * BES_BAD_COUNT: the batch is empty. BES_BAD_PART, BES_NO_OPERATION, BES_NAME_LENGTH (empty, or more than 63 bytes), BES_NO_KIND,
+ * BES_NO_VALUE, BES_NOT_UTF8, BES_HAS_NUL: the batch contains an operation that no call accepts. */
 static inline uint32_t bes_batch_to_bytes(const bes_batch *batch, uint8_t *bytes, size_t bytes_room, uint64_t *count)
 {
     return bes_operations_to_bytes(batch->operations, batch->count, batch->bytes, batch->used, bytes, bytes_room, count);
@@ -455,8 +459,10 @@ static inline uint32_t bes_batch_to_bytes(const bes_batch *batch, uint8_t *bytes
  * [out] place    the byte offset of the error; otherwise 0
  * BES_BAD_PART: the bytes don't begin as an encoded batch does or are of another format version; a part is cut off (place is its first
  * byte); or more bytes follow the end of the batch.
- * BES_BAD_COUNT, BES_NO_OPERATION, BES_NAME_LENGTH (0, or more than 63), BES_NO_KIND: place is the offset of the invalid number. All other
- * errors in an operation are reported when the batch is applied. */
+ * BES_BAD_COUNT, BES_NO_OPERATION, BES_NAME_LENGTH (0, or more than 63), BES_NO_KIND, BES_NO_VALUE: place is the offset of the invalid
+ * number.
+ * BES_NOT_UTF8, BES_HAS_NUL: place is the first wrong byte of a name or a text.
+ * All other errors in an operation are reported when the batch is applied. */
 static inline uint32_t bes_batch_from_bytes(bes_batch *batch, const uint8_t *bytes, size_t length, uint64_t *place)
 {
     bes_counts counts = {0, 0};

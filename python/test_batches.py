@@ -119,7 +119,8 @@ class Bytes(unittest.TestCase):
         reasons = {
             "beginning": "don't begin with BEB", "version": "a version other than 1", "count": "a batch has 1 to 64 operations",
             "operation": "no operation has the number", "name": "a name has 1 to 63 bytes, and this one",
-            "kind": "no kind has the type code", "end": "more bytes", "cut": "is cut off",
+            "kind": "no kind has the type code", "number": "doesn't fit its kind", "utf8": "isn't valid UTF-8", "nul": "has a zero byte",
+            "end": "more bytes", "cut": "is cut off",
         }
         rows = table("!")
         self.assertGreater(len(rows), 12)
@@ -140,7 +141,7 @@ class Bytes(unittest.TestCase):
     def test_broken(self):
         whole = bestore.Batch([bestore.SetAttribute(1, "ab", 5, bestore.INT32)]).to_bytes()
         for data, offset, reason in [
-            (b"", 0, "don't begin with BEB"), (whole[:3], 3, "a version other than 1"), (whole[:4], 4, "is cut off"),
+            (b"", 0, "the beginning is cut off"), (whole[:3], 3, "the beginning is cut off"), (whole[:4], 4, "is cut off"),
             (whole[:9], 6, "a node is cut off"), (whole[:16], 14, "a name is cut off"), (whole[:-1], 21, "a number is cut off"),
         ]:
             with self.assertRaises(bestore.BadBytes) as fault:
@@ -182,14 +183,16 @@ class Bytes(unittest.TestCase):
             self.assertIn(fault.exception.operation, (None, 1))
 
     def test_what_is_no_text(self):
-        """Text that isn't valid UTF-8 is detected when the batch is read back or applied."""
+        """Bytes with text that isn't valid UTF-8 aren't a batch, and a zero byte can't be written."""
         data = bestore.Batch([bestore.SetAttribute(1, "ab", "xy", bestore.STRING)]).to_bytes()
-        for broken in (data.replace(b"ab", b"\xff\xfe"), data.replace(b"xy", b"\xff\xfe")):
-            batch = bestore.Batch.from_bytes(broken)
-            with self.assertRaises(bestore.NotUTF8):
-                list(batch)
-            with bestore.open(64, 1, 100) as store, self.assertRaises(bestore.NotUTF8):
-                store.apply(batch)
+        for broken in (data.replace(b"ab", b"\xff\xfe"), data.replace(b"xy", b"x\xfe"), data.replace(b"xy", b"x\0")):
+            self.assertRaises(bestore.BadBytes, bestore.Batch.from_bytes, broken)
+        for batch in (bestore.Batch().new_node().set(1, "x", "\0"), bestore.Batch().new_node().unset(1, "x\0")):
+            with self.assertRaises(bestore.HasNul) as fault:
+                batch.to_bytes()
+            self.assertEqual(fault.exception.operation, 1)
+        raw = bestore.Batch().set(1, "x", b"\0\xff")
+        self.assertEqual(list(bestore.Batch.from_bytes(raw.to_bytes())), list(raw))
 
 
 class Entries(unittest.TestCase):

@@ -2,6 +2,7 @@
 
 import os
 import pickle
+import pydoc
 import re
 import unittest
 
@@ -91,6 +92,18 @@ class Errors(unittest.TestCase):
         class Mine(bestore.Busy):
             pass
         self.assertIs(type(errors.refusal(Mine.number)), bestore.Busy)
+
+
+class Help(unittest.TestCase):
+    def test_package(self):
+        """It describes the calls, and leaves each error to the error's own help: all of them would take twice as long to read."""
+        text = pydoc.plain(pydoc.render_doc(bestore))
+        self.assertLess(text.count("\n"), 7000)
+        for described in "class Pass(", "class Version(", "class Batch(", "\n    open(", "\n    connect(":
+            self.assertIn(described, text)
+        public = [it for it in vars(bestore).values() if isinstance(it, type) and issubclass(it, bestore.Error)]
+        self.assertGreater(len(public), 70)
+        self.assertLessEqual({it for it in errors.Refusal._classes.values()}, set(public))
 
 
 class Carets(unittest.TestCase):

@@ -114,7 +114,8 @@ else
 fi
 RUSTDOCFLAGS="-D warnings" run "Rust, documentation" doc --workspace --no-deps --features $features
 
-# Tests the client for Python with the server that was built above, and a saved file that Rust and Python open in turn.
+# Tests the client for Python with the server that was built above, a saved file that Rust and Python open in turn, and the decoders
+# of batches.
 if ! command -v python3 >/dev/null; then
     echo "Python, over the server: skipped, there is no python3"
 elif [ ! -f "$(python3 -c 'import sysconfig; print(sysconfig.get_path("include"))')/Python.h" ]; then
@@ -124,8 +125,9 @@ else
     BESTORED=$(realpath "$CARGO_TARGET_DIR/debug/bestored")
     export BESTORED
     if ! (cd ../python && timeout -k 10 1500 env BESTORE_LIBRARY="$BESTORE_LIB_DIR/libbestore.so" PYTHONDONTWRITEBYTECODE=1 \
-        python3 -W error -m unittest test_connect test_connected_ends test_connected_pages test_connected_programs test_connected_queries \
-        test_live test_repeats test_shelf test_watches test_without_library test_saved_processes.Processes.test_rust) >"$work/said" 2>&1; then
+        python3 -W error -m unittest test_batches_alike test_connect test_connected_ends test_connected_pages test_connected_programs \
+        test_connected_queries test_live test_repeats test_shelf test_watches test_without_library \
+        test_saved_processes.Processes.test_rust) >"$work/said" 2>&1; then
         cat "$work/said" >&2
         echo "Python, over the server: failed, or not at its end after 1500 seconds" >&2
         exit 1

@@ -306,18 +306,21 @@ def wrapped_names(names: Iterable[str], quote: str = "") -> str:
     return wrapped(f"{quote}{name}{quote}" for name in sorted(names))
 
 
+def reexported(names: Iterable[str]) -> str:
+    """Wraps imported names that the package exports although its `__all__` doesn't list them."""
+    return wrapped(f"{name}\N{NO-BREAK SPACE}as\N{NO-BREAK SPACE}{name}" for name in sorted(names)).replace("\N{NO-BREAK SPACE}", " ")
+
+
 def python_imports(surface: Surface) -> str:
-    return wrapped_names(it.exception for it in surface.faults)
+    return reexported(it.exception for it in surface.faults)
 
 
 def python_all(surface: Surface) -> str:
-    server = [it.name for it in surface.server_faults if it.python]
-    kinds = [*(it.python for it in surface.kinds), *(it.python_class for it in surface.numbers)]
-    return wrapped_names([*(it.exception for it in surface.faults), *server, *kinds], '"')
+    return wrapped_names([*(it.python for it in surface.kinds), *(it.python_class for it in surface.numbers)], '"')
 
 
 def python_server_imports(surface: Surface) -> str:
-    return wrapped_names(it.name for it in surface.server_faults if it.python)
+    return reexported(it.name for it in surface.server_faults if it.python)
 
 
 def python_server_exceptions(surface: Surface) -> str:

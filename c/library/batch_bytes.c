@@ -1,4 +1,5 @@
 /* Encodes batches as bytes and decodes them, in the format described in bestore's KEPT.md. */
+#include "characters.h"
 #include "kinds.h"
 
 /* The array for the written bytes, and the number of bytes so far. Bytes that don't fit are counted but not written. */
@@ -41,18 +42,44 @@ static bool has_wrong_length(uint32_t kind, uint32_t name_length)
     return kind >= BES_SET && (name_length < 1 || name_length > 63);
 }
 
-/* Returns BES_OK if the format can represent an operation, and the error otherwise. */
-static uint32_t unwritable(const bes_operation *it, size_t parts_count)
+/* Returns BES_OK if a name or a text can have these bytes; otherwise the error, with the offset of the first wrong byte. */
+static uint32_t text_error(const uint8_t *bytes, size_t length, size_t *place)
 {
+    *place = length == 0 ? 0 : valid_length((const char *)bytes, length);
+    if (*place == length)
+        return BES_OK;
+    return bytes[*place] == 0 ? BES_HAS_NUL : BES_NOT_UTF8;
+}
+
+/* Returns BES_OK if a store accepts an operation's value, and the error otherwise. */
+static uint32_t value_error(const bes_operation *it, const uint8_t *value)
+{
+    size_t place = 0;
+    if (bes_is_number_code(it->code))
+        return fits(it->code, it->number) ? BES_OK : BES_NO_VALUE;
+    if (it->value_length > 255)
+        return BES_DATA_LENGTH;
+    return it->code == BES_RAW_TYPE ? BES_OK : text_error(value, it->value_length, &place);
+}
+
+/* Returns BES_OK if some store accepts an operation, and otherwise the error that none does. */
+static uint32_t operation_error(const bes_operation *it, const uint8_t *parts, size_t parts_count)
+{
+    size_t place = 0;
+    uint32_t error = BES_OK;
     if (!has_part(parts_count, it->name_at, it->name_length) || !has_part(parts_count, it->value_at, it->value_length))
         return BES_BAD_PART;
     if (it->kind > BES_REMOVE_INDEX)
         return BES_NO_OPERATION;
-    if (has_code(it->kind) && !is_code(it->code))
-        return BES_NO_KIND;
     if (has_wrong_length(it->kind, it->name_length))
         return BES_NAME_LENGTH;
-    return it->kind == BES_SET && !bes_is_number_code(it->code) && it->value_length > 255 ? BES_DATA_LENGTH : BES_OK;
+    if (it->kind >= BES_SET)
+        error = text_error(parts + it->name_at, it->name_length, &place);
+    if (error != BES_OK)
+        return error;
+    if (has_code(it->kind) && !is_code(it->code))
+        return BES_NO_KIND;
+    return it->kind == BES_SET ? value_error(it, parts + it->value_at) : BES_OK;
 }
 
 static void put_operation(sink *to, const bes_operation *it, const uint8_t *parts)
@@ -82,7 +109,7 @@ uint32_t bes_operations_to_bytes(const bes_operation *operations, size_t operati
     if (operations_count < 1 || operations_count > 64)
         return BES_BAD_COUNT;
     for (size_t i = 0; i < operations_count; i++) {
-        uint32_t error = unwritable(&operations[i], parts_count);
+        uint32_t error = operation_error(&operations[i], parts, parts_count);
         if (error != BES_OK) {
             *count = i;
             return error;
@@ -151,35 +178,59 @@ static uint32_t take_head(source *from, bes_operation *it)
     return kind <= BES_UNSET && !take_number(from, 8, &it->node) ? BES_BAD_PART : BES_OK;
 }
 
-/* Reads the value of a BES_SET operation. */
-static bool take_value(source *from, bes_operation *it, sink *parts)
+/* Checks the text of this length that has just been read. After an error, the source is at the first wrong byte. */
+static uint32_t check_text(source *from, uint32_t length)
 {
-    if (bes_is_number_code(it->code))
-        return take_number(from, 8, &it->number);
-    return take_part(from, parts, &it->value_at, &it->value_length);
+    size_t begin = from->at - length, place = 0;
+    uint32_t error = text_error(from->bytes + begin, length, &place);
+    return error == BES_OK ? BES_OK : wrong_at(from, begin + place, error);
+}
+
+/* Reads an operation's name. After an error, the source is at the invalid part. */
+static uint32_t take_name(source *from, bes_operation *it, sink *parts)
+{
+    size_t begin = from->at;
+    if (!take_part(from, parts, &it->name_at, &it->name_length))
+        return BES_BAD_PART;
+    return has_wrong_length(it->kind, it->name_length) ? wrong_at(from, begin, BES_NAME_LENGTH) : check_text(from, it->name_length);
+}
+
+/* Reads a type code. After an error, the source is at the code. */
+static uint32_t take_code(source *from, bes_operation *it)
+{
+    uint64_t code = 0;
+    size_t begin = from->at;
+    if (!take_number(from, 4, &code))
+        return BES_BAD_PART;
+    it->code = (uint32_t)code;
+    return is_code(it->code) ? BES_OK : wrong_at(from, begin, BES_NO_KIND);
+}
+
+/* Reads the value of a BES_SET operation. After an error, the source is at the invalid part. */
+static uint32_t take_value(source *from, bes_operation *it, sink *parts)
+{
+    size_t begin = from->at;
+    if (bes_is_number_code(it->code)) {
+        if (!take_number(from, 8, &it->number))
+            return BES_BAD_PART;
+        return fits(it->code, it->number) ? BES_OK : wrong_at(from, begin, BES_NO_VALUE);
+    }
+    if (!take_part(from, parts, &it->value_at, &it->value_length))
+        return BES_BAD_PART;
+    return it->code == BES_RAW_TYPE ? BES_OK : check_text(from, it->value_length);
 }
 
 /* Reads an operation. After an error, the source is at the invalid part. */
 static uint32_t take_operation(source *from, bes_operation *it, sink *parts)
 {
-    uint64_t code = 0;
     uint32_t error = take_head(from, it);
-    size_t begin = from->at;
-    if (error != BES_OK)
-        return error;
-    it->name_at = it->value_at = (uint32_t)parts->count;
-    if (it->kind >= BES_SET && !take_part(from, parts, &it->name_at, &it->name_length))
-        return BES_BAD_PART;
-    if (has_wrong_length(it->kind, it->name_length))
-        return wrong_at(from, begin, BES_NAME_LENGTH);
+    it->name_at = (uint32_t)parts->count;
+    if (error == BES_OK && it->kind >= BES_SET)
+        error = take_name(from, it, parts);
     it->value_at = (uint32_t)parts->count;
-    begin = from->at;
-    if (has_code(it->kind) && !take_number(from, 4, &code))
-        return BES_BAD_PART;
-    it->code = (uint32_t)code;
-    if (has_code(it->kind) && !is_code(it->code))
-        return wrong_at(from, begin, BES_NO_KIND);
-    return it->kind == BES_SET && !take_value(from, it, parts) ? BES_BAD_PART : BES_OK;
+    if (error == BES_OK && has_code(it->kind))
+        error = take_code(from, it);
+    return error == BES_OK && it->kind == BES_SET ? take_value(from, it, parts) : error;
 }
 
 /* Reads the format's first bytes and the number of operations. After an error, the source is at the invalid byte. */

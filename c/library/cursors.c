@@ -9,12 +9,6 @@ static size_t key_size(uint32_t code)
     return bits_of(code) / 8;
 }
 
-/* Returns the amount to add to a number in an index's key so that the bytes sort in the order of the numbers. */
-static uint64_t key_shift(uint32_t code)
-{
-    return is_signed(code) ? (uint64_t)1 << (bits_of(code) - 1) : 0;
-}
-
 /* Writes the low `length` bytes of a number, highest first. */
 static void put_high_first(uint8_t *bytes, uint64_t number, size_t length)
 {
@@ -33,12 +27,11 @@ static uint64_t take_high_first(const uint8_t *bytes, size_t length)
 /* Returns BES_OK if an index key can have this value, and the error otherwise. */
 static uint32_t unkeyable(const bes_attribute *value, const void *bytes)
 {
-    uint64_t shifted = value->number + key_shift(value->code);
     if (value->code == BES_STRING_TYPE)
         return value->length > 255 ? BES_DATA_LENGTH : memchr(bytes, 0, value->length) != NULL ? BES_HAS_NUL : BES_OK;
     if (key_size(value->code) == 0)
         return BES_NOT_INDEXABLE;
-    return bits_of(value->code) < 64 && shifted >> bits_of(value->code) != 0 ? BES_NO_VALUE : BES_OK;
+    return fits(value->code, value->number) ? BES_OK : BES_NO_VALUE;
 }
 
 uint32_t bes_cursor_at(const bes_attribute *value, const void *bytes, uint64_t node, bes_cursor *cursor)

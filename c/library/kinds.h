@@ -56,4 +56,16 @@ static inline unsigned bits_of(uint32_t code)
     }
 }
 
+/* Returns the amount to add to an integer of this type code so that the smallest one becomes 0. */
+static inline uint64_t key_shift(uint32_t code)
+{
+    return is_signed(code) ? (uint64_t)1 << (bits_of(code) - 1) : 0;
+}
+
+/* Returns whether an integer of this type code can have this value. */
+static inline bool fits(uint32_t code, uint64_t number)
+{
+    return bits_of(code) == 64 || (number + key_shift(code)) >> bits_of(code) == 0;
+}
+
 #endif

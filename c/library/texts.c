@@ -1,5 +1,6 @@
 /* Prepares strings for use in a query or a value, and prints a caret below an error. */
 #include "bestore.h"
+#include "characters.h"
 
 #include <string.h>
 
@@ -26,23 +27,6 @@ size_t bes_escape(const char *text, char *out, size_t room)
 size_t bes_any_case(const char *text, char *out, size_t room)
 {
     return put_text(bes_any_case_bytes, text, out, room);
-}
-
-/* Returns the length in bytes of the UTF-8 character at the start of a text, or 0 if no character begins there. A zero byte isn't a
- * character. */
-static size_t character(const char *text, size_t length)
-{
-    unsigned char first = length > 0 ? (unsigned char)text[0] : 0, second = length > 1 ? (unsigned char)text[1] : 0;
-    unsigned char least = first == 0xe0 ? 0xa0 : first == 0xf0 ? 0x90 : 0x80, most = first == 0xed ? 0x9f : first == 0xf4 ? 0x8f : 0xbf;
-    size_t count = first >= 0xf0 ? 4 : first >= 0xe0 ? 3 : 2;
-    if (first < 0x80)
-        return first != 0;
-    if (first < 0xc2 || first > 0xf4 || count > length || second < least || second > most)
-        return 0;
-    for (size_t i = 2; i < count; i++)
-        if (((unsigned char)text[i] & 0xc0) != 0x80)
-            return 0;
-    return count;
 }
 
 size_t bes_to_utf8(const char *text, size_t length, char *out, size_t room)

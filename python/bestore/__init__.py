@@ -13,7 +13,8 @@
 
 A `Pass` is a session: one thread's handle on the store. Give each thread its own pass, because calls on the same pass wait for
 each other. `another` creates further passes, from any pass and in any thread. Errors are raised as subclasses of `Error`; each of
-the library's error numbers has its own class, such as `Busy` or `QuerySyntax`.
+the library's error numbers has its own class, such as `Busy` or `QuerySyntax`. `help(bestore.Busy)` describes one of them, and
+docs/PYTHON.md lists all. `from bestore import *` doesn't import them.
 
 For a store that programs share through the server bestored, use `connect` instead of `open`: see `help(bestore.connected)`. A
 function that takes a `Pass` or a `Version` works with either kind of store. The module `bestore.saved` keeps a store in a file.
@@ -26,29 +27,40 @@ The wheel contains the library's shared object. In the repository, the package u
 BESTORE_LIBRARY to use a different one. The documents in docs/ are in the repository, the tarball and the Debian package bestore.
 """
 
+# The names that are imported "as" themselves are public too, but help(bestore) doesn't describe them: most of it would be about errors.
 from ._version import VERSION as __version__
 from ._connected_errors import (
     # surface.toml: exceptions of a server
-    BadRequest, Expired, NoClient, NoLog, NoWatch, NotAllowed, NotKept, NotLeader, PushesLost,
-    TooManyCopies, TooManyWatches, Unexpected,
+    BadRequest as BadRequest, Expired as Expired, NoClient as NoClient, NoLog as NoLog,
+    NoWatch as NoWatch, NotAllowed as NotAllowed, NotKept as NotKept, NotLeader as NotLeader,
+    PushesLost as PushesLost, TooManyCopies as TooManyCopies, TooManyWatches as TooManyWatches,
+    Unexpected as Unexpected,
     # surface.toml: end
-    BrokenConnection, Disconnected, LineTooLong, NoServer, OtherUser, ProtocolError, ServerError,
-    ServerRefusal, TimedOut, Unavailable,
+    BrokenConnection as BrokenConnection, Disconnected as Disconnected, LineTooLong as LineTooLong,
+    NoServer as NoServer, OtherUser as OtherUser, ProtocolError as ProtocolError, ServerError as ServerError,
+    ServerRefusal as ServerRefusal, TimedOut as TimedOut, Unavailable as Unavailable,
 )
-from ._saved_errors import NotSaved, Stopped
+from ._saved_errors import NotSaved as NotSaved, Stopped as Stopped
 from ._surface import ErrorClass, ErrorNumber
 from .change import Change, ChangedAttributes
 from .connected import connect
 from .errors import (
     # surface.toml: exceptions
-    BadCount, BadCursor, BadItems, BadLimits, BadPart, BadPattern, Busy, Closed, CommitsSpent,
-    Conflict, DataLength, Full, HasNul, InUse, IndexExists, NameLength, Nested, NoAttribute,
-    NoIndex, NoItem, NoKind, NoMemory, NoNode, NoOperation, NoPass, NoRoom, NoValue, NotCovered,
-    NotIndexable, NotPinned, NotUTF8, Opened, Pinned, QuerySyntax, TooDeep, TooLong, TooMany,
-    TooManyAttributes, TooManyIndices, WrongKind,
+    BadCount as BadCount, BadCursor as BadCursor, BadItems as BadItems, BadLimits as BadLimits,
+    BadPart as BadPart, BadPattern as BadPattern, Busy as Busy, Closed as Closed,
+    CommitsSpent as CommitsSpent, Conflict as Conflict, DataLength as DataLength, Full as Full,
+    HasNul as HasNul, InUse as InUse, IndexExists as IndexExists, NameLength as NameLength,
+    Nested as Nested, NoAttribute as NoAttribute, NoIndex as NoIndex, NoItem as NoItem,
+    NoKind as NoKind, NoMemory as NoMemory, NoNode as NoNode, NoOperation as NoOperation,
+    NoPass as NoPass, NoRoom as NoRoom, NoValue as NoValue, NotCovered as NotCovered,
+    NotIndexable as NotIndexable, NotPinned as NotPinned, NotUTF8 as NotUTF8, Opened as Opened,
+    Pinned as Pinned, QuerySyntax as QuerySyntax, TooDeep as TooDeep, TooLong as TooLong,
+    TooMany as TooMany, TooManyAttributes as TooManyAttributes, TooManyIndices as TooManyIndices,
+    WrongKind as WrongKind,
     # surface.toml: end
-    BadBytes, Error, Forked, NotReached, NoVolume, OtherStore, OtherVolume, PartialIndex,
-    QueryError, QueryNotUTF8, Refusal, TooManyAttempts,
+    BadBytes as BadBytes, Error as Error, Forked as Forked, NotReached as NotReached, NoVolume as NoVolume,
+    OtherStore as OtherStore, OtherVolume as OtherVolume, PartialIndex as PartialIndex, QueryError as QueryError,
+    QueryNotUTF8 as QueryNotUTF8, Refusal as Refusal, TooManyAttempts as TooManyAttempts,
 )
 from .language import Comparison, Hint, any_case, escape
 from .opening import open
@@ -81,25 +93,12 @@ UINT64 = Kind.UINT64
 
 __all__ = [
     # surface.toml: names
-    "BadCount", "BadCursor", "BadItems", "BadLimits", "BadPart", "BadPattern", "BadRequest", "Busy",
-    "Closed", "CommitsSpent", "Conflict", "DataLength", "Expired", "Full", "HasNul", "INT32",
-    "INT64", "InUse", "IndexExists", "Int32", "Int64", "MIME", "NameLength", "Nested",
-    "NoAttribute", "NoClient", "NoIndex", "NoItem", "NoKind", "NoLog", "NoMemory", "NoNode",
-    "NoOperation", "NoPass", "NoRoom", "NoValue", "NoWatch", "NotAllowed", "NotCovered",
-    "NotIndexable", "NotKept", "NotLeader", "NotPinned", "NotUTF8", "Opened", "Pinned",
-    "PushesLost", "QuerySyntax", "RAW", "STRING", "TooDeep", "TooLong", "TooMany",
-    "TooManyAttributes", "TooManyCopies", "TooManyIndices", "TooManyWatches", "UINT32", "UINT64",
-    "UInt32", "UInt64", "Unexpected", "WrongKind",
+    "INT32", "INT64", "Int32", "Int64", "MIME", "RAW", "STRING", "UINT32", "UINT64", "UInt32",
+    "UInt64",
     # surface.toml: end
-    "Attributes", "BadBytes", "Batch", "BrokenConnection", "Change", "ChangedAttributes", "Changes",
-    "Comparison", "Cursor", "Disconnected", "Entry", "Error", "ErrorClass", "ErrorNumber", "Forked", "Held",
-    "Hint", "Integer", "Item", "Kind", "LineTooLong",
-    "MOST_OPERATIONS", "MakeIndex", "Name", "NewNode", "NoServer", "NoVolume",
-    "NotReached", "NotSaved", "Operation", "Operator", "Order", "OtherStore", "OtherUser", "OtherVolume", "PartialIndex",
-    "Page", "Pass", "Prepared", "ProtocolError", "QueryError", "QueryNotUTF8", "Refusal",
-    "RemoveIndex", "RemoveNode", "ServerError", "ServerRefusal", "SetAttribute", "Shelf",
-    "ShelfVersion", "Status", "Stopped", "TimedOut", "TooManyAttempts", "Typed", "Unavailable", "UnsetAttribute",
-    "Value", "Version", "Watch", "Witness",
-    "any_case", "connect", "escape", "node_in", "number_of", "open", "open_shelf", "prepare",
-    "prepare_items", "volume_of",
+    "Attributes", "Batch", "Change", "ChangedAttributes", "Changes", "Comparison", "Cursor", "Entry", "ErrorClass",
+    "ErrorNumber", "Held", "Hint", "Integer", "Item", "Kind", "MOST_OPERATIONS", "MakeIndex", "Name", "NewNode",
+    "Operation", "Operator", "Order", "Page", "Pass", "Prepared", "RemoveIndex", "RemoveNode", "SetAttribute",
+    "Shelf", "ShelfVersion", "Status", "Typed", "UnsetAttribute", "Value", "Version", "Watch", "Witness", "any_case",
+    "connect", "escape", "node_in", "number_of", "open", "open_shelf", "prepare", "prepare_items", "volume_of",
 ]

@@ -5,7 +5,7 @@ from __future__ import annotations
 from typing import TYPE_CHECKING, Callable, Dict, Iterable, List, Optional, Tuple, TypeVar, Union
 
 from .change import Change
-from .errors import HasNul, NoNode, NotPinned, OtherVolume, PartialIndex
+from .errors import NoNode, NotPinned, OtherVolume, PartialIndex
 from .nodes import NUMBERS, node_in, node_number, of_volume, volume_of
 from .operations import Batch
 from .values import Typed, Value
@@ -136,9 +136,6 @@ class ShelfChange(Change):
         for each in (*self._early, collect):
             each(early)
         early.to_bytes()
-        place, name = len(self._early), early._parts()[-1][4]
-        if b"\0" in name:
-            raise HasNul(place, listed="operation")
 
     def get(self, node: int, name: str) -> Optional[Value]:
         return self._snapshot.get(node, name)

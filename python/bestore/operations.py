@@ -7,7 +7,7 @@ import struct
 from dataclasses import dataclass
 from typing import Callable, ClassVar, Iterable, Iterator, List, Optional, Sequence, Tuple, Type, TypeVar, Union
 
-from .errors import BadBytes, BadCount, BadPart, DataLength, NameLength, NoKind, NoNode, decoded, encoded
+from .errors import BadBytes, BadCount, BadPart, DataLength, HasNul, NameLength, NoKind, NoNode, decoded, encoded
 from .values import KIND_OF, RANGES, Kind, Value, decode_value, encode_value, plain
 
 NEW, REMOVE, SET, UNSET, MAKE_INDEX, REMOVE_INDEX = range(6)
@@ -195,7 +195,8 @@ class Batch:
 
     def to_bytes(self) -> bytes:
         """Returns the batch as bytes, which `from_bytes` and the libraries for C, C++ and Rust can read. Raises `BadCount`
-        unless the batch has 1 to 64 operations, and `NameLength`, `DataLength` or `NoKind` for parts that no write accepts."""
+        unless the batch has 1 to 64 operations, and `NameLength`, `DataLength`, `HasNul` or `NoKind` for parts that no write
+        accepts."""
         return self._packed()
 
     def _packed(self, nodes: Optional[Sequence[int]] = None) -> bytes:
@@ -214,7 +215,7 @@ class Batch:
                 continue
             if not 1 <= name_length <= MOST_OF_A_NAME:
                 raise NameLength(place, listed="operation")
-            parts += _BYTES[name_length], texts[name_at:name_at + name_length]
+            parts += _BYTES[name_length], _text(texts[name_at:name_at + name_length], place)
             if kind not in _WITH_CODE:
                 continue
             if code not in KIND_OF:
@@ -226,13 +227,14 @@ class Batch:
             elif code in RANGES:
                 parts.append(_CODE_NUMBER.pack(code, number))
             else:
-                parts += _CODE.pack(code), _BYTES[value_length], texts[value_at:value_at + value_length]
+                value = texts[value_at:value_at + value_length]
+                parts += _CODE.pack(code), _BYTES[value_length], value if code == Kind.RAW else _text(value, place)
         return b"".join(parts)
 
     @classmethod
     def from_bytes(cls, data: bytes) -> Batch:
-        """Returns the batch that `to_bytes` encoded as these bytes. Raises `BadBytes` if the bytes aren't a valid batch, or if
-        anything follows it."""
+        """Returns the batch that `to_bytes` encoded as these bytes. Raises `BadBytes` if the bytes aren't a batch that a store
+        could accept, or if anything follows it."""
         reader, batch = _Reader(data), cls()
         reader.read_beginning()
         for _ in range(reader.read_count()):
@@ -250,6 +252,13 @@ def _node(node: int) -> int:
     if number not in RANGES[Kind.UINT64]:
         raise NoNode(number)
     return number
+
+
+def _text(text: bytes, place: int) -> bytes:
+    """Returns the bytes of an operation's name or text. Raises `HasNul` if one of them is zero."""
+    if 0 in text:
+        raise HasNul(place, listed="operation")
+    return text
 
 
 def _copied(kind: Type[Batch], operations: bytes, texts: bytes) -> Batch:
@@ -311,19 +320,38 @@ class _Reader:
             raise BadBytes(begin, f"{what} is cut off")
         return self._take(count, what)
 
+    def _text(self, text: bytes, what: str) -> bytes:
+        """Returns the name or text that has just been read. If it has a wrong byte, the error is at that byte."""
+        begin, (valid, zero, _) = self._at - len(text), text.partition(b"\0")
+        try:
+            valid.decode()
+        except UnicodeDecodeError as error:
+            raise BadBytes(begin + error.start, f"{what} isn't valid UTF-8") from None
+        if zero:
+            raise BadBytes(begin + len(valid), f"{what} has a zero byte")
+        return text
+
     def _name(self) -> bytes:
         name = self._counted("a name")
         if not 1 <= len(name) <= MOST_OF_A_NAME:
             raise BadBytes(self._at - len(name) - 1, f"a name has 1 to {MOST_OF_A_NAME} bytes, and this one {len(name)}")
-        return name
+        return self._text(name, "a name")
+
+    def _integer(self, code: int) -> int:
+        number = self._number(8, "a number")
+        value = decode_value(code, number, b"")
+        if value not in RANGES[Kind(code)]:
+            raise BadBytes(self._at - 8, f"the number {value!r} doesn't fit its kind")
+        return number
+
+    def _value(self, code: int) -> bytes:
+        value = self._counted("a value")
+        return value if code == Kind.RAW else self._text(value, "a text")
 
     def read_beginning(self) -> None:
-        for at in range(3):
-            if self._data[at:at + 1] != BEGINNING[at:at + 1]:
-                raise BadBytes(at, "they don't begin with BEB")
-        if self._data[3:4] != BEGINNING[3:]:
-            raise BadBytes(3, "the format has a version other than 1")
-        self._at = len(BEGINNING)
+        for at, expected in enumerate(BEGINNING):
+            if self._number(1, "the beginning") != expected:
+                raise BadBytes(at, "they don't begin with BEB" if at < 3 else "the format has a version other than 1")
 
     def read_count(self) -> int:
         count = self._number(1, "the number of operations")
@@ -341,8 +369,8 @@ class _Reader:
         code = self._number(4, "a type code") if kind in _WITH_CODE else 0
         if kind in _WITH_CODE and code not in KIND_OF:
             raise BadBytes(self._at - 4, f"no kind has the type code {code:#x}")
-        number = self._number(8, "a number") if kind == SET and code in RANGES else 0
-        value = self._counted("a value") if kind == SET and code not in RANGES else b""
+        number = self._integer(code) if kind == SET and code in RANGES else 0
+        value = self._value(code) if kind == SET and code not in RANGES else b""
         batch._add_encoded(kind, node, name, code, number, value)
 
     def read_end(self) -> None:

@@ -21,20 +21,19 @@ impl Batch {
     /// Encodes the batch as bytes that can be stored or sent.
     ///
     /// # Errors
-    /// [`Error::BadCount`], [`Error::NameLength`] or [`Error::DataLength`] if no store would accept such a batch.
+    /// [`Error::BadCount`], [`Error::NameLength`], [`Error::DataLength`] or [`Error::HasNul`] if no store would accept such a batch.
     pub fn to_bytes(&self) -> Result<Vec<u8>> {
         self.check_count()?;
         let mut bytes = Vec::with_capacity(5 + 32 * self.len() + self.raw().bytes.len());
         bytes.extend_from_slice(&BEGINNING);
         bytes.push(self.len() as u8);
         for (index, operation) in self.raw().operations.iter().enumerate() {
-            self.write(operation, index, &mut bytes)?;
+            self.write(operation, Some(index as u64), &mut bytes)?;
         }
         Ok(bytes)
     }
 
-    fn write(&self, operation: &RawOperation, index: usize, to: &mut Vec<u8>) -> Result<()> {
-        let operation_index = Some(index as u64);
+    fn write(&self, operation: &RawOperation, index: Option<u64>, to: &mut Vec<u8>) -> Result<()> {
         to.push(operation.kind as u8);
         if has_node(operation.kind) {
             to.extend_from_slice(&operation.node.to_le_bytes());
@@ -44,23 +43,23 @@ impl Batch {
             let length = u8::try_from(name.len())
                 .ok()
                 .filter(|length| LENGTHS_OF_A_NAME.contains(length));
-            to.push(length.ok_or(Error::NameLength {
-                operation: operation_index,
-            })?);
-            to.extend_from_slice(name.as_bytes());
+            to.push(length.ok_or(Error::NameLength { operation: index })?);
+            write_text(name.as_bytes(), index, to)?;
         }
         if has_code(operation.kind) {
             to.extend_from_slice(&operation.code.to_le_bytes());
         }
         if operation.kind == sys::BES_SET {
-            if Kind::from_code(operation.code).map_or(false, Kind::is_number) {
+            let kind = Kind::from_code(operation.code).unwrap_or(Kind::Raw);
+            if kind.is_number() {
                 to.extend_from_slice(&operation.number.to_le_bytes());
-            } else {
-                let value = self.raw().value_bytes(operation);
-                to.push(u8::try_from(value.len()).map_err(|_| Error::DataLength {
-                    operation: operation_index,
-                })?);
-                to.extend_from_slice(value);
+                return Ok(());
+            }
+            let value = self.raw().value_bytes(operation);
+            to.push(u8::try_from(value.len()).map_err(|_| Error::DataLength { operation: index })?);
+            match kind {
+                Kind::Raw => to.extend_from_slice(value),
+                _ => write_text(value, index, to)?,
             }
         }
         Ok(())
@@ -69,7 +68,8 @@ impl Batch {
     /// Returns the batch that the bytes encode.
     ///
     /// # Errors
-    /// [`Error::BadBatch`] with the offset of the first invalid byte, or of the first byte of a part that is cut off.
+    /// [`Error::BadBatch`] with the offset of the first invalid byte, of the first byte of a part that is cut off, or of a number that
+    /// doesn't fit its kind. A batch that is read has no operation that every store refuses.
     pub fn from_bytes(bytes: &[u8]) -> Result<Self> {
         let mut reader = Reader { bytes, at: 0 };
         reader.beginning()?;
@@ -98,6 +98,15 @@ fn has_name(kind: u32) -> bool {
 
 fn has_code(kind: u32) -> bool {
     kind == sys::BES_SET || kind == sys::BES_MAKE_INDEX
+}
+
+/// Adds the bytes of a name or a text, unless one of them is zero.
+fn write_text(text: &[u8], operation: Option<u64>, to: &mut Vec<u8>) -> Result<()> {
+    if text.contains(&0) {
+        return Err(Error::HasNul { operation });
+    }
+    to.extend_from_slice(text);
+    Ok(())
 }
 
 struct Reader<'a> {
@@ -160,12 +169,14 @@ impl<'a> Reader<'a> {
         Ok(())
     }
 
-    /// Returns the text that these bytes, which have just been read, encode.
+    /// Returns the name or text that these bytes, which have just been read, encode.
     fn text(&self, bytes: &'a [u8]) -> Result<&'a str> {
-        match std::str::from_utf8(bytes) {
-            Ok(text) => Ok(text),
-            Err(error) => self.bad(bytes.len() - error.valid_up_to(), "a text isn't valid UTF-8"),
+        let text = std::str::from_utf8(bytes);
+        let valid = text.map_or_else(|error| error.valid_up_to(), str::len);
+        if let Some(zero) = bytes[..valid].iter().position(|byte| *byte == 0) {
+            return self.bad(bytes.len() - zero, "a name or a text has a zero byte");
         }
+        text.or_else(|_| self.bad(bytes.len() - valid, "a name or a text isn't valid UTF-8"))
     }
 
     fn name(&mut self) -> Result<&'a str> {
@@ -323,6 +334,9 @@ mod tests {
                 "operation" => "no operation has this number; operations are numbered 0 to 5",
                 "name" => "a name has 1 to 63 bytes",
                 "kind" => "no kind has this type code",
+                "number" => "the number doesn't fit its kind",
+                "utf8" => "a name or a text isn't valid UTF-8",
+                "nul" => "a name or a text has a zero byte",
                 "cut" => "the batch is cut off",
                 _ => "the batch ends here, and more bytes follow",
             };
@@ -347,13 +361,6 @@ mod tests {
         }
         let longer = [&bytes[..], &[0]].concat();
         assert_eq!(refused(&longer).0, bytes.len());
-    }
-
-    #[test]
-    fn values_that_no_operation_has_are_refused_at_their_byte() {
-        assert_eq!(refused(b"BEB\x01\x01\x05\x02a\xff").0, 8);
-        let too_large = b"BEB\x01\x01\x02\0\0\0\0\0\0\0\0\x01aGNOL\0\0\0\0\x01\0\0\0";
-        assert_eq!(refused(too_large), (20, "the number doesn't fit its kind"));
     }
 
     #[test]
@@ -384,5 +391,10 @@ mod tests {
         let mut large = Batch::new();
         large.set(1, "r", vec![0; 256]);
         assert!(matches!(large.to_bytes(), Err(Error::DataLength { .. })));
+        for (name, value) in [("a\0", "b"), ("a", "\0")] {
+            let mut zero = Batch::new();
+            zero.new_node().set(1, name, value);
+            assert!(matches!(zero.to_bytes(), Err(Error::HasNul { operation: Some(1) })));
+        }
     }
 }
