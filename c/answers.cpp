@@ -1,6 +1,6 @@
-// Reads answers that have more nodes than the first room that Snapshot makes for them. A store with so many nodes takes long to fill, so
-// here the calls that answer a query answer for a store with this many nodes, each of which the query finds. Linked with -Wl,--wrap for
-// each of these calls.
+// Reads answers around the size of the first room that Snapshot makes for them, and checks how often the query runs and how much room it
+// gets. Filling a store for each size would take too long (large.cpp fills one), so here the calls that answer a query answer for a store
+// with this many nodes, each of which the query finds. Linked with -Wl,--wrap for each of these calls.
 #include "tests.hpp"
 
 using bestore::Node;

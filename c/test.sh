@@ -81,7 +81,7 @@ done
 
 # The tests, and the ones among them that start threads.
 tests=(test queries columns cursors ordered changes batches closing refreshes errors threads witness helpers texts query_texts bounds racing promises huge_pages large)
-tests_cpp=(test helpers changes ordered racing lifetimes)
+tests_cpp=(test helpers changes ordered racing lifetimes large)
 with_threads=(changes threads witness helpers racing promises)
 
 for test in "${tests[@]}"; do

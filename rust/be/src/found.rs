@@ -27,7 +27,7 @@ impl Found {
         match (&line.sort, line.any) {
             (Some(by), _) => in_order(client, text, by, line).map(Found::Page),
             (None, Some(most)) => any(client, text, most, line).map(Found::Page),
-            (None, None) => by_number(client, text, line).map(Found::Hits),
+            (None, None) => by_number(client, text, line.limit, line).map(Found::Hits),
         }
     }
 
@@ -57,19 +57,19 @@ fn left(limit: Option<u64>, had: usize) -> Option<Option<u64>> {
     }
 }
 
-fn by_number(client: &mut Client, text: &str, line: &Line) -> Result<Hits, Failure> {
+fn by_number(client: &mut Client, text: &str, limit: Option<u64>, line: &Line) -> Result<Hits, Failure> {
     let columns: Vec<&str> = line.columns.iter().map(String::as_str).collect();
     let mut query = Query {
         text,
         columns: &columns,
-        limit: line.limit,
+        limit,
         from: 0,
-        uncounted: line.limit.is_some() && !line.json,
+        uncounted: limit.is_some() && !line.json,
     };
     let mut all = client.hits(query)?;
     while let Some(from) = all.more {
         query.from = from;
-        query.limit = match left(line.limit, all.nodes.as_ref().map_or(0, Vec::len)) {
+        query.limit = match left(limit, all.nodes.as_ref().map_or(0, Vec::len)) {
             Some(limit) => limit,
             None => break,
         };
@@ -127,6 +127,17 @@ fn of_a_page(limit: u64) -> u64 {
 }
 
 fn any(client: &mut Client, text: &str, most: u64, line: &Line) -> Result<Page, Failure> {
+    if most > NODES as u64 {
+        // They don't fit on one line. The first nodes come page by page.
+        let first = by_number(client, text, Some(most), line)?;
+        return Ok(Page {
+            commit: first.commit,
+            commits: first.commits,
+            nodes: first.nodes.unwrap_or_default(),
+            rows: first.rows,
+            ..Page::default()
+        });
+    }
     let mut query = wire::Query {
         query: text.into(),
         columns: columns_of(line),

@@ -103,6 +103,14 @@ fn any_nodes_are_found() {
     assert_eq!(server.done(&["query", "--any", "2", "name==*"]).lines().count(), 2);
     assert_eq!(server.done(&["query", "--any", "9", "-c", "name", "name==b"]), "2\tb\n");
     assert_eq!(server.done(&["query", "--any", "9", "name==z"]), "");
+    // More than a line of the protocol holds.
+    let many = ["query", "--any", "50001", "-c", "name", "name>=b"];
+    assert_eq!(server.done(&many), server.done(&["query", "-c", "name", "name>=b"]));
+    let json = |words: &[&str]| -> serde_json::Value { serde_json::from_str(&server.done(words)).unwrap() };
+    assert_eq!(
+        json(&["query", "--json", "--any", "50001", "-c", "name", "name>=b"]),
+        json(&["query", "--json", "--any", "50000", "-c", "name", "name>=b"])
+    );
 }
 
 #[test]

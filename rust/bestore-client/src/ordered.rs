@@ -153,12 +153,15 @@ impl Client {
         Ok(found)
     }
 
-    /// Returns any `most` (1 to 50,000) of the nodes that the query finds, or all of them if there are fewer, in no particular order. If
-    /// the answer is large, this takes less time than computing all of it.
+    /// Returns any `most` of the nodes that the query finds, or all of them if there are fewer, in no particular order. If the answer is
+    /// large and `most` is at most 50,000, this takes less time than computing all of it.
     ///
     /// # Errors
-    /// `BadRequest` if `most` isn't 1 to 50,000. Otherwise the same as [`call`](Self::call).
+    /// `BadRequest` if `most` is 0. Otherwise the same as [`call`](Self::call).
     pub fn any(&mut self, text: &str, most: usize) -> Result<Vec<u64>> {
+        if most > NODES {
+            return self.first(text, 0, most);
+        }
         let page: wire::Page = self.call(Command::Query(wire::Query {
             query: text.into(),
             any: Some(most as u64),

@@ -52,6 +52,12 @@ fn many_nodes_come_in_pages() {
     client.pin().unwrap();
     assert!(client.query("size>0").unwrap() == all);
     assert_eq!(client.count("size>0").unwrap(), NODES);
+    for (asked, found) in [(NODES as usize - 1, NODES - 1), (usize::MAX, NODES)] {
+        let mut any = client.any("size>0", asked).unwrap();
+        any.sort_unstable();
+        any.dedup();
+        assert_eq!(any.len() as u64, found);
+    }
     let page: Nodes = client.call(Command::Nodes(NodesFrom::default())).unwrap();
     assert_eq!((page.nodes.len(), page.more), (50_000, Some(50_001)));
     client.unpin().unwrap();
