@@ -18,6 +18,7 @@ from concurrent.futures import ThreadPoolExecutor
 from pathlib import Path
 from typing import Callable, NamedTuple
 
+from mutants import Mutant
 from proved import find_rt, rattle_words, read_libraries
 
 # How many mutants a check tries, and how many KiB of memory it may take.
@@ -66,7 +67,7 @@ class Place(NamedTuple):
 class Edit(NamedTuple):
     """A mutant that replaces texts in one file, each with another."""
 
-    mutant: Path
+    mutant: Mutant
     file: str
     pairs: tuple[tuple[str, str], ...]
 
@@ -79,10 +80,9 @@ class Edit(NamedTuple):
         return text
 
 
-def read_edit(mutant: Path, crate: Path) -> Edit | None:
+def read_edit(mutant: Mutant, crate: Path) -> Edit | None:
     """Returns a mutant that edits one file, if it can be applied to the crate."""
-    text = mutant.read_text()
-    found = re.fullmatch(r"file: (src/\S+)\n((?:old: .+\nnew:.*\n+)+)", text.rstrip("\n") + "\n")
+    found = re.fullmatch(r"file: (src/\S+)\n((?:old: .+\nnew:.*\n+)+)", mutant.text)
     if not found or not (crate / found[1]).is_file():
         return None
     pairs = re.findall(r"old: (.+)\nnew: ?(.*)", found[2])
@@ -200,7 +200,9 @@ def lanes() -> int:
     return max(1, min(len(os.sched_getaffinity(0)), int(found[1]) // MEMORY if found else 1))
 
 
-def try_together(clone: Path, crate: str, mutants: list[Path], left: Callable[[], float | None], note: Callable[[Path], None]) -> None:
+def try_together(
+    clone: Path, crate: str, mutants: list[Mutant], left: Callable[[], float | None], note: Callable[[Mutant], None]
+) -> None:
     """Calls `note` with each mutant that a check refuses. `rt must-fail` has to judge the others."""
     folder, rattle = clone / "crates" / crate, find_rt().with_name("rattle")
     edits = [edit for mutant in mutants for edit in [read_edit(mutant, folder)] if edit]
