@@ -2,9 +2,10 @@
 
 A function is proved from its own body and from the contracts of what it calls. So edits in the bodies of different functions
 don't affect each other's proofs, and a check reports each function separately. There is one exception: while a function isn't
-proved, those that call it aren't judged. Their mutants remain undecided, and a later check tries them without it.
+proved, those that call it aren't judged. Each mutant that remains undecided gets a check of its own.
 
-A mutant that edits anything but a body, or two places, gets a check of its own. All checks start from one proof of the crate.
+So does a mutant that edits anything but a body, or two places, and so do mutants that would fit into a single check, since their
+checks run side by side. All checks start from one proof of the crate.
 """
 from __future__ import annotations
 
@@ -211,20 +212,19 @@ def try_together(
     proved = run_for(["rt", "check"], folder, left())
     if not proved or proved.returncode:
         return
-    words, size = rattle_words("check", crate, "src/lib.rt", read_libraries(), clone), TOGETHER
-    waiting = {edit: place_of(edit, folder) for edit in edits}
+    words = rattle_words("check", crate, "src/lib.rt", read_libraries(), clone)
+    places = {edit: place_of(edit, folder) for edit in edits}
 
     def try_batch(batch: list[Edit]) -> list[Edit]:
         ran = check_batch(folder, batch, words, left())
-        refused = refused_in(batch, ran, crate, waiting) if ran else []
+        refused = refused_in(batch, ran, crate, places) if ran else []
         for edit in refused:
             note(edit.mutant)
         return refused
 
-    while waiting:
+    waiting = places
+    for size in (TOGETHER, 1) if len(edits) > TOGETHER else (1,):
         batches = deal(waiting, size)
         with ThreadPoolExecutor(lanes()) as pool:
-            refused = [it for found in pool.map(try_batch, batches) for it in found]
-        done = {*refused, *(batch[0] for batch in batches if len(batch) == 1)}
-        waiting = {edit: place for edit, place in waiting.items() if edit not in done}
-        size = size if done else 1
+            refused = {it for found in pool.map(try_batch, batches) for it in found}
+        waiting = {edit: places[edit] for batch in batches if len(batch) > 1 for edit in batch if edit not in refused}
