@@ -1,6 +1,6 @@
 #!/usr/bin/env python3
-"""Tests tools/check-names on a small repository: a recipe's step that names a function which is gone, or which is in another file,
-and steps that are right.
+"""Tests tools/check-names on a small repository: a recipe's step that names a function which is gone, or which is in another file;
+mutants that don't find what they replace, or whose name another has; and steps and mutants that are right.
 
 usage: tests/names.py
 
@@ -28,11 +28,25 @@ STEPS = """# be_low
       src/texts.rt, `third`
 - [ ] rust/low/src/text.rs (`fourth`)
 """
-# What replaces what in the steps, and the name that is then reported.
+MUTANTS = """mutant: first_is_gone
+file: src/calls.rt
+old: fn first() {}
+new:
+
+mutant: second_is_first
+file: src/calls.rt
+old: fn second
+new: fn first
+"""
+RIGHT = {"crates/be_low/README.md": STEPS, "mutants/be_low.edits": MUTANTS}
+# What replaces what in the steps or the mutants, and what is then reported.
 PLANTED = [
     ("(`fourth`)", "(`fourth`, `fifth`)", "fifth"),
     ("(`fourth`)", "(`second`)", "second"),
     ("src/calls.rt, `first`; in be_high's\n", "src/calls.rt, `first`, `fourth`; in be_high's\n", "fourth"),
+    ("old: fn second", "old: fn third", "second_is_first.edit: not once in its file: fn third"),
+    ("mutant: second_is_first\n", "second_is_first\n", "first_is_gone.edit: this line is skipped"),
+    ("mutant: second_is_first\n", "mutant: first_is_gone\n", "no two may have the same name"),
 ]
 
 
@@ -44,30 +58,30 @@ def run(folder: Path) -> subprocess.CompletedProcess[str]:
 
 def check(folder: Path) -> str:
     """Returns what is wrong with the tool's answers, or nothing."""
-    document = folder / "crates/be_low/README.md"
-    document.write_text(STEPS)
-    if (first := run(folder)).returncode != 0:
-        return f"steps that are right are refused: {first.stderr}"
-    for old, new, name in PLANTED:
-        document.write_text(STEPS.replace(old, new))
-        again = run(folder)
-        if again.returncode == 0 or name not in again.stderr:
-            return f"{name} isn't reported: {again.stdout}{again.stderr}"
+    for old, new, name in [("", "", ""), *PLANTED]:
+        for path, text in RIGHT.items():
+            (folder / path).write_text(text.replace(old, new))
+        ran = run(folder)
+        if not name and ran.returncode:
+            return f"what is right is refused: {ran.stderr}"
+        if name and (ran.returncode == 0 or name not in ran.stderr):
+            return f"{name} isn't reported: {ran.stdout}{ran.stderr}"
     return ""
 
 
 def main() -> None:
     with tempfile.TemporaryDirectory() as room:
         folder = Path(room)
-        for path, text in {**SOURCES, "README.md": "", "rust/README.md": "", "docs/A.md": ""}.items():
+        for path, text in {**SOURCES, **RIGHT, "README.md": "", "rust/README.md": "", "docs/A.md": ""}.items():
             (folder / path).parent.mkdir(parents=True, exist_ok=True)
             (folder / path).write_text(text)
         (folder / "tools").mkdir()
-        shutil.copy(TOP / "tools/check-names", folder / "tools")
+        for name in "check-names", "mutants.py":
+            shutil.copy(TOP / "tools" / name, folder / "tools")
         subprocess.run(["git", "init", "-q"], cwd=folder, check=True)
         if wrong := check(folder):
             sys.exit(wrong)
-    print(f"names in recipes: {len(PLANTED) + 1} passed, 0 failed")
+    print(f"names in recipes and mutants: {len(PLANTED) + 1} passed, 0 failed")
 
 
 if __name__ == "__main__":

@@ -30,7 +30,7 @@ REFUSED = {
     "low/proofs/Ledgers.antt": ("pub a : b\n", ["0 Ledgers"]),
     "low/proofs/calls/tell_all/Answers.antt": ("pub a : b\n", ["0 tell_all"]),
     "low/must-fail/first.edit": ("file: src/calls.rt\nold: told(\"told\")\nnew: standing()\n", ["2 told", "3 standing"]),
-    "mutants/low/tells_nothing.edit": ("file: src/calls.rt\nold: 1\nnew: spelt\n", ["0 tells_nothing", "3 spelt"]),
+    "mutants/low.edits": ("mutant: tells_nothing\nfile: src/calls.rt\nold: \"1\nnew: \"told\" + spelt\n", ["1 tells_nothing", "4 spelt"]),
 }
 PASSED = {
     "low/src/others.rt": "fn understands_household(retold: u8, withstand: u8, bestowed: u8) {}\n",
@@ -38,7 +38,7 @@ PASSED = {
     "low/proofs/Kept.antt": "pub in_ok-dones : length-least\n",
     "low/README.md": "What `told` told.\n",
     "bestore_c/src/usage.rt": "let holder = 1;\n",
-    "mutants/bestore_c/usage.edit": "file: src/usage.rt\nold: holder = 1\nnew: holder = 2\n",
+    "mutants/bestore_c.edits": "mutant: usage\nfile: src/usage.rt\nold: holder = 1\nnew: holder = 2\n",
 }
 
 

@@ -2,9 +2,10 @@
 
 A function is proved from its own body and from the contracts of what it calls. So edits in the bodies of different functions
 don't affect each other's proofs, and a check reports each function separately. There is one exception: while a function isn't
-proved, those that call it aren't judged. Their mutants remain undecided, and a later check tries them without it.
+proved, those that call it aren't judged. Each mutant that remains undecided gets a check of its own.
 
-A mutant that edits anything but a body, or two places, gets a check of its own. All checks start from one proof of the crate.
+So does a mutant that edits anything but a body, or two places, and so do mutants that would fit into a single check, since their
+checks run side by side. All checks start from one proof of the crate.
 """
 from __future__ import annotations
 
@@ -18,6 +19,7 @@ from concurrent.futures import ThreadPoolExecutor
 from pathlib import Path
 from typing import Callable, NamedTuple
 
+from mutants import Mutant
 from proved import find_rt, rattle_words, read_libraries
 
 # How many mutants a check tries, and how many KiB of memory it may take.
@@ -66,7 +68,7 @@ class Place(NamedTuple):
 class Edit(NamedTuple):
     """A mutant that replaces texts in one file, each with another."""
 
-    mutant: Path
+    mutant: Mutant
     file: str
     pairs: tuple[tuple[str, str], ...]
 
@@ -79,10 +81,9 @@ class Edit(NamedTuple):
         return text
 
 
-def read_edit(mutant: Path, crate: Path) -> Edit | None:
+def read_edit(mutant: Mutant, crate: Path) -> Edit | None:
     """Returns a mutant that edits one file, if it can be applied to the crate."""
-    text = mutant.read_text()
-    found = re.fullmatch(r"file: (src/\S+)\n((?:old: .+\nnew:.*\n+)+)", text.rstrip("\n") + "\n")
+    found = re.fullmatch(r"file: (src/\S+)\n((?:old: .+\nnew:.*\n+)+)", mutant.text)
     if not found or not (crate / found[1]).is_file():
         return None
     pairs = re.findall(r"old: (.+)\nnew: ?(.*)", found[2])
@@ -200,7 +201,9 @@ def lanes() -> int:
     return max(1, min(len(os.sched_getaffinity(0)), int(found[1]) // MEMORY if found else 1))
 
 
-def try_together(clone: Path, crate: str, mutants: list[Path], left: Callable[[], float | None], note: Callable[[Path], None]) -> None:
+def try_together(
+    clone: Path, crate: str, mutants: list[Mutant], left: Callable[[], float | None], note: Callable[[Mutant], None]
+) -> None:
     """Calls `note` with each mutant that a check refuses. `rt must-fail` has to judge the others."""
     folder, rattle = clone / "crates" / crate, find_rt().with_name("rattle")
     edits = [edit for mutant in mutants for edit in [read_edit(mutant, folder)] if edit]
@@ -209,20 +212,19 @@ def try_together(clone: Path, crate: str, mutants: list[Path], left: Callable[[]
     proved = run_for(["rt", "check"], folder, left())
     if not proved or proved.returncode:
         return
-    words, size = rattle_words("check", crate, "src/lib.rt", read_libraries(), clone), TOGETHER
-    waiting = {edit: place_of(edit, folder) for edit in edits}
+    words = rattle_words("check", crate, "src/lib.rt", read_libraries(), clone)
+    places = {edit: place_of(edit, folder) for edit in edits}
 
     def try_batch(batch: list[Edit]) -> list[Edit]:
         ran = check_batch(folder, batch, words, left())
-        refused = refused_in(batch, ran, crate, waiting) if ran else []
+        refused = refused_in(batch, ran, crate, places) if ran else []
         for edit in refused:
             note(edit.mutant)
         return refused
 
-    while waiting:
+    waiting = places
+    for size in (TOGETHER, 1) if len(edits) > TOGETHER else (1,):
         batches = deal(waiting, size)
         with ThreadPoolExecutor(lanes()) as pool:
-            refused = [it for found in pool.map(try_batch, batches) for it in found]
-        done = {*refused, *(batch[0] for batch in batches if len(batch) == 1)}
-        waiting = {edit: place for edit, place in waiting.items() if edit not in done}
-        size = size if done else 1
+            refused = {it for found in pool.map(try_batch, batches) for it in found}
+        waiting = {edit: places[edit] for batch in batches if len(batch) > 1 for edit in batch if edit not in refused}

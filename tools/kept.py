@@ -9,7 +9,7 @@ import os
 import shutil
 import tempfile
 from pathlib import Path
-from typing import Callable, Iterable
+from typing import Callable, Iterable, Protocol
 
 
 # How many files `keep_file` keeps of a kind.
@@ -22,7 +22,16 @@ def folder() -> Path:
     return Path(os.environ.get("BESTORE_KEPT") or cache / "bestore")
 
 
-def checksum(files: Iterable[Path], words: Iterable[str] = (), read: Callable[[Path], bytes] = Path.read_bytes) -> str:
+class Named(Protocol):
+    """A file, or a part of one."""
+
+    @property
+    def name(self) -> str: ...
+
+    def read_bytes(self) -> bytes: ...
+
+
+def checksum(files: Iterable[Named], words: Iterable[str] = (), read: Callable[[Named], bytes] = lambda it: it.read_bytes()) -> str:
     """Returns the checksum of what `read` returns for these files, of their names, and of these words."""
     whole = hashlib.sha256()
     for word in words:
