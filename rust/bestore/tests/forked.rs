@@ -86,7 +86,7 @@ fn locks_of_other_threads() {
         let child = |_| {
             in_a_child(|| {
                 // SAFETY: the call takes a number. Its signal ends a child that waits.
-                unsafe { libc::alarm(20) };
+                unsafe { libc::alarm(120) };
                 let are_dead = !store.is_read_before() && is_dead(snapshot.remove_index("b"));
                 if are_dead && is_dead(store.carry_on()) {
                     // Ends without a report of leaks: the child has lost what the other threads of the parent had.
@@ -118,7 +118,7 @@ fn lock_of_a_kept_store() {
         let child = |_| {
             in_a_child(|| {
                 // SAFETY: the call takes a number. Its signal ends a child that waits.
-                unsafe { libc::alarm(20) };
+                unsafe { libc::alarm(120) };
                 if saved.failure().is_none() {
                     // Ends without a report of leaks: the child has lost what the other threads of the parent had.
                     let _ = Command::new("true").exec();

@@ -3,7 +3,7 @@
 mod common;
 
 use bestore::{Batch, Error, Keeper, MakeWrite, Pass, Result, Retry, Written};
-use common::{sized, store};
+use common::{sized, store, PATIENT};
 use std::process::{Child, Command, Stdio};
 use std::sync::{Arc, Mutex};
 use std::time::{Duration, Instant};
@@ -17,9 +17,7 @@ const SPARE: Duration = Duration::from_secs(5);
 const RETRY: Retry = Retry {
     within: WITHIN,
     change_within: WITHIN,
-    busy: u32::MAX,
-    full: u32::MAX,
-    conflict: u32::MAX,
+    ..PATIENT
 };
 
 /// Processes that compute until this is dropped.

@@ -3,7 +3,7 @@
 mod common;
 
 use bestore::{Batch, Error, Keeper, Kind, Limits, MakeWrite, Oldest, Pass, Retry, Status, Store, Value, Written};
-use common::{sized, store, ten};
+use common::{patient, sized, store, ten};
 use std::sync::atomic::{AtomicBool, Ordering};
 use std::sync::{mpsc, Arc, Mutex};
 use std::thread;
@@ -168,7 +168,7 @@ fn no_change_is_lost_between_two_threads() {
     let mut pass = store.pass().unwrap();
     let node = pass.new_node().unwrap();
     let add = || {
-        let mut pass = store.pass().unwrap();
+        let mut pass = patient(&store);
         for _ in 0..500 {
             pass.change(|change| {
                 let value = change.snapshot().get(node, "count")?;
@@ -190,7 +190,7 @@ fn no_change_is_lost_between_two_threads() {
 fn nodes_that_two_threads_make_have_their_own_attributes() {
     let store = store();
     let file = |owner: &'static str| {
-        let mut pass = store.pass().unwrap();
+        let mut pass = patient(&store);
         for _ in 0..200 {
             pass.change(|change| {
                 let node = change.new_node();
@@ -265,7 +265,7 @@ fn a_full_store_says_what_keeps_its_pages() {
 #[test]
 fn a_change_on_a_snapshot_that_is_held_runs_again_while_another_pass_has_the_lock() {
     let store = store();
-    let mut pass = store.pass().unwrap();
+    let mut pass = patient(&store);
     let node = pass.new_node().unwrap();
     for count in 0..3_000_i64 {
         pass.set(node, "count", count).unwrap();
@@ -273,7 +273,7 @@ fn a_change_on_a_snapshot_that_is_held_runs_again_while_another_pass_has_the_loc
     let is_over = AtomicBool::new(false);
     thread::scope(|scope| {
         scope.spawn(|| {
-            let reading = store.pass().unwrap();
+            let reading = patient(&store);
             while !is_over.load(Ordering::Relaxed) {
                 reading.journal().unwrap();
             }
@@ -303,7 +303,7 @@ fn a_change_on_a_snapshot_that_is_held_runs_again_while_another_pass_has_the_loc
 #[test]
 fn a_write_waits_for_another_pass_to_unpin() {
     let store = sized(16);
-    let mut writer = store.pass().unwrap();
+    let mut writer = patient(&store);
     let node = writer.new_node().unwrap();
     let (pinned, wait) = mpsc::channel();
     thread::scope(|scope| {
@@ -318,11 +318,6 @@ fn a_write_waits_for_another_pass_to_unpin() {
         for _ in 0..100 {
             writer.set(node, "a", "x".repeat(255)).unwrap();
         }
-    });
-    writer.set_retry(Retry {
-        within: Duration::from_secs(60),
-        full: u32::MAX,
-        ..Retry::default()
     });
     let own = writer.pin().unwrap();
     let started = std::time::Instant::now();
@@ -436,7 +431,7 @@ fn the_last_clone_closes_its_store() {
 #[test]
 fn a_witness_is_joined_in_another_thread() {
     let store = store();
-    let (first, mut second) = (store.pass().unwrap(), store.pass().unwrap());
+    let (first, mut second) = (patient(&store), patient(&store));
     let (send, receive) = mpsc::channel();
     let writer = thread::spawn(move || {
         for _ in 0..100 {

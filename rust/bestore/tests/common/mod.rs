@@ -3,11 +3,19 @@
 
 #[cfg(feature = "saved")]
 use bestore::saved::{Options, Saved};
-use bestore::{Kind, Limits, Pass, ShelfPass, Store};
+use bestore::{Kind, Limits, Pass, Retry, ShelfPass, Store};
 use std::fs;
 use std::path::{Path, PathBuf};
-#[cfg(feature = "saved")]
 use std::time::Duration;
+
+/// For a busy machine and for valgrind, where another thread may be in the middle of a call for longer than a pass usually waits.
+pub const PATIENT: Retry = Retry {
+    within: Duration::from_secs(60),
+    change_within: Duration::from_secs(60),
+    busy: u32::MAX,
+    full: u32::MAX,
+    conflict: u32::MAX,
+};
 
 /// A test's folder, which is removed when the test ends.
 pub struct Folder(pub PathBuf);
@@ -75,6 +83,13 @@ pub fn sized(pages: u64) -> Store {
         ..Limits::default()
     };
     Store::open(limits).unwrap()
+}
+
+/// A pass of a store whose other passes are in other threads.
+pub fn patient(store: &Store) -> Pass {
+    let mut pass = store.pass().unwrap();
+    pass.set_retry(PATIENT);
+    pass
 }
 
 /// A small store with this many passes.
