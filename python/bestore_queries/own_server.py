@@ -4,18 +4,23 @@ from __future__ import annotations
 
 import ctypes
 import os
+import re
 import shutil
 import signal
 import subprocess
 import tempfile
 import time
-from typing import Callable
+from typing import Callable, Optional
 
 import bestore
 from bestore.connected import SocketPath
 
 PATIENCE = 10.0
-"""The number of seconds that a server may take to start listening."""
+"""The number of seconds that a server may take to stop, and to start listening if its file is small."""
+PATIENCE_PER_BYTE = 5e-6
+"""The number of seconds that it may take longer for each byte of its file."""
+PAGES = 16_384
+"""The number of pages in the store, unless its file needs more."""
 REPLYING = 1.0
 """The number of seconds that a server that listens may take to reply before the window opens without its reply."""
 
@@ -23,7 +28,11 @@ _PR_SET_PDEATHSIG = 1  # from <linux/prctl.h>
 
 
 class CannotStart(Exception):
-    """No server is running, and none can be started."""
+    """No server is running, and none can be started. `pages` is how many pages its store needs, if it has too few."""
+
+    def __init__(self, why: str, pages: Optional[int] = None) -> None:
+        super().__init__(why)
+        self.pages = pages
 
 
 def kept_path() -> str:
@@ -60,28 +69,40 @@ class OwnServer:
         program = shutil.which("bestored")
         if program is None:
             raise CannotStart(f"no server listens at {path}, and the program bestored isn't installed")
-        kept = kept_path()
-        os.makedirs(os.path.dirname(kept), exist_ok=True)
+        self._path, self._kept = path, kept_path()
+        os.makedirs(os.path.dirname(self._kept), exist_ok=True)
+        try:
+            self._start(program, PAGES)
+        except CannotStart as error:
+            # A server with more pages has written the file.
+            if error.pages is None:
+                raise
+            self._start(program, error.pages)
+
+    def _start(self, program: str, pages: int) -> None:
         self._said = tempfile.TemporaryFile()
-        words = [program, "--socket", path.path, "--keep", kept, "--pages", "16384"]
+        words = [program, "--socket", self._path.path, "--keep", self._kept, "--pages", str(pages)]
         self._process = subprocess.Popen(
             words, stdin=subprocess.DEVNULL, stdout=subprocess.DEVNULL, stderr=self._said, start_new_session=True,
             preexec_fn=_ended_with_this_process())
         try:
-            self._await(path)
+            self._await()
         except BaseException:
             self.close()
             raise
 
-    def _await(self, path: SocketPath) -> None:
-        end = time.monotonic() + PATIENCE
-        while not listens(path):
+    def _await(self) -> None:
+        size = os.path.getsize(self._kept) if os.path.exists(self._kept) else 0
+        patience = PATIENCE + size * PATIENCE_PER_BYTE
+        end = time.monotonic() + patience
+        while not listens(self._path):
             if self._process.poll() is not None:
                 self._said.seek(0)
                 said = self._said.read().decode(errors="replace").strip()
-                raise CannotStart(f"bestored ended at once: {said or self._process.returncode}")
+                needed = re.search(r"can be opened with (\d+) pages", said)
+                raise CannotStart(f"bestored ended at once: {said or self._process.returncode}", int(needed[1]) if needed else None)
             if time.monotonic() > end:
-                raise CannotStart(f"bestored still isn't listening at {path} after {PATIENCE:g} seconds")
+                raise CannotStart(f"bestored still isn't listening at {self._path} after {patience:.0f} seconds")
             time.sleep(0.02)
 
     def close(self) -> None:

@@ -16,12 +16,13 @@ from typing import Dict, List, Tuple
 from unittest import mock
 
 import bestore
+from bestore import saved
 from bestore.connected import SocketPath
 from bestore.pages import Order
+from bestore_queries import own_server
 from bestore_queries.columns import type_in_words
 from bestore_queries.find import Relation
 from bestore_queries.folder import INDICES
-from bestore_queries.own_server import listens
 from bestore_queries.saved_queries import Saved, SavedQueries
 from bestore_queries.sources import Condition, FolderSource, LiveAnswer, ServerSource, _FolderSession
 
@@ -706,7 +707,7 @@ class OverServer(OnDisplay):
         window.ask("size>=0")
         self.becomes(window, lambda: str(window.notice["text"]) == "")
 
-    def own_server(self) -> Tuple[str, Dict[str, str]]:
+    def start_own(self) -> Tuple[str, Dict[str, str]]:
         """Returns the path of a socket, and the variables with which a window starts its own server there."""
         folder = tempfile.mkdtemp(prefix="own-", dir=servers.MEMORY)
         self.addCleanup(shutil.rmtree, folder, ignore_errors=True)  # a server that is ending may still remove files
@@ -718,7 +719,7 @@ class OverServer(OnDisplay):
 
     def test_own_server(self) -> None:
         """If no server is listening, the window starts one that saves its store, and stops it later."""
-        socket, changed = self.own_server()
+        socket, changed = self.start_own()
         for kept in (0, 1):
             with mock.patch.dict(os.environ, changed):
                 source = ServerSource()
@@ -731,17 +732,31 @@ class OverServer(OnDisplay):
             with self.assertRaises(bestore.NoServer):
                 bestore.connect(socket)
 
+    def test_own_server_of_a_large_store(self) -> None:
+        """The store may have been written by a server with more pages."""
+        socket, changed = self.start_own()
+        with mock.patch.dict(os.environ, changed):
+            os.makedirs(os.path.dirname(own_server.kept_path()))
+            with saved.open(own_server.kept_path(), 256) as store:
+                while store.status().free > 128:
+                    store.set(store.new_node(), "text", "a" * 255)
+            with mock.patch.object(own_server, "PAGES", 64):
+                source = ServerSource()
+        with bestore.connect(socket) as connected:
+            self.assertGreater(connected.status().pages, 128)
+        source.close()
+
     def test_own_server_of_a_killed_window(self) -> None:
         """A server that the window has started ends with the window's process, whatever ends that."""
         for number in (signal.SIGTERM, signal.SIGKILL):
-            socket, changed = self.own_server()
+            socket, changed = self.start_own()
             window = subprocess.Popen([sys.executable, "-m", "bestore_queries"], stdin=subprocess.DEVNULL, env={**os.environ, **changed})
             try:
-                self.assertTrue(wait_for(lambda: listens(SocketPath.find(socket))))
+                self.assertTrue(wait_for(lambda: own_server.listens(SocketPath.find(socket))))
             finally:
                 window.send_signal(number)
                 window.wait()
-            self.assertTrue(wait_for(lambda: not listens(SocketPath.find(socket))), f"signal {number}")
+            self.assertTrue(wait_for(lambda: not own_server.listens(SocketPath.find(socket))), f"signal {number}")
 
 
 class OverVolumes(OverServer):
