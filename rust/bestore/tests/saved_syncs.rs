@@ -4,10 +4,10 @@
 mod common;
 
 use bestore::saved::{self, Saved};
-use common::Folder;
+use common::{preload, Folder};
 use std::env;
 use std::fs::{self, File};
-use std::path::{Path, PathBuf};
+use std::path::Path;
 use std::process::Command;
 
 /// A library to preload. For each call that waits until a file's data is on the disk, it adds a byte to a file.
@@ -36,24 +36,6 @@ const CHILD: &str = "BESTORE_TEST_CHILD";
 
 /// How many writes a commit saves.
 const WRITES: [u64; 5] = [1, 2, 64, 65, 100];
-
-/// Compiles the library. Returns `None`, and prints why, if there is no compiler.
-fn library(folder: &Folder) -> Option<PathBuf> {
-    let [source, library] = ["syncs.c", "syncs.so"].map(|name| folder.0.join(name));
-    fs::write(&source, LIBRARY).unwrap();
-    let mut compiler = Command::new("cc");
-    compiler.args(["-shared", "-fPIC", "-o"]).args([&library, &source]);
-    match compiler.status() {
-        Ok(status) => {
-            assert!(status.success());
-            Some(library)
-        }
-        Err(_) => {
-            println!("syncs of a kept store: skipped, there is no cc");
-            None
-        }
-    }
-}
 
 /// Runs the call, and returns how often it has waited for the disk.
 fn counted(call: impl FnOnce()) -> u64 {
@@ -108,7 +90,7 @@ fn each_flush_waits(folder: &Folder) {
 #[test]
 fn each_commit_waits_for_the_disk() {
     let folder = Folder::new("syncs");
-    let library = match library(&folder) {
+    let library = match preload::compile(&folder.0, LIBRARY, "syncs of a kept store") {
         Some(library) => library,
         None => return,
     };

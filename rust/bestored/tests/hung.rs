@@ -1,11 +1,12 @@
 //! Tests a server whose disk hangs. A preloaded library makes `fsync` and `fdatasync` wait for as long as a file exists.
 
+#[path = "../../bestore/tests/common/preload.rs"]
+mod preload;
+
 use crate::common::{command, wait_until, Folder, Server, Talk};
 use bestore::Batch;
 use std::fs;
 use std::os::unix::net::UnixDatagram;
-use std::path::PathBuf;
-use std::process::Command;
 use std::time::{Duration, Instant};
 
 const LIBRARY: &str = r#"
@@ -36,24 +37,6 @@ int fdatasync(int file)
 }
 "#;
 
-/// Compiles the library. Returns `None`, and prints why, if there is no compiler.
-fn library(folder: &Folder) -> Option<PathBuf> {
-    let [source, library] = ["hang.c", "hang.so"].map(|name| folder.join(name));
-    fs::write(&source, LIBRARY).unwrap();
-    let mut compiler = Command::new("cc");
-    compiler.args(["-shared", "-fPIC", "-o"]).args([&library, &source]);
-    match compiler.status() {
-        Ok(status) => {
-            assert!(status.success());
-            Some(library)
-        }
-        Err(_) => {
-            println!("a disk that hangs: skipped, there is no cc");
-            None
-        }
-    }
-}
-
 /// A server whose disk can hang, and the socket of its service manager.
 struct Hanging {
     folder: Folder,
@@ -72,7 +55,7 @@ impl Hanging {
 
     /// Starts the server, without waiting for it.
     fn start_only(folder: Folder) -> Option<Self> {
-        let library = library(&folder)?;
+        let library = preload::compile(folder.path(), LIBRARY, "a disk that hangs")?;
         let manager = UnixDatagram::bind(folder.join("notify")).unwrap();
         manager.set_read_timeout(Some(Duration::from_millis(500))).unwrap();
         let [socket, kept] = ["socket", "kept"].map(|name| folder.join(name));

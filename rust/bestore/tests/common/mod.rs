@@ -2,6 +2,9 @@
 #![allow(dead_code)]
 
 #[cfg(feature = "saved")]
+pub mod preload;
+
+#[cfg(feature = "saved")]
 use bestore::saved::{Options, Saved};
 use bestore::{Kind, Limits, Pass, Retry, ShelfPass, Store};
 use std::fs;
