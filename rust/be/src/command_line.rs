@@ -47,7 +47,7 @@ pub struct ServerOptions {
     /// Wait up to this long for a server that is starting
     #[arg(long, value_name = "SECONDS", global = true, value_parser = seconds)]
     pub wait: Option<Duration>,
-    /// How long to wait for each reply from the server; 60 by default
+    /// How long to wait for each reply from the server; 60 by default, and 3,600 for backup and dump
     #[arg(long, value_name = "SECONDS", global = true, value_parser = seconds)]
     pub timeout: Option<Duration>,
 }

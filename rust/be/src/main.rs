@@ -65,8 +65,8 @@ fn run(command: Command, server: &ServerOptions, output: &mut Output) -> Result<
         Command::Info(line) => activity::info(&mut visit()?, &line, output),
         Command::Clients(line) => activity::clients(server, &line, output),
         Command::Kick(line) => activity::kick(server, &line),
-        Command::Backup(line) => backup::make(&mut server::connect(server)?, &line, output),
-        Command::Dump => backup::dump(&mut server::connect(server)?, output),
+        Command::Backup(line) => backup::make(&mut server::connect_to_copy(server)?, &line, output),
+        Command::Dump => backup::dump(&mut server::connect_to_copy(server)?, output),
         Command::Restore(line) => restore::restore(&mut server::connect(server)?, &line, output),
         Command::Status(line) => status::show(&mut visit()?, &line, output),
     }

@@ -8,6 +8,7 @@ use bestore_client::{Client, Error, ErrorName, Options, SocketPath};
 use bestore_types::Batch;
 use std::borrow::Cow;
 use std::collections::BTreeMap;
+use std::time::Duration;
 
 /// How many times to retry a write while another client is writing.
 const TRIES: u32 = 100;
@@ -21,11 +22,28 @@ const NODES: usize = 4_096;
 /// How many snapshots to try for a read before giving up.
 const SNAPSHOTS: u32 = 5;
 
+/// How long to wait for each reply, by default, if the server copies its whole store before it replies. On a busy machine, that takes
+/// minutes for millions of files.
+const COPYING: Duration = Duration::from_secs(3600);
+
 /// Connects to the server at the socket given by the option or, without the option, by the environment.
 pub fn connect(line: &ServerOptions) -> Result<Client, Failure> {
     let mut client = open(line)?;
     client.hello()?;
     Ok(client)
+}
+
+/// Connects like [`connect`], but for a command for which the server copies its store.
+pub fn connect_to_copy(line: &ServerOptions) -> Result<Client, Failure> {
+    connect(&for_copy(line))
+}
+
+/// Returns the options, with more time for a reply unless they say how much.
+fn for_copy(line: &ServerOptions) -> ServerOptions {
+    ServerOptions {
+        timeout: line.timeout.or(Some(COPYING)),
+        ..line.clone()
+    }
 }
 
 /// Connects like [`connect`], but for a command that sends a few requests and exits. The server serves it for a moment even when it is
@@ -100,7 +118,7 @@ pub fn apply(client: &mut Client, batch: &Batch) -> Result<(), Error> {
             Err(error) if error.is(ErrorName::Busy) && left > 0 => left -= 1,
             answer => return answer.map(drop),
         }
-        std::thread::sleep(std::time::Duration::from_millis(2));
+        std::thread::sleep(Duration::from_millis(2));
     }
 }
 
@@ -163,5 +181,22 @@ pub fn pinned<T>(client: &mut Client, read: impl Fn(&mut Client) -> Result<T, Fa
                 return Ok(answer);
             }
         }
+    }
+}
+
+#[cfg(test)]
+mod tests {
+    use super::*;
+
+    #[test]
+    fn a_copy_takes_its_time_unless_the_command_line_says_how_much() {
+        let mut line = ServerOptions {
+            socket: None,
+            wait: None,
+            timeout: None,
+        };
+        assert_eq!(for_copy(&line).timeout, Some(COPYING));
+        line.timeout = Some(Duration::from_secs(5));
+        assert_eq!(for_copy(&line).timeout, line.timeout);
     }
 }
