@@ -38,7 +38,7 @@ class Import(NamedTuple):
     """What is imported, how many there are, how many pages the FAQ advises for each, and what makes them in a folder."""
 
     what: str
-    count: int
+    number: int
     pages: int
     make: Callable[[Path, int, random.Random], None]
 
@@ -128,9 +128,9 @@ def check(server: Server, files: int) -> None:
 
 def measure(it: Import, programs: Path) -> None:
     with tempfile.TemporaryDirectory(prefix="imports-") as work:
-        folder, keep, pages = Path(work) / "files", Path(work) / "store.bestore", it.pages * it.count + 1024
+        folder, keep, pages = Path(work) / "files", Path(work) / "store.bestore", it.pages * it.number + 1024
         folder.mkdir()
-        it.make(folder, it.count, random.Random(1))
+        it.make(folder, it.number, random.Random(1))
         files = sum(1 for _ in made(folder))
         print(f"{it.what}: {files:,} with their folders, {pages:,} pages; load {os.getloadavg()[0]:.0f}", flush=True)
         begun = processor_time()
@@ -159,7 +159,7 @@ def main() -> None:
     check_programs(given.programs)
     for it in (Import("photos", given.photos, 2, make_photos), Import("letters", given.letters, 3, make_letters),
                Import("files", given.files, 2, make_files)):
-        if it.count > 0:
+        if it.number > 0:
             measure(it, given.programs)
 
 

@@ -29,7 +29,7 @@ class Server:
     def __init__(self, programs: Path, keep: Path, pages: int, *options: str) -> None:
         self.socket = keep.with_suffix(".socket")
         self._be = programs / "be"
-        words = [programs / "bestored", "--socket", self.socket, "--keep", keep, "--pages", str(pages), *options]
+        words: List[str | Path] = [programs / "bestored", "--socket", self.socket, "--keep", keep, "--pages", str(pages), *options]
         self.process = subprocess.Popen(words, stderr=subprocess.PIPE, text=True)
         self.running.append(self)
         while not self.socket.exists():

@@ -133,6 +133,17 @@ else
         exit 1
     fi
     echo "Python, over the server: ok, $(sed -n 's/^Ran \([0-9]* tests\) in .*/\1/p' "$work/said")"
+    # Small runs of the programs that measure large stores, which compare all answers after a backup, a restore and an import.
+    for words in "million.py --files 20000 --stores bestore sqlite3" "imports.py --photos 100 --letters 500 --files 1000"; do
+        # shellcheck disable=SC2086 # the words are separate
+        if ! timeout -k 10 600 env BESTORE_LIBRARY="$BESTORE_LIB_DIR/libbestore.so" PYTHONPATH=../python PYTHONDONTWRITEBYTECODE=1 \
+            python3 -W error ../bench/$words --programs "$CARGO_TARGET_DIR/debug" >"$work/said" 2>&1; then
+            cat "$work/said" >&2
+            echo "bench/${words%% *}: failed, or not at its end after 600 seconds" >&2
+            exit 1
+        fi
+        echo "bench/${words%% *}: ok"
+    done
     if ! command -v Xvfb >/dev/null || ! python3 -c 'import tkinter' 2>/dev/null; then
         echo "the query window, over the server: skipped, there is no Xvfb or python3 has no Tk"
     elif ! (cd ../python && timeout -k 10 1500 env BESTORE_LIBRARY="$BESTORE_LIB_DIR/libbestore.so" PYTHONDONTWRITEBYTECODE=1 \
