@@ -107,8 +107,8 @@ class Refused(Files):
         for change, entry, batch, reason in [
             (made, 3, None, "different nodes"), ("DELETE FROM entry WHERE number = 2", 2, None, "missing"),
             ("UPDATE entry SET batch = substr(batch, 1, 9) WHERE number = 4", 4, None, "cut off"),
-            ("UPDATE entry SET batch = 'text' WHERE number = 4", 4, None, "don't begin with BEB"),
-            ("UPDATE entry SET batch = 5 WHERE number = 1", 1, None, "don't begin with BEB"),
+            ("UPDATE entry SET batch = 'text' WHERE number = 4", 4, None, "the beginning is cut off"),
+            ("UPDATE entry SET batch = 5 WHERE number = 1", 1, None, "the beginning is cut off"),
             ("INSERT INTO entry SELECT 5, pass, batch FROM entry WHERE number = 1", 5, None, "there is already an index of this name"),
             ("INSERT INTO state VALUES (0, x'00')", None, 0, "don't begin with BEB"),
             ("UPDATE about SET number = 5 WHERE what = 'next'", None, None, "next node"),
