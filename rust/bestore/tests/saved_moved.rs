@@ -3,12 +3,13 @@
 
 mod common;
 
-use bestore::saved::{self, Error as SavedError, Options};
+use bestore::saved::{self, Error as SavedError, Options, SavedShelf};
 use bestore::{Error, Pass};
 use common::Folder;
 use std::fs;
 use std::os::unix::fs::symlink;
-use std::path::{Path, PathBuf};
+use std::path::Path;
+use std::sync::Arc;
 use std::time::Duration;
 
 fn count(pass: &mut Pass) -> usize {
@@ -125,14 +126,18 @@ fn writes_that_wait_for_a_removed_file_are_not_saved() {
     assert!(saved.failure().is_some());
 }
 
+/// Removes the WAL of a test's store.
+fn remove_wal(folder: &Folder) {
+    fs::remove_file(format!("{}-wal", folder.file().display())).unwrap();
+}
+
 #[test]
 fn a_store_whose_wal_was_removed_stops_and_loses_nothing() {
     let folder = Folder::new("wal");
     let saved = saved::open(folder.file()).unwrap();
     let pass = saved.pass().unwrap();
     pass.new_node().unwrap();
-    let wal: PathBuf = format!("{}-wal", folder.file().display()).into();
-    fs::remove_file(wal).unwrap();
+    remove_wal(&folder);
     let refused = pass.new_node().unwrap_err();
     assert!(
         matches!(&refused, Error::NotSaved(error) if matches!(**error, SavedError::WalMoved { .. })),
@@ -141,4 +146,18 @@ fn a_store_whose_wal_was_removed_stops_and_loses_nothing() {
     assert!(matches!(pass.new_node().unwrap_err(), Error::Stopped(_)));
     assert!(saved.close().is_err());
     assert_eq!(count_in(&folder.file()), 2);
+}
+
+/// When a server ends, its clients' threads may still have the shelf and a pass.
+#[test]
+fn a_shared_shelf_whose_wal_was_removed_loses_nothing_when_it_ends() {
+    let folder = Folder::new("shared");
+    let saved = Arc::new(SavedShelf::of_volumes(vec![saved::open(folder.file()).unwrap()]).unwrap());
+    let (_shared, pass) = (saved.clone(), saved.pass().unwrap());
+    pass.new_node().unwrap();
+    remove_wal(&folder);
+    assert!(matches!(pass.new_node(), Err(Error::NotSaved(_))));
+    assert!(saved.end().is_err());
+    assert_eq!(count_in(&folder.file()), 2);
+    assert!(matches!(pass.new_node(), Err(Error::Stopped(_))));
 }

@@ -131,12 +131,12 @@ impl InFiles {
         }
     }
 
-    /// Waits until no state is being rewritten, then saves all writes.
+    /// Waits until no state is being rewritten, then saves all writes and closes the files, although clients' threads may still have them.
     fn finish(&self) -> saved::Result<()> {
         let compacting = self.compacting.lock().unwrap_or_else(PoisonError::into_inner).take();
         // Even if the thread has panicked, the file still has its entries.
         let _ = compacting.map(JoinHandle::join);
-        self.saved.flush()
+        self.saved.end()
     }
 
     /// Returns the outcome of a call that uses the files, and ends the server if a commit has failed.
@@ -361,7 +361,7 @@ impl Kept {
         }
     }
 
-    /// Saves all writes. The files are closed when the volumes are dropped.
+    /// Saves all writes, and closes the files.
     pub fn finish(&self) -> Result<(), Box<dyn Error>> {
         match self {
             Kept::Memory(_) => Ok(()),

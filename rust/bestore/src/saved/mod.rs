@@ -341,7 +341,11 @@ impl Saved {
     ///
     /// # Errors
     /// The same errors as [`flush`](Self::flush).
-    pub fn close(mut self) -> Result<()> {
+    pub fn close(self) -> Result<()> {
+        self.end()
+    }
+
+    fn end(&self) -> Result<()> {
         self.store.check()?;
         self.queue.close()
     }

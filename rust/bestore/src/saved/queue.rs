@@ -243,8 +243,8 @@ impl Keeper for Shared {
 #[derive(Debug)]
 pub(super) struct Queue {
     shared: Arc<Shared>,
-    saving: Option<JoinHandle<()>>,
-    is_closed: bool,
+    saving: Mutex<Option<JoinHandle<()>>>,
+    is_closed: AtomicBool,
     birthplace: Birthplace,
 }
 
@@ -274,9 +274,9 @@ impl Queue {
             shift: number.wrapping_sub(in_memory) as i64,
         });
         Ok(Self {
-            saving: every.map(|_| Self::start_thread(&shared)).transpose()?,
+            saving: Mutex::new(every.map(|_| Self::start_thread(&shared)).transpose()?),
             shared,
-            is_closed: false,
+            is_closed: AtomicBool::new(false),
             birthplace: Birthplace::here(),
         })
     }
@@ -334,11 +334,11 @@ impl Queue {
     }
 
     /// Saves all waiting writes and ends the thread.
-    pub(super) fn close(&mut self) -> Result<()> {
-        if mem::replace(&mut self.is_closed, true) {
+    pub(super) fn close(&self) -> Result<()> {
+        if self.is_closed.swap(true, Ordering::Relaxed) {
             return Ok(());
         }
-        let saving = self.saving.take();
+        let saving = lock(&self.saving).take();
         if !self.birthplace.is_here() {
             // A forked child doesn't have that thread, and must not close the file, which belongs to the parent.
             mem::forget((saving, self.shared.clone()));

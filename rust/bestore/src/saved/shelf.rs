@@ -147,8 +147,16 @@ impl SavedShelf {
     /// # Errors
     /// The same errors as [`flush`](Self::flush).
     pub fn close(self) -> Result<()> {
+        self.end()
+    }
+
+    /// Does the same as [`close`](Self::close), even if other threads share the shelf.
+    ///
+    /// # Errors
+    /// The same errors as `close`.
+    pub fn end(&self) -> Result<()> {
         let outcome = self.flush();
-        let closed = self.volumes.into_iter().map(Saved::close);
+        let closed = self.volumes.iter().map(Saved::end);
         closed.fold(outcome, Result::and)
     }
 }

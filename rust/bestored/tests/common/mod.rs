@@ -149,7 +149,11 @@ impl Server {
     /// Starts a server in the folder, and waits until it is listening.
     pub fn start(folder: &Folder, options: &[&str]) -> Self {
         let server = Self::start_only(folder, options);
-        wait_until("the server listens", || UnixStream::connect(&server.socket).is_ok());
+        wait_until("the server listens", || {
+            let listens = UnixStream::connect(&server.socket).is_ok();
+            assert!(listens || !server.has_ended(), "the server has ended");
+            listens
+        });
         server
     }
 
