@@ -394,8 +394,9 @@ fn a_missing_index_is_named_with_those_that_there_are() {
     let server = server!(Server::with_three());
     let lines = fault(&server, "name==a || kind==b");
     assert_eq!(
-        lines[1..],
+        lines[..],
         [
+            "be: no index can answer the query; compare a name that has an index, on both sides of each ||",
             "  name==a || kind==b",
             "             ^",
             "  kind has no index",

@@ -52,6 +52,18 @@ fn check(code: u32, carried: u64) -> Answer<()> {
     }
 }
 
+/// Returns an empty list with room for this many items.
+fn with_room<T>(room: usize) -> Answer<Vec<T>> {
+    let mut list = Vec::new();
+    match list.try_reserve_exact(room) {
+        Ok(()) => Ok(list),
+        Err(_) => Err(Refused {
+            code: sys::BES_NO_MEMORY,
+            carried: 0,
+        }),
+    }
+}
+
 /// Returns all items from a function that counts them all but writes only as many as fit. If they don't all fit, calls the function again
 /// with a larger buffer.
 fn whole<T>(mut room: usize, mut call: impl FnMut(*mut T, usize, &mut u64) -> u32) -> Answer<Vec<T>>
@@ -59,7 +71,7 @@ where
     T: Copy,
 {
     loop {
-        let mut list = Vec::with_capacity(room);
+        let mut list = with_room(room)?;
         let mut count = 0;
         let code = call(list.as_mut_ptr(), room, &mut count);
         check(code, count)?;
@@ -92,8 +104,8 @@ fn listed(
     let (mut operations_room, mut bytes_room) = room;
     loop {
         let mut list = List {
-            operations: Vec::with_capacity(operations_room),
-            bytes: Vec::with_capacity(bytes_room),
+            operations: with_room(operations_room)?,
+            bytes: with_room(bytes_room)?,
         };
         let mut counts = bes_counts::default();
         let operations = list.operations.as_mut_ptr();
@@ -158,7 +170,7 @@ fn some(all: u64, most: usize, mut call: impl FnMut(*mut u64, usize, &mut u64) -
     let most = usize::try_from(all).unwrap_or(usize::MAX).max(1).min(most);
     let mut room = most.min(SOME_NODES);
     loop {
-        let mut nodes = Vec::with_capacity(room);
+        let mut nodes = with_room(room)?;
         let mut count = 0;
         let code = call(nodes.as_mut_ptr(), room, &mut count);
         check(code, count)?;
@@ -436,7 +448,7 @@ impl RawPass {
 
     /// Returns up to `room` nodes, starting at a given number.
     pub(crate) fn nodes(&self, from: u64, room: usize) -> Answer<Vec<u64>> {
-        let mut nodes = Vec::with_capacity(room);
+        let mut nodes = with_room(room)?;
         let mut count = 0;
         // SAFETY: see the top of this module; the count is at most the capacity.
         unsafe {
@@ -459,7 +471,9 @@ impl RawPass {
     /// Returns the cells for all nodes and names, node by node, and the bytes that they refer to.
     pub(crate) fn columns(&self, nodes: &[u64], names: &[sys::bes_name]) -> Answer<(Vec<sys::bes_cell>, Vec<u8>)> {
         let pass = self.handle.get()?;
-        let mut cells = vec![sys::bes_cell::default(); nodes.len().saturating_mul(names.len())];
+        let count = nodes.len().saturating_mul(names.len());
+        let mut cells = with_room(count)?;
+        cells.resize(count, sys::bes_cell::default());
         let bytes = whole(32 * cells.len(), |bytes, room, count| {
             // SAFETY: see the top of this module.
             unsafe {
@@ -727,6 +741,25 @@ mod tests {
             rooms_for(more, u64::MAX, 2 * SOME_NODES),
             (2 * SOME_NODES, vec![SOME_NODES, 2 * SOME_NODES])
         );
+    }
+
+    #[test]
+    fn a_list_that_memory_is_too_short_for_is_refused() {
+        let refused = |answer: Answer<Vec<u64>>| answer.unwrap_err().code;
+        let more = |count: &mut u64| {
+            *count = 1 << 60;
+            sys::BES_OK
+        };
+        assert_eq!(refused(whole(1, |_, _, count| more(count))), sys::BES_NO_MEMORY);
+        assert_eq!(
+            refused(whole(usize::MAX, |_, _, count| more(count))),
+            sys::BES_NO_MEMORY
+        );
+        let listed = listed((1, 1), |counts, _, _, _, _| {
+            more(&mut counts.bytes);
+            Ok(())
+        });
+        assert_eq!(listed.err().map(|refused| refused.code), Some(sys::BES_NO_MEMORY));
     }
 
     #[test]

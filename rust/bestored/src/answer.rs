@@ -4,6 +4,7 @@ use crate::clients::Client;
 use crate::copy::{self, Copy};
 use crate::failure::Failure;
 use crate::info;
+use crate::memory;
 use crate::outbox::Outbox;
 use crate::page::{self, commits, rows_of, Reading, Room};
 use crate::query::Queries;
@@ -34,6 +35,9 @@ const FEATURES: [&str; 8] = [
     "text",
     "confirmed",
 ];
+
+/// The maximum length of a reply to a write, in bytes, and of one that says that there is no memory.
+const SHORT: usize = 1 << 12;
 
 /// How many bytes of replies to collect before sending them.
 const COLLECTED: usize = 1 << 16;
@@ -216,16 +220,27 @@ impl<'a> Desk<'a> {
 
     fn add(&mut self, id: Option<u64>, what: &str, body: &impl Serialize) {
         let length = self.out.len();
-        let written = match id {
-            Some(id) => write!(self.out, "{{\"id\":{id},\"{what}\":"),
-            None => write!(self.out, "{{\"id\":null,\"{what}\":"),
-        };
-        let written = written.and_then(|()| Ok(serde_json::to_writer(&mut self.out, body)?));
-        match written {
-            Ok(()) => self.out.extend_from_slice(b"}\n"),
-            // Never happens, since writing to memory can't fail.
-            Err(_) => self.out.truncate(length),
+        if self.write(id, what, body).is_err() {
+            self.out.truncate(length);
+            // There is no memory for the reply. `make_room` has made room for this one.
+            let _ = self.write(id, "error", &Failure::from(Error::OutOfMemory).0);
         }
+    }
+
+    fn write(&mut self, id: Option<u64>, what: &str, body: &impl Serialize) -> io::Result<()> {
+        let mut to = memory::Writer(&mut self.out);
+        match id {
+            Some(id) => write!(to, "{{\"id\":{id},\"{what}\":")?,
+            None => write!(to, "{{\"id\":null,\"{what}\":")?,
+        }
+        serde_json::to_writer(&mut to, body)?;
+        to.write_all(b"}\n")
+    }
+
+    /// Makes room for a short reply, such as one to a write.
+    fn make_room(&mut self) -> Result<(), Failure> {
+        let made = self.out.try_reserve(SHORT);
+        made.map_err(|_| Error::OutOfMemory.into())
     }
 
     /// If the client has asked for confirmed reads, waits until everything that reads can see is in the file or the log.
@@ -242,7 +257,8 @@ impl<'a> Desk<'a> {
             command,
             Command::Status(_) | Command::Info(_) | Command::Clients(_) | Command::Kick(_)
         );
-        match self.shared.kept.check() {
+        let checked = self.make_room().and_then(|()| memory::check());
+        match checked.and_then(|()| self.shared.kept.check()) {
             Err(failure) if !is_of_server => self.refuse(Some(id), failure),
             _ => self.carry_out(id, command, view)?,
         }

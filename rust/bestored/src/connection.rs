@@ -4,6 +4,7 @@ use crate::answer::{Desk, View};
 use crate::clients::{milliseconds, Client};
 use crate::failure::Failure;
 use crate::lines::{Lines, Received};
+use crate::memory;
 use crate::outbox::{Outbox, PATIENCE};
 use crate::pressure;
 use crate::server::{no_pass, Shared};
@@ -23,6 +24,9 @@ const IDLE: Duration = Duration::from_millis(250);
 
 /// How often an idle connection checks whether its pass still holds the earlier memory of a volume that was carried on.
 const RESTS: Duration = Duration::from_secs(1);
+
+/// A request with a line of at most this many bytes is parsed even if memory is short.
+const SHORT: usize = 1 << 12;
 
 /// Why reads are about to see a different state.
 #[derive(Clone, Copy, Debug, PartialEq, Eq)]
@@ -124,6 +128,10 @@ impl<'a> Connection<'a> {
             };
             self.client.asks();
             let line = self.lines.bytes(line);
+            if let (true, Err(failure)) = (line.len() > SHORT, memory::check_for_line(line.len())) {
+                self.desk.refuse(id_of(line), failure);
+                continue;
+            }
             let request: Request<'_> = match serde_json::from_slice(line) {
                 Ok(request) => request,
                 Err(error) => {
@@ -162,6 +170,7 @@ impl<'a> Connection<'a> {
             Received::End => return Ok(Some(Turn::Close)),
             Received::Half => ErrorName::Timeout,
             Received::TooLong => ErrorName::LineTooLong,
+            Received::NoMemory => ErrorName::OutOfMemory,
         };
         self.desk.refuse(None, Failure::named(name));
         Ok(Some(Turn::Close))

@@ -3,6 +3,7 @@
 
 use crate::answer::View;
 use crate::failure::Failure;
+use crate::memory;
 use crate::page::{self, Room};
 use crate::server::Shared;
 use bestore::{Batch, Node, ShelfSnapshot, StateCopy};
@@ -12,6 +13,9 @@ use std::time::{Duration, Instant};
 
 /// How many copies all clients together may have at a time. A copy takes no more memory than the store's pages do.
 const MOST: usize = 2;
+
+/// How many bytes a page has.
+const PAGE: usize = 4096;
 
 /// How long a client may leave its copy unread while another client needs the place, however long it may keep a snapshot.
 const UNREAD: Duration = Duration::from_secs(60);
@@ -116,6 +120,7 @@ fn taken_back() -> Failure {
 /// Copies the state that reads see. If no snapshot is pinned, each volume is copied from a snapshot of its own.
 pub fn collect<'a>(shared: &'a Shared, view: &View<'_, '_>) -> Result<(Copy<'a>, wire::Next), Failure> {
     let copy = shared.copies.begin()?;
+    memory::check_for(bytes_of(view)?)?;
     let mut volumes = Vec::new();
     for (volume, store) in (0_u32..).zip(shared.kept.shelf().volumes()) {
         volumes.push(match view {
@@ -132,6 +137,12 @@ pub fn collect<'a>(shared: &'a Shared, view: &View<'_, '_>) -> Result<(Copy<'a>,
         read: Instant::now(),
     });
     Ok((copy, next))
+}
+
+/// Returns how many bytes a copy takes at most while it is made: twice as many as the store's pages in use.
+fn bytes_of(view: &View<'_, '_>) -> Result<usize, Failure> {
+    let used: u64 = view.status()?.iter().map(|status| status.pages - status.free).sum();
+    Ok(usize::try_from(used).unwrap_or(usize::MAX).saturating_mul(2 * PAGE))
 }
 
 /// Returns the copied commit numbers and next node numbers. New nodes are created in the volume with the most free pages.
@@ -166,6 +177,7 @@ impl Volume {
                 return Err(Failure::expired());
             }
             batches.push(batch?.to_bytes()?);
+            memory::check()?;
         }
         Ok(Self {
             commit: of_volume.number(),
@@ -203,7 +215,7 @@ impl Made {
             let batch = Batch::from_bytes(bytes)?.of_volume(asked);
             let length = ShownOperations(&batch).length();
             page.batches.push(batch.into());
-            if !room.take(8 + length) {
+            if !room.take(8 + length)? {
                 page.more = (number < volume.batches.len() as u64).then_some(number);
                 break;
             }

@@ -29,6 +29,7 @@ mod listening;
 mod lobby;
 #[cfg(feature = "log")]
 mod log;
+mod memory;
 mod meter;
 mod notify;
 mod options;
@@ -87,6 +88,7 @@ impl Error for Unusable {}
 
 /// Runs the program with the options from its command line.
 pub fn main() -> ExitCode {
+    os::save_addresses_if_limited();
     start(Options::read()).unwrap_or_else(|error| {
         report!("bestored: {error}");
         match error.is::<Unusable>() {
@@ -190,6 +192,7 @@ fn share(kept: Kept, tokens: Arc<Tokens>, run: String, options: Options) -> Resu
         is_full: Default::default(),
         not_accepted: Default::default(),
         is_foreign: Default::default(),
+        no_thread: Default::default(),
         visits: Mutex::new(visits),
         run,
         options,

@@ -26,6 +26,8 @@ pub enum Received {
     Half,
     /// The line is too long.
     TooLong,
+    /// There is no memory for the line.
+    NoMemory,
     /// The client has closed its side of the connection.
     End,
 }
@@ -127,7 +129,11 @@ impl Lines {
 
     fn receive(&mut self) -> io::Result<Received> {
         if self.filled == self.bytes.len() {
-            self.bytes.resize((2 * self.filled).clamp(ROOM, LINE), 0);
+            let room = (2 * self.filled).clamp(ROOM, LINE);
+            if self.bytes.try_reserve_exact(room - self.filled).is_err() {
+                return Ok(Received::NoMemory);
+            }
+            self.bytes.resize(room, 0);
         }
         match (&*self.stream).read(&mut self.bytes[self.filled..]) {
             Ok(0) => Ok(Received::End),

@@ -23,6 +23,33 @@ fn check(answer: libc::c_int) -> io::Result<libc::c_int> {
     }
 }
 
+/// How many bytes an allocation has for which glibc asks the system, and which it gives back at once when it is freed.
+#[cfg(target_env = "gnu")]
+const LARGE: libc::c_int = 128 << 10;
+
+/// If the addresses that the process may use are limited (`ulimit -v`), keeps glibc from using up the limit with addresses that nothing is
+/// stored at: all threads allocate from one heap, because each further one reserves 64 MiB, and what is large never stays in the heap
+/// after it is freed. Call this before threads start.
+#[cfg(target_env = "gnu")]
+pub fn save_addresses_if_limited() {
+    let mut limit = libc::rlimit {
+        rlim_cur: libc::RLIM_INFINITY,
+        rlim_max: libc::RLIM_INFINITY,
+    };
+    // SAFETY: the pointer is that of the variable, and the number is that of a limit.
+    let is_known = unsafe { libc::getrlimit(libc::RLIMIT_AS, &mut limit) } == 0;
+    if is_known && limit.rlim_cur != libc::RLIM_INFINITY {
+        // SAFETY: the calls take numbers only, and no other thread is running.
+        unsafe {
+            libc::mallopt(libc::M_ARENA_MAX, 1);
+            libc::mallopt(libc::M_MMAP_THRESHOLD, LARGE);
+        }
+    }
+}
+
+#[cfg(not(target_env = "gnu"))]
+pub fn save_addresses_if_limited() {}
+
 /// Sends as many of the bytes as the socket accepts immediately, and returns how many that is.
 pub fn send_now(stream: &UnixStream, bytes: &[u8]) -> io::Result<usize> {
     let flags = libc::MSG_DONTWAIT | libc::MSG_NOSIGNAL;

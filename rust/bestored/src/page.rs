@@ -2,6 +2,7 @@
 
 use crate::answer::View;
 use crate::failure::Failure;
+use crate::memory;
 use crate::watcher;
 use bestore::{ShelfSnapshot, State};
 use bestore_client::wire::{self, Json, ShownOperations};
@@ -14,6 +15,8 @@ const BYTES: usize = 1 << 20;
 pub struct Room {
     pub nodes: usize,
     bytes: usize,
+    /// How many bytes have been taken since the memory was last checked.
+    unchecked: usize,
 }
 
 impl Room {
@@ -22,13 +25,19 @@ impl Room {
         Self {
             nodes: limit.unwrap_or(usize::MAX).min(watcher::NODES),
             bytes: BYTES,
+            unchecked: 0,
         }
     }
 
-    /// Takes up space for an item. Returns whether there is space for another.
-    pub fn take(&mut self, bytes: usize) -> bool {
+    /// Takes up space for an item. Returns whether there is space for another, or an error if memory is short.
+    pub fn take(&mut self, bytes: usize) -> Result<bool, Failure> {
         self.bytes = self.bytes.saturating_sub(bytes);
-        self.bytes > 0
+        self.unchecked += bytes;
+        if self.unchecked >= memory::STEP {
+            self.unchecked = 0;
+            memory::check()?;
+        }
+        Ok(self.bytes > 0)
     }
 }
 
@@ -50,7 +59,7 @@ pub fn rows_of(
             .map(|value| 5 + value.as_ref().map_or(0, Json::length))
             .sum::<usize>();
         rows.push(row);
-        if !room.take(24 + length) {
+        if !room.take(24 + length)? {
             break;
         }
     }
@@ -103,7 +112,7 @@ pub fn journal(view: &View<'_, '_>, from: &wire::JournalFrom) -> Result<wire::Jo
             pass: entry.pass,
             operations: batch.into(),
         });
-        if !room.take(64 + length) {
+        if !room.take(64 + length)? {
             break;
         }
     }
@@ -154,7 +163,7 @@ pub fn state<'s>(
         let batch = batch.of_volume(volume);
         let length = ShownOperations(&batch).length();
         page.batches.push(batch.into());
-        if !room.take(8 + length) {
+        if !room.take(8 + length)? {
             page.more = Some(reading.next);
             *read = Some(reading);
             break;

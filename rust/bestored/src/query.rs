@@ -182,7 +182,8 @@ impl Parsed {
         let is_whole = query.limit.is_none() && query.from == 0;
         let mut found = self.first(snapshot, query.from, (!is_whole).then_some(room.nodes + 1))?;
         let whole = is_whole.then_some(found.len() as u64);
-        let mut more = found.split_off(room.nodes.min(found.len()));
+        let mut more = found.get(room.nodes).copied();
+        found.truncate(room.nodes);
         let mut hits = wire::Hits {
             commit: snapshot.number(),
             commits: commits(snapshot),
@@ -190,10 +191,11 @@ impl Parsed {
         };
         if let Some(columns) = &query.columns {
             let rows = rows_of(snapshot, &found, columns, &mut room)?;
-            more = [found.split_off(rows.len()), more].concat();
+            more = found.get(rows.len()).copied().or(more);
+            found.truncate(rows.len());
             hits.rows = Some(rows);
         }
-        hits.more = more.first().copied();
+        hits.more = more;
         if !query.uncounted {
             let count = self.count_of_page(snapshot, query.from, found.len() as u64, hits.more, whole)?;
             hits.count = Some(count);

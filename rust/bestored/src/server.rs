@@ -10,6 +10,7 @@ use crate::hang::Hang;
 use crate::kept::{self, Kept};
 use crate::listening::Listening;
 use crate::lobby::Lobby;
+use crate::memory;
 use crate::meter::Meter;
 use crate::notify::Notifier;
 use crate::options::Options;
@@ -80,10 +81,12 @@ pub struct Shared {
     #[cfg_attr(not(feature = "log"), allow(dead_code))]
     pub again: Bell,
     pub lobby: Lobby,
-    /// For the reports that all places are taken, that a client couldn't be accepted, and that one belongs to another user.
+    /// For the reports that all places are taken, that a client couldn't be accepted, that one belongs to another user, and that one
+    /// has got no thread.
     pub is_full: Seldom,
     pub not_accepted: Seldom,
     pub is_foreign: Seldom,
+    pub no_thread: Seldom,
     /// The pass for clients that can't get another. Each of them may use it for a short time.
     pub visits: Mutex<ShelfPass>,
     /// A string that is different for each run.
@@ -210,18 +213,25 @@ fn welcome(shared: &Arc<Shared>, stream: Arc<UnixStream>) {
         return shared.lobby.enter(stream);
     }
     let client = shared.clients.enter(stream.clone());
-    let (of_thread, entered) = (shared.clone(), client.clone());
+    let (of_thread, entered, of_client) = (shared.clone(), client.clone(), stream.clone());
     let thread = thread::Builder::new().name(format!("client-{}", client.number));
-    let started = thread.spawn(move || {
+    let serve = move || {
         let leaving = Leaving {
             shared: &of_thread,
             client: entered,
         };
-        serve(&of_thread, &leaving, stream);
-    });
+        serve(&of_thread, &leaving, of_client);
+    };
+    let started = match memory::check_for_thread() {
+        Ok(()) => thread.spawn(serve).map(drop).map_err(|error| error.to_string()),
+        Err(failure) => Err(failure.0.message),
+    };
     if let Err(error) = started {
-        report!("bestored: no thread could be started for a client: {error}");
+        if shared.no_thread.is_due() {
+            report!("bestored: no thread could be started for a client: {error}");
+        }
         shared.clients.leave(&client);
+        refuse(&stream, &Error::OutOfMemory.into());
     }
 }
 

@@ -6,8 +6,10 @@
 
 use crate::failure::Failure;
 use crate::kept::Kept;
+use crate::memory;
 use crate::outbox::{Outbox, Pusher};
 use crate::pressure::Pressure;
+use crate::server::Seldom;
 use bestore::{Error, ShelfLive, ShelfPass, ShelfSnapshot, Updates};
 use bestore_client::wire::{self, Push, Refusal};
 use std::sync::atomic::{fence, AtomicUsize, Ordering};
@@ -139,8 +141,7 @@ impl Watch {
 
 /// Removes the first `most` elements from the list and returns them.
 pub fn take(list: &mut Vec<u64>, most: usize) -> Vec<u64> {
-    let rest = list.split_off(most.min(list.len()));
-    std::mem::replace(list, rest)
+    list.drain(..most.min(list.len())).collect()
 }
 
 /// The watches of one client.
@@ -196,13 +197,16 @@ impl Watches {
     }
 }
 
-/// Pushes lines until none are left or the client accepts no more. Returns whether none are left.
+/// Pushes lines until none are left, the client accepts no more, or memory is short. Returns whether none are left.
 fn push_all(list: &mut [Watch], mut pusher: Pusher<'_>) -> bool {
     for watch in list {
-        while let Some(push) = watch.next_push() {
-            let mut line = match serde_json::to_vec(&push) {
-                Ok(line) => line,
-                Err(_) => continue,
+        while watch.has_news() {
+            if memory::check().is_err() {
+                return false;
+            }
+            let mut line = match watch.next_push().map(|push| serde_json::to_vec(&push)) {
+                Some(Ok(line)) => line,
+                _ => break,
             };
             line.push(b'\n');
             if !pusher.push(line) {
@@ -227,6 +231,8 @@ pub struct Watcher {
     wake: Condvar,
     /// The number of clients that have watches.
     clients: AtomicUsize,
+    /// For the report that there is no snapshot for the live queries.
+    is_stuck: Seldom,
 }
 
 impl Watcher {
@@ -281,12 +287,20 @@ impl Watcher {
 
     /// Serves the watches until [`end`](Self::end) is called.
     pub fn run(&self, mut pass: ShelfPass, pressure: &Pressure, kept: &Kept) {
+        self.repeat(|clients| {
+            // If this fails, the next round tries again.
+            let _ = pass.follow();
+            round(clients, &mut pass, pressure, kept, &self.is_stuck)
+        });
+    }
+
+    /// Calls the function after writes, and again after a short time if it returns that something is left to push. If a write comes
+    /// after the function has looked at the store, the function is called once more.
+    fn repeat(&self, mut round: impl FnMut(&[Arc<Watches>]) -> bool) {
         let mut is_left = false;
         while let Some(clients) = self.wait(is_left) {
             let started = Instant::now();
-            // If this fails, the next round tries again.
-            let _ = pass.follow();
-            is_left = round(&clients, &mut pass, pressure, kept);
+            is_left = round(&clients);
             thread::sleep(started.elapsed().clamp(REST.0, REST.1));
         }
     }
@@ -314,7 +328,7 @@ impl Watcher {
 }
 
 /// Serves each client once. Holds no snapshot while it waits for the file or a client. Returns whether anything is left to push.
-fn round(clients: &[Arc<Watches>], pass: &mut ShelfPass, pressure: &Pressure, kept: &Kept) -> bool {
+fn round(clients: &[Arc<Watches>], pass: &mut ShelfPass, pressure: &Pressure, kept: &Kept, is_stuck: &Seldom) -> bool {
     let mut is_left = false;
     for client in clients {
         match client.ask(pass, pressure) {
@@ -323,10 +337,88 @@ fn round(clients: &[Arc<Watches>], pass: &mut ShelfPass, pressure: &Pressure, ke
             Ok(true) if kept.flush_if_each().is_err() => return false,
             Ok(_) => is_left |= client.push(),
             Err(error) => {
-                report!("bestored: the live queries could not get a snapshot: {error}");
+                if is_stuck.is_due() {
+                    report!("bestored: the live queries could not get a snapshot: {error}");
+                }
                 is_left = true;
             }
         }
     }
     is_left
+}
+
+#[cfg(test)]
+mod tests {
+    use super::*;
+    use crate::outbox::PATIENCE;
+    use std::os::unix::net::UnixStream;
+    use std::sync::atomic::AtomicU64;
+    use std::sync::mpsc;
+
+    /// How long a test waits for a round that has to come.
+    const COMES: Duration = Duration::from_secs(20);
+
+    /// Returns the watches of a client that has one on each commit.
+    fn watches(watcher: &Watcher) -> Arc<Watches> {
+        let (_client, server) = UnixStream::pair().unwrap();
+        let watches = Arc::new(Watches::new(Arc::new(Outbox::new(Arc::new(server), PATIENCE))));
+        watcher.add(&watches, Watch::new(1, None, vec![0], Updates::default()));
+        watches
+    }
+
+    /// A write comes in each round, directly after the round has looked at the store.
+    #[test]
+    fn a_write_between_a_look_and_the_wait_begins_another_round() {
+        const WRITES: u64 = 20;
+        let watcher = Watcher::default();
+        let _watches = watches(&watcher);
+        let (written, (looks, looked)) = (AtomicU64::new(0), mpsc::channel());
+        let seen = thread::scope(|scope| {
+            let (watcher, written) = (&watcher, &written);
+            scope.spawn(move || {
+                watcher.repeat(|_| {
+                    let seen = written.load(Ordering::SeqCst);
+                    if seen < WRITES {
+                        written.fetch_add(1, Ordering::SeqCst);
+                        watcher.written();
+                    }
+                    looks.send(seen).is_err()
+                });
+            });
+            let seen: Vec<_> = (0..=WRITES).map_while(|_| looked.recv_timeout(COMES).ok()).collect();
+            watcher.end();
+            seen
+        });
+        assert_eq!(seen, (0..=WRITES).collect::<Vec<_>>());
+    }
+
+    /// A write comes as soon as a round is over, so that some come while the thread begins to wait.
+    #[test]
+    fn no_write_is_missed_at_the_beginning_of_a_wait() {
+        let (watcher, rounds) = (Watcher::default(), AtomicU64::new(0));
+        let _watches = watches(&watcher);
+        let missed = thread::scope(|scope| {
+            scope.spawn(|| {
+                while watcher.wait(false).is_some() {
+                    rounds.fetch_add(1, Ordering::SeqCst);
+                }
+            });
+            // The first round begins because the client has come.
+            let (begin, mut writes) = (Instant::now(), 1);
+            let is_seen = |writes| {
+                let written = Instant::now();
+                while rounds.load(Ordering::SeqCst) < writes && written.elapsed() < COMES {
+                    std::hint::spin_loop();
+                }
+                rounds.load(Ordering::SeqCst) >= writes
+            };
+            while is_seen(writes) && begin.elapsed() < Duration::from_secs(1) {
+                watcher.written();
+                writes += 1;
+            }
+            watcher.end();
+            (!is_seen(writes)).then_some(writes)
+        });
+        assert_eq!(missed, None);
+    }
 }

@@ -26,6 +26,7 @@ mod growth;
 mod hanging;
 mod hung;
 mod killed;
+mod limits;
 mod live;
 #[cfg(feature = "log")]
 mod log;

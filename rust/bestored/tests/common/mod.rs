@@ -194,7 +194,7 @@ impl Server {
         is_there
     }
 
-    fn has_ended(&self) -> bool {
+    pub fn has_ended(&self) -> bool {
         self.child().try_wait().unwrap().is_some()
     }
 
