@@ -69,7 +69,7 @@ impl Batch {
     ///
     /// # Errors
     /// [`Error::BadBatch`] with the offset of the first invalid byte, of the first byte of a part that is cut off, or of a number that
-    /// doesn't fit its kind. A batch that is read has no operation that every store refuses.
+    /// doesn't fit its kind.
     pub fn from_bytes(bytes: &[u8]) -> Result<Self> {
         let mut reader = Reader { bytes, at: 0 };
         reader.beginning()?;

@@ -120,7 +120,7 @@ fn taken_back() -> Failure {
 /// Copies the state that reads see. If no snapshot is pinned, each volume is copied from a snapshot of its own.
 pub fn collect<'a>(shared: &'a Shared, view: &View<'_, '_>) -> Result<(Copy<'a>, wire::Next), Failure> {
     let copy = shared.copies.begin()?;
-    memory::check_for(bytes_of(view)?)?;
+    memory::check_for(bytes_of(view))?;
     let mut volumes = Vec::new();
     for (volume, store) in (0_u32..).zip(shared.kept.shelf().volumes()) {
         volumes.push(match view {
@@ -139,10 +139,12 @@ pub fn collect<'a>(shared: &'a Shared, view: &View<'_, '_>) -> Result<(Copy<'a>,
     Ok((copy, next))
 }
 
-/// Returns how many bytes a copy takes at most while it is made: twice as many as the store's pages in use.
-fn bytes_of(view: &View<'_, '_>) -> Result<usize, Failure> {
-    let used: u64 = view.status()?.iter().map(|status| status.pages - status.free).sum();
-    Ok(usize::try_from(used).unwrap_or(usize::MAX).saturating_mul(2 * PAGE))
+/// Returns how many bytes a copy takes at most while it is made: twice as many as the store's pages in use. If writes keep the status
+/// from being read, returns 0.
+fn bytes_of(view: &View<'_, '_>) -> usize {
+    let all = view.status().unwrap_or_default();
+    let used: u64 = all.iter().map(|status| status.pages - status.free).sum();
+    usize::try_from(used).unwrap_or(usize::MAX).saturating_mul(2 * PAGE)
 }
 
 /// Returns the copied commit numbers and next node numbers. New nodes are created in the volume with the most free pages.

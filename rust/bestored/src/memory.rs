@@ -1,4 +1,4 @@
-//! Checks that memory is left before a request takes it. Where nobody checks, Rust's standard library ends the program if there is none.
+//! Checks that memory is left before a request takes it. If Rust's standard library can't get memory, it ends the program.
 
 use crate::failure::Failure;
 use bestore::Error;
