@@ -356,7 +356,7 @@ mod tests {
     use std::sync::mpsc;
 
     /// How long a test waits for a round that has to come.
-    const COMES: Duration = Duration::from_secs(20);
+    const COMES: Duration = Duration::from_secs(60);
 
     /// Returns the watches of a client that has one on each commit.
     fn watches(watcher: &Watcher) -> Arc<Watches> {
