@@ -51,7 +51,7 @@ static uint32_t text_error(const uint8_t *bytes, size_t length, size_t *place)
     return bytes[*place] == 0 ? BES_HAS_NUL : BES_NOT_UTF8;
 }
 
-/* Returns BES_OK if an operation's value is valid, and the error otherwise. */
+/* Returns BES_OK if a store accepts an operation's value, and the error otherwise. */
 static uint32_t value_error(const bes_operation *it, const uint8_t *value)
 {
     size_t place = 0;
@@ -62,7 +62,7 @@ static uint32_t value_error(const bes_operation *it, const uint8_t *value)
     return it->code == BES_RAW_TYPE ? BES_OK : text_error(value, it->value_length, &place);
 }
 
-/* Returns BES_OK if all parts of an operation are valid, and the first error otherwise. */
+/* Returns BES_OK if some store accepts an operation, and otherwise the error that none does. */
 static uint32_t operation_error(const bes_operation *it, const uint8_t *parts, size_t parts_count)
 {
     size_t place = 0;

@@ -233,8 +233,8 @@ class Batch:
 
     @classmethod
     def from_bytes(cls, data: bytes) -> Batch:
-        """Returns the batch that `to_bytes` encoded as these bytes. Raises `BadBytes` if the bytes aren't a valid batch, or if
-        anything follows it."""
+        """Returns the batch that `to_bytes` encoded as these bytes. Raises `BadBytes` if the bytes aren't a batch that a store
+        could accept, or if anything follows it."""
         reader, batch = _Reader(data), cls()
         reader.read_beginning()
         for _ in range(reader.read_count()):
