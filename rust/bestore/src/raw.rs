@@ -747,7 +747,7 @@ mod tests {
     fn a_list_that_memory_is_too_short_for_is_refused() {
         let refused = |answer: Answer<Vec<u64>>| answer.unwrap_err().code;
         let more = |count: &mut u64| {
-            *count = 1 << 60;
+            *count = 1 << 63;
             sys::BES_OK
         };
         assert_eq!(refused(whole(1, |_, _, count| more(count))), sys::BES_NO_MEMORY);
