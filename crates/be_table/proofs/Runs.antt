@@ -1,5 +1,5 @@
 -- The moves of a table, as the machine's events.
-use Rattle.std.proofs.Common.{List, [], ◌∷◌, ◌++◌, refl, sym, subst, arith}
+use Rattle.std.proofs.Common.{List, [], ◌∷◌, ◌++◌, refl, sym, subst}
 use Rattle.be_core.specs.declared.event.Event.TheVariants as events
 use Rattle.be_core.specs.Machine.{World, Sound, first_state}
 use Rattle.be_core.proofs.Schedules.{first-sound, fill-sound, sound-protected}
