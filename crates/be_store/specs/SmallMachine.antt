@@ -93,9 +93,9 @@ HasNumber o (z ∷ views) k = (z.number ≡ k) ⊎ HasNumber o views k
 -- has seen, and its entries by each pass are exactly that pass's own entries. All passes know the
 -- same first state. `IsClosed` says that these are all passes of the store. The definitions above
 -- say nothing about two passes together.
-pub record Closes (o : Object) (first : o.State) (journal : List o.Entry)
+pub record Closes (o : Object) (start : o.State) (journal : List o.Entry)
     (views : List (PassView o)) : Type 0 where
-  pub first : All (λ (z : PassView o). z.first ≡ first) views
+  pub first : All (λ (z : PassView o). z.first ≡ start) views
   pub apart : AllPairs ◌≢◌ (map (λ (z : PassView o). z.number) views)
   pub authors : All (λ (e : o.Entry). HasNumber o views (o.by e)) journal
   pub seen : All (λ (z : PassView o). StartsWith journal z.seen) views

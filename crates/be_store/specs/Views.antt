@@ -60,9 +60,9 @@ IsStep a s c = Leads volume (view_of a) s (view_of c)
 -- these passes, whose numbers differ.
 -- `open` numbers the passes, and each keeps its number. `close` requires all passes of the store,
 -- and ensures the rest about these passes and the journal.
-pub record IsClosed (first : State) (count : ℕ) (log : List Entry) (passes : List Knowledge) :
+pub record IsClosed (start : State) (count : ℕ) (log : List Entry) (passes : List Knowledge) :
     Type 0 where
-  pub first : All (λ (a : Knowledge). a.limits.volume ≡ first) passes
+  pub first : All (λ (a : Knowledge). a.limits.volume ≡ start) passes
   pub apart : AllPairs ◌≢◌ (map (λ (a : Knowledge). a.number) passes)
   pub all : (k : ℕ) → k < count → Has passes k
   pub by : AreOfPasses count log

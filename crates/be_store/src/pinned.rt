@@ -6,6 +6,8 @@
 ghost use Rattle.std.specs.Prelude.{◌≡◌, ◌⊎◌, ◌<◌, ◌≤◌, ◌++◌, ◌*◌, ◌^◌, ℕ, true, false, [], None};
 ghost use Rattle.std.specs.Prelude.{Ok, IsOk, IfOk, IfErr, IfNone, IfSome, OnErr, OnOk, length};
 ghost use Rattle.std.specs.Prelude.{map as each};
+ghost use Rattle.std.specs.Coded.{codes};
+ghost use Rattle.be_table.specs.Setting.{coded_setting};
 ghost use Rattle.be_store.specs.Imports.{are_places, attribute, attributes_at, chosen, covered};
 ghost use Rattle.be_store.specs.Imports.{covers, cursor_bytes, from_number, given, has_index};
 ghost use Rattle.be_store.specs.Imports.{index_kind, index_kinds, left, name_in, nodes_from, page};
@@ -35,7 +37,7 @@ pub struct Pinned<'a> {
     store: &'a Store,
     pass: &'a mut Pass,
     number: u64,
-    ghost seat: { IsSeatOf store.now pass.now },
+    ghost seat: { IsSeatOf store.now pass.now } by { Prim.hlevel (codes, coded_setting) },
     ghost between: { IsAtRest store.now pass.now } by { IsAtRest-prop store.now pass.now },
 }
 
