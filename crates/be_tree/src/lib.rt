@@ -20,6 +20,7 @@
 //! says what follows for other trees in the same pages.
 #![tactic(auto)]
 
+mod building;
 mod clearing;
 mod counting;
 mod edit;
@@ -42,6 +43,7 @@ pub use be_tree_reading::{
     find_place, first_of, has_key, is_key_at, is_past_at, key_at, number_at, numbers_within,
     payload_byte_at, payload_len_at, payload_number_at, payload_number32_at, range, word_from,
 };
+pub use building::TreeBuilder;
 pub use clearing::clear;
 pub use counting::{few_in_hand, forest_pages, swaps_take, takes_add, tree_level, tree_pages};
 pub use edit::insert;

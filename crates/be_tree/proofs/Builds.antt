@@ -1,0 +1,3 @@
+-- A tree that is built from pairs in ascending order.
+pub mod Fewest
+pub mod Parts
