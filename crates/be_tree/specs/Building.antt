@@ -8,7 +8,7 @@ use Rattle.be_value.specs.declared.refusals.Refusal.{Refusal}
 use Rattle.be_value.specs.declared.refusals.Refusal.TheVariants.{OutOfMemory}
 use Rattle.be_tree.specs.declared.building.TreeBuilder.{TreeBuilder}
 use Rattle.be_tree.specs.declared.slot.Slot.{Slot}
-use Rattle.be_tree.specs.Counting.{in_hand}
+use Rattle.be_tree.specs.Counting.{TakesAtMost, in_hand}
 use Rattle.be_tree.specs.Slot.{IsBranchSlot, pairs_of}
 use Rattle.be_tree_reading.specs.Pair.{Pair}
 use Rattle.be_tree_reading.specs.Key.{IsRising}
@@ -57,6 +57,7 @@ pub record Writes {S K : Type 0} (kept_of : S → K) (page_state_of : S → ℕ 
     (words_of : S → ℕ → ℕ → ℕ) (count : ℕ) (before after : TreeBuilder) (old new : S) : Type 0 where
   pub begun : IsBegun (page_state_of new) (words_of new) after
   pub gains : Gains kept_of page_state_of words_of [] before after old new
+  pub takes : TakesAtMost 1 (page_state_of old) (page_state_of new)
   pub one_more : length after.leaves.items ≡ length before.leaves.items + 1
   pub rest : after.items.items ≡ drop count before.items.items
 

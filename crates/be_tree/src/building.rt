@@ -16,6 +16,7 @@ ghost use Rattle.be_tree_reading.specs.Tree.{pages_below, pairs_below};
 ghost use Rattle.be_tree.specs.Building.{AreFewest, Gains, HoldsFewer, IsBegun, IsBuilder, IsShort};
 ghost use Rattle.be_tree.specs.Building.{RefusesAt, Writes, branches_of, items_on, pages_taken};
 ghost use Rattle.be_tree.specs.Building.{pairs_given};
+ghost use Rattle.be_tree.specs.Counting.{TakesAtMost};
 ghost use Rattle.be_tree.specs.Slot.{IsBranchSlot, branch_to};
 ghost use Rattle.be_tree.specs.Splicing.{IsStored, WritesItems};
 ghost use Rattle.be_tree.specs.Writing.{Refuses};
@@ -108,6 +109,12 @@ fn write_level<R: Room>(
         (suc level) (branches_of (R.words room.new) above.items) room.old room.new) }
     ensures branches { IfOk result (λ above. All IsBranchSlot above.items) }
     ensures size { IfOk result (λ above. length above.items ≡ (length slots.now + 11) / 12) }
+    ensures pages { IfOk result (λ above.
+        length (pages_below (suc level) (R.words room.new) (branches_of (R.words room.new)
+        above.items)) ≡ length above.items
+        + length (pages_below level (R.words room.old) (branches_of (R.words room.old) slots.now))) }
+    ensures takes { IfOk result (λ above. TakesAtMost (length above.items) (R.page_state room.old)
+        (R.page_state room.new)) }
     ensures refused { RefusesAt R.kept R.page_state R.words R.full
         (HoldsFewer 0 ((length slots.now + 11) / 12) (R.page_state room.old)
         (R.page_state room.new)) result room.old room.new }
@@ -123,9 +130,7 @@ fn write_level<R: Room>(
             pair: &nothing,
         };
         let page = write_node(room, node)?;
-        if above.push(Slot::Branch(page as u32)).is_err() {
-            return Err(Refusal::OutOfMemory);
-        }
+        above.push(Slot::Branch(page as u32))?;
         at = end;
     }
     Ok(above)
@@ -197,14 +202,10 @@ impl TreeBuilder {
         ensures refused { RefusesAt R.kept R.page_state R.words R.full (HoldsFewer 0 1
             (R.page_state room.old) (R.page_state room.new)) result room.old room.new }
     {
-        let Ok(rest) = self.items.split_off(count) else {
-            return Err(Refusal::OutOfMemory);
-        };
+        let rest = self.items.split_off(count)?;
         let page = write_leaf(room, &self.items)?;
         self.items = rest;
-        if self.leaves.push(Slot::Branch(page as u32)).is_err() {
-            return Err(Refusal::OutOfMemory);
-        }
+        self.leaves.push(Slot::Branch(page as u32))?;
         Ok(())
     }
 
@@ -232,9 +233,7 @@ impl TreeBuilder {
             (length (pairs_given (R.words room.old) self.old) + 1) (R.page_state room.old)
             (R.page_state room.new)) result room.old room.new }
     {
-        if self.items.push(Item::new(key, payload)).is_err() {
-            return Err(Refusal::OutOfMemory);
-        }
+        self.items.push(Item::new(key, payload))?;
         if self.items.len() < MOST_ITEMS + MINIMUM_ITEMS {
             return Ok(());
         }

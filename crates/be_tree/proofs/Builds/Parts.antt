@@ -1,5 +1,6 @@
 -- The pages of a level, which are written one after another.
-use Rattle.std.proofs.Common.{◌≡◌, ℕ, zero, suc, ◌+◌, ◌-◌, ◌*◌, ◌<◌, ◌≤◌, ◌^◌, List, [], ◌∷◌, ◌++◌, length, get_or, take, drop, All, IsTrue, ap, sym, subst, ◌∙◌, refl, arith}
+use Rattle.std.proofs.Common.{◌≡◌, ℕ, zero, suc, ◌+◌, ◌-◌, ◌*◌, ◌<◌, ◌≤◌, ◌^◌, List, [], ◌∷◌, ◌++◌, length, get_or, map, take, drop, All, IsTrue, ap, sym, subst, ◌∙◌, refl, arith, zero-add}
+use Rattle.std.specs.List.{range_with_len}
 use Rattle.std.proofs.lemmas.List.{append-nil, get_or-map, length-append, length-map, map-append, take-append-drop}
 use Rattle.std.proofs.lemmas.List.Elements.{All-append, All-nil}
 use Rattle.be_pages.specs.declared.room.PageState.{PageState}
@@ -19,6 +20,19 @@ use Rattle.be_tree.proofs.Builds.Fewest.{no_pages, no_pairs}
 use Rattle.be_tree.proofs.Nodes.Slots.{IsApart, all_apart_nil, all_ready_swaps, branches_ready, child_branch, pairs_swaps}
 use Rattle.be_tree.proofs.Shape.Parts.{all_one, back_below, back_pairs, becomes_append, becomes_branch, becomes_same}
 use Rattle.be_tree.proofs.Sizes.InHand.{takes_same, takes_swaps, takes_then}
+
+-- a list that is read item by item
+pub stored_list : {A : Type 0} (f : ℕ → A) (xs : List A) (n : ℕ) → n ≡ length xs → ((k : ℕ) (d : A) → k < n → f k ≡ get_or xs k d) → map f (range_with_len 0 n) ≡ xs
+stored_list f xs n len same = subst (λ m. map f (range_with_len 0 m) ≡ xs) (sym len) (from f xs 0 (λ k d lt. ap f (zero-add k) ∙ same k d (omega (arith, len, lt))))
+  where
+    from : {A : Type 0} (f : ℕ → A) (xs : List A) (a : ℕ) → ((k : ℕ) (d : A) → k < length xs → f (a + k) ≡ get_or xs k d) → map f (range_with_len a (length xs)) ≡ xs
+    from f [] a same = refl
+    from f (x ∷ xs) a same =
+        let e : a + 0 ≡ a = omega arith in
+        ap2 (ap f (sym e) ∙ same 0 x (omega arith)) (from f xs (a + 1) (λ k d lt. let e : a + 1 + k ≡ a + suc k = omega arith in ap f e ∙ same (suc k) d (omega (arith, lt))))
+      where
+        ap2 : {A : Type 0} {x y : A} {xs ys : List A} → x ≡ y → xs ≡ ys → x ∷ xs ≡ y ∷ ys
+        ap2 p q = cc
 
 -- branches whose pages are below them aren't among pages that aren't
 apart_below : (m : ℕ) (w : ℕ → ℕ → ℕ) (before : List ℕ) (slots : List Slot) → All IsBranchSlot slots
@@ -202,3 +216,7 @@ module _ {S K : Type 0} (kept_of : S → K) (page_state_of : S → ℕ → PageS
         pages = ap (λ bs. length (pages_below (suc (suc m)) (words_of new) bs)) branches_are ∙ counted;
         holds = λ n. omega (arith, length-append above (Branch page ∷ []), first.holds n, takes_swaps kept_of page_state_of words_of [] (page ∷ []) mid new swaps n);
       }
+
+-- a pair without bytes
+pub no_pair : (p : Pair) → p.key ≡ [] → p.payload ≡ [] → p ≡ record { key = []; payload = [] }
+no_pair p k e = λ i. record { key = k i; payload = e i }
