@@ -61,6 +61,16 @@ pub record Writes {S K : Type 0} (kept_of : S → K) (page_state_of : S → ℕ 
   pub one_more : length after.leaves.items ≡ length before.leaves.items + 1
   pub rest : after.items.items ≡ drop count before.items.items
 
+-- the builder has written all its pairs to leaves, as few as possible
+pub record WritesAll {S K : Type 0} (kept_of : S → K) (page_state_of : S → ℕ → PageState)
+    (words_of : S → ℕ → ℕ → ℕ) (before after : TreeBuilder) (old new : S) : Type 0 where
+  pub begun : IsBegun (page_state_of new) (words_of new) after
+  pub gains : Gains kept_of page_state_of words_of [] before after old new
+  pub none : after.items.items ≡ []
+  pub fewest : length after.leaves.items ≡ (length (pairs_given (words_of old) before) + 11) / 12
+  pub takes : (n : ℕ) → in_hand n (page_state_of new) + length before.leaves.items
+      ≤ in_hand n (page_state_of old) + length after.leaves.items
+
 -- the number of items on a level of full pages, and the number of pages below it, for n pairs
 abbrev pub items_on : (level n : ℕ) → ℕ
 items_on zero n = n

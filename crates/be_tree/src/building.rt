@@ -14,8 +14,8 @@ ghost use Rattle.be_tree_reading.specs.Pair.{Pair};
 ghost use Rattle.be_tree_reading.specs.Tree.{Becomes, BecomesTree, IsBelow, IsWritten, pages};
 ghost use Rattle.be_tree_reading.specs.Tree.{pages_below, pairs_below};
 ghost use Rattle.be_tree.specs.Building.{AreFewest, Gains, HoldsFewer, IsBegun, IsBuilder, IsShort};
-ghost use Rattle.be_tree.specs.Building.{RefusesAt, Writes, branches_of, items_on, pages_taken};
-ghost use Rattle.be_tree.specs.Building.{pairs_given};
+ghost use Rattle.be_tree.specs.Building.{RefusesAt, Writes, WritesAll, branches_of, items_on};
+ghost use Rattle.be_tree.specs.Building.{pages_taken, pairs_given};
 ghost use Rattle.be_tree.specs.Counting.{TakesAtMost};
 ghost use Rattle.be_tree.specs.Slot.{IsBranchSlot, branch_to};
 ghost use Rattle.be_tree.specs.Splicing.{IsStored, WritesItems};
@@ -209,6 +209,26 @@ impl TreeBuilder {
         Ok(())
     }
 
+    /// Writes all pairs that are held to one leaf or two.
+    fn write_rest<R: Room>(&mut self, room: &mut R) -> Result<(), Refusal>
+        requires builds { IsBuilder (R.page_state room.old) (R.words room.old) self.old }
+        requires many { 12 < length (pairs_given (R.words room.old) self.old) }
+        requires open { IsTrue (R.is_open (R.kept room.old)) }
+        ensures ok { OnOk result (WritesAll R.kept R.page_state R.words self.old self.new room.old
+            room.new) }
+        ensures refused { RefusesAt R.kept R.page_state R.words R.full
+            (IsShort (length self.old.leaves.items)
+            (length (pairs_given (R.words room.old) self.old)) (R.page_state room.old)
+            (R.page_state room.new)) result room.old room.new }
+    {
+        let held = self.items.len();
+        if held <= MOST_ITEMS {
+            return self.write_first(room, held);
+        }
+        self.write_first(room, held - MINIMUM_ITEMS)?;
+        self.write_first(room, MINIMUM_ITEMS)
+    }
+
     /// Appends a pair, whose key is above those before it. After an error the builder can't be used
     /// again.
     pub fn push<R: Room>(
@@ -254,7 +274,7 @@ impl TreeBuilder {
             (length (pairs_given (R.words room.old) self)) (R.page_state room.old)
             (R.page_state room.new)) result room.old room.new }
     {
-        if self.leaves.len() == 0 && self.items.len() <= MOST_ITEMS {
+        if self.leaves.is_empty() && self.items.len() <= MOST_ITEMS {
             let TreeBuilder {
                 alloc: _,
                 leaves: _,
@@ -263,12 +283,7 @@ impl TreeBuilder {
             return write_only(room, &items);
         }
         let mut builder = self;
-        let held = builder.items.len();
-        if held > MOST_ITEMS {
-            builder.write_first(room, held - MINIMUM_ITEMS)?;
-        }
-        let held = builder.items.len();
-        builder.write_first(room, held)?;
+        builder.write_rest(room)?;
         let TreeBuilder {
             alloc,
             leaves,

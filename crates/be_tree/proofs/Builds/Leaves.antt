@@ -1,7 +1,9 @@
 -- The leaves of a builder.
-use Rattle.std.proofs.Common.{◌≡◌, ℕ, zero, suc, ◌+◌, ◌*◌, ◌/◌, ◌<◌, ◌≤◌, ◌^◌, List, [], ◌∷◌, ◌++◌, length, drop, take, All, ap, sym, subst, ◌∙◌, refl, inl, inr, arith}
+use Rattle.std.proofs.Common.{◌≡◌, ℕ, zero, suc, ◌+◌, ◌-◌, ◌*◌, ◌/◌, ◌<◌, ◌≤◌, ◌^◌, List, [], ◌∷◌, ◌++◌, length, drop, take, All, ap, sym, subst, ◌∙◌, refl, inl, inr, arith}
 use Rattle.std.proofs.lemmas.Bool.{cases_lt}
-use Rattle.std.proofs.lemmas.List.{append-nil, append_assoc, length-append, take-append-drop}
+use Rattle.std.proofs.lemmas.List.{append-nil, append_assoc, length-append, length-drop, length-map, take-append-drop}
+use Rattle.std.proofs.Math.ListN.{drop_of_length-le}
+use Rattle.std.proofs.Math.Seq.{drop-length}
 use Rattle.be_pages.specs.declared.room.PageState.{PageState}
 use Rattle.be_pages.specs.Pages.{times, Swaps}
 use Rattle.be_tree_reading.specs.Pair.{Pair}
@@ -12,9 +14,9 @@ use Rattle.be_tree_reading.proofs.Shape.Below.{all_left, all_right}
 use Rattle.be_tree.specs.declared.slot.Slot.{Slot}
 use Rattle.be_tree.specs.declared.slot.Slot.TheVariants.{Branch}
 use Rattle.be_tree.specs.declared.building.TreeBuilder.{TreeBuilder}
-use Rattle.be_tree.specs.Building.{branches_of, pairs_given, pages_taken, items_on, pages_under, AreFewest, Gains, HoldsFewer, IsBegun, IsBuilder, IsShort, Writes}
+use Rattle.be_tree.specs.Building.{branches_of, pairs_given, pages_taken, items_on, pages_under, AreFewest, Gains, HoldsFewer, IsBegun, IsBuilder, IsShort, Writes, WritesAll}
 use Rattle.be_tree.specs.Counting.{TakesAtMost}
-use Rattle.be_tree.specs.Slot.{branch_to, IsBranchSlot}
+use Rattle.be_tree.specs.Slot.{branch_to, pair_of, IsBranchSlot}
 use Rattle.be_tree.proofs.Builds.Parts.{one_branch, one_slot}
 use Rattle.be_tree.proofs.Nodes.Slots.{child_branch}
 use Rattle.be_tree.proofs.Sizes.InHand.{takes_then}
@@ -138,8 +140,39 @@ pub none_of : {A : Type 0} (xs : List A) → length xs ≡ 0 → [] ≡ xs
 none_of [] e = refl
 none_of (x ∷ xs) e = absurd (omega (arith, e))
 
-pub drop_all : {A : Type 0} (n : ℕ) (xs : List A) → length xs ≤ n → drop n xs ≡ []
-drop_all zero [] le = refl
-drop_all zero (x ∷ xs) le = absurd (omega (arith, le))
-drop_all (suc n) [] le = refl
-drop_all (suc n) (x ∷ xs) le = drop_all n xs (omega (arith, le))
+pub not_none : (n : ℕ) → (n ≡ 0 → ⊥) → 0 < n
+not_none zero f = absurd (f refl)
+not_none (suc n) f = omega arith
+
+module _ {S K : Type 0} (kept_of : S → K) (page_state_of : S → ℕ → PageState) (words_of : S → ℕ → ℕ → ℕ) where
+  -- all pairs are written to one leaf
+  pub rest_one : (before after : TreeBuilder) (old new : S) → IsBuilder (page_state_of old) (words_of old) before → 12 < length (pairs_given (words_of old) before) → length before.items.items ≤ 12
+      → Writes kept_of page_state_of words_of (length before.items.items) before after old new → WritesAll kept_of page_state_of words_of before after old new
+  rest_one before after old new builder many few writes = record {
+    begun = writes.begun;
+    gains = writes.gains;
+    none = writes.rest ∙ drop-length before.items.items;
+    fewest = omega (arith, writes.one_more, builder.full, builder.enough (omega (arith, builder.full, many, few)), few);
+    takes = λ n. omega (arith, writes.takes n, writes.one_more);
+  }
+
+  -- or to two
+  pub rest_two : (before mid_builder after : TreeBuilder) (old mid new : S) → IsBuilder (page_state_of old) (words_of old) before → 12 < length before.items.items
+      → Writes kept_of page_state_of words_of (length before.items.items - 6) before mid_builder old mid → Writes kept_of page_state_of words_of 6 mid_builder after mid new
+      → WritesAll kept_of page_state_of words_of before after old new
+  rest_two before mid_builder after old mid new builder many first last =
+      let left : length mid_builder.items.items ≡ 6 = omega (arith, ap length first.rest, length-drop (length before.items.items - 6) before.items.items, many) in
+      record {
+        begun = last.begun;
+        gains = gains_then kept_of page_state_of words_of before after mid_builder old mid new first.gains last.gains;
+        none = last.rest ∙ drop_of_length-le mid_builder.items.items (omega (arith, left));
+        fewest = omega (arith, first.one_more, last.one_more, builder.full, builder.few, many);
+        takes = λ n. omega (arith, first.takes n, last.takes n, first.one_more, last.one_more);
+      }
+
+  pub rest_left : (before mid_builder : TreeBuilder) (old mid : S) → 12 < length before.items.items
+      → Writes kept_of page_state_of words_of (length before.items.items - 6) before mid_builder old mid → length mid_builder.items.items ≡ 6
+  rest_left before mid_builder old mid many first = omega (arith, ap length first.rest, length-drop (length before.items.items - 6) before.items.items, many)
+
+  pub taken_count : (builder : TreeBuilder) (old : S) → length (pages_taken (words_of old) builder) ≡ length builder.leaves.items
+  taken_count builder old = leaf_pages (words_of old) (branches_of (words_of old) builder.leaves.items) ∙ length-map builder.leaves.items (pair_of (words_of old) (record { key = []; payload = [] }))

@@ -1,7 +1,8 @@
 -- The pages of a level, which are written one after another.
 use Rattle.std.proofs.Common.{◌≡◌, ℕ, zero, suc, ◌+◌, ◌-◌, ◌*◌, ◌<◌, ◌≤◌, ◌^◌, List, [], ◌∷◌, ◌++◌, length, get_or, map, take, drop, All, IsTrue, ap, sym, subst, ◌∙◌, refl, arith, zero-add}
 use Rattle.std.specs.List.{range_with_len}
-use Rattle.std.proofs.lemmas.List.{append-nil, get_or-map, length-append, length-map, map-append, take-append-drop}
+use Rattle.std.proofs.Math.Seq.{take-length}
+use Rattle.std.proofs.lemmas.List.{append-nil, get_or-map, length-append, length-drop, length-map, length-take-le, map-append, take-append-drop}
 use Rattle.std.proofs.lemmas.List.Elements.{All-append, All-nil}
 use Rattle.be_pages.specs.declared.room.PageState.{PageState}
 use Rattle.be_pages.specs.Pages.{times, Swaps}
@@ -17,7 +18,7 @@ use Rattle.be_tree.specs.Building.{branches_of}
 use Rattle.be_tree.specs.Counting.{TakesAtMost}
 use Rattle.be_tree.specs.Slot.{branch_to, pair_of, pairs_of, IsBranchSlot, IsReady}
 use Rattle.be_tree.proofs.Builds.Fewest.{no_pages, no_pairs}
-use Rattle.be_tree.proofs.Nodes.Slots.{IsApart, all_apart_nil, all_ready_swaps, branches_ready, child_branch, pairs_swaps}
+use Rattle.be_tree.proofs.Nodes.Slots.{IsApart, all_apart_nil, apart_branch, all_ready_swaps, branches_ready, child_branch, pairs_swaps}
 use Rattle.be_tree.proofs.Shape.Parts.{all_one, back_below, back_pairs, becomes_append, becomes_branch, becomes_same}
 use Rattle.be_tree.proofs.Sizes.InHand.{takes_same, takes_swaps, takes_then}
 
@@ -37,7 +38,6 @@ stored_list f xs n len same = subst (λ m. map f (range_with_len 0 m) ≡ xs) (s
 -- branches whose pages are below them aren't among pages that aren't
 apart_below : (m : ℕ) (w : ℕ → ℕ → ℕ) (before : List ℕ) (slots : List Slot) → All IsBranchSlot slots
     → ((q : ℕ) → times q before + times q (pages_below (suc m) w (branches_of w slots)) ≤ 1) → All (IsApart before) slots
-unfolding IsApart
 apart_below m w before slots are once = λ i d lt.
     let given : Pair = record { key = []; payload = [] } in
     one (get_or slots i d) (are i d lt)
@@ -46,17 +46,25 @@ apart_below m w before slots are once = λ i d lt.
   where
     one : (slot : Slot) → IsBranchSlot slot → 0 < times (child (pair_of w (record { key = []; payload = [] }) slot)) (pages_below (suc m) w (branches_of w slots)) → IsApart before slot
     one (At at page) is some = absurd is
-    one (Branch page) is some = omega (arith, once page, subst (λ p. 0 < times p (pages_below (suc m) w (branches_of w slots))) (child_branch w page is) some)
+    one (Branch page) is some = apart_branch before page (omega (arith, once page, subst (λ p. 0 < times p (pages_below (suc m) w (branches_of w slots))) (child_branch w page is) some))
     one New is some = absurd is
 
 -- the first items of a list, up to the end of a part of it
 pub take_part : {A : Type 0} (at end : ℕ) (xs : List A) → at ≤ end → take end xs ≡ take at xs ++ take (end - at) (drop at xs)
 take_part zero end xs le = let e : end - 0 ≡ end = omega arith in ap (λ n. take n xs) (sym e)
 take_part (suc at) zero xs le = absurd (omega (arith, le))
-take_part (suc at) (suc end) [] le = refl
+take_part (suc at) (suc end) [] le = sym (none_taken (suc end - suc at))
+  where
+    none_taken : {A : Type 0} (n : ℕ) → take {A = A} n [] ≡ []
+    none_taken zero = refl
+    none_taken (suc n) = refl
 take_part (suc at) (suc end) (x ∷ xs) le =
     let e : suc end - suc at ≡ end - at = omega arith in
     ap (λ ys. x ∷ ys) (take_part at end xs (omega (arith, le)) ∙ ap (λ n. take at xs ++ take n (drop at xs)) (sym e))
+
+-- a pair with a given key and payload
+pub same_pair : (p : Pair) (key payload : List ℕ) → p.key ≡ key → p.payload ≡ payload → p ≡ record { key = key; payload = payload }
+same_pair p key payload k e = λ i. record { key = k i; payload = e i }
 
 module _ {S K : Type 0} (kept_of : S → K) (page_state_of : S → ℕ → PageState) (words_of : S → ℕ → ℕ → ℕ) where
   -- one more branch, to a page that was taken
@@ -217,6 +225,46 @@ module _ {S K : Type 0} (kept_of : S → K) (page_state_of : S → ℕ → PageS
         holds = λ n. omega (arith, length-append above (Branch page ∷ []), first.holds n, takes_swaps kept_of page_state_of words_of [] (page ∷ []) mid new swaps n);
       }
 
--- a pair without bytes
-pub no_pair : (p : Pair) → p.key ≡ [] → p.payload ≡ [] → p ≡ record { key = []; payload = [] }
-no_pair p k e = λ i. record { key = k i; payload = e i }
+  -- the same at a level that is given by a number above 0
+  module _ (level : ℕ) (high : 0 < level) (slots above : List Slot) (at count : ℕ) (old mid : S)
+      (below : IsBelow level (page_state_of old) (words_of old) (branches_of (words_of old) slots)) (are : All IsBranchSlot slots)
+      (first : IsPart (suc (level - 1)) slots above at old mid) where
+    is : level ≡ suc (level - 1)
+    is = omega (arith, high)
+
+    its : IsBelow (suc (level - 1)) (page_state_of old) (words_of old) (branches_of (words_of old) slots)
+    its = subst (λ n. IsBelow n (page_state_of old) (words_of old) (branches_of (words_of old) slots)) is below
+
+    parted : take (at + count) slots ≡ take at slots ++ take (at + count - at) (drop at slots)
+    parted = take_part at (at + count) slots (omega arith)
+
+    pub next_ready : All (IsReady (page_state_of mid) (words_of mid)) (take (at + count - at) (drop at slots))
+    next_ready = part_ready (level - 1) slots above (take (at + count - at) (drop at slots)) at (at + count) old mid parted its are first
+
+    pub next_page : (given : Pair) (page : ℕ) (new : S) → given.key ≡ [] → given.payload ≡ [] → 6 ≤ count → at + count ≤ length slots → page < 2 ^ 32
+        → IsWritten level (words_of new) (pairs_of (words_of mid) given (take (at + count - at) (drop at slots))) (branch_to (words_of new) page) → Swaps kept_of page_state_of words_of [] (page ∷ []) mid new
+        → IsPart (suc (level - 1)) slots (above ++ Branch page ∷ []) (at + count) old new
+    next_page given page new no_key no_payload enough fits small written swaps =
+        let part = take (at + count - at) (drop at slots) in
+        let long : length part ≡ count = omega (arith, length-take-le (at + count - at) (drop at slots) (omega (arith, length-drop at slots, fits))) in
+        more_part (level - 1) slots above part at (at + count) old mid parted its are first page new (omega (arith, enough, long)) small
+        (subst (λ n. IsWritten n (words_of new) (branches_of (words_of mid) part) (branch_to (words_of new) page)) is
+        (subst (λ p. IsWritten level (words_of new) (pairs_of (words_of mid) p part) (branch_to (words_of new) page)) (same_pair given [] [] no_key no_payload) written)) swaps
+
+  module _ (level : ℕ) (high : 0 < level) (slots above : List Slot) (at : ℕ) (old new : S) (e : at ≡ length slots) (part : IsPart (suc (level - 1)) slots above at old new) where
+    this : suc (level - 1) ≡ level
+    this = omega (arith, high)
+
+    all : take at slots ≡ slots
+    all = ap (λ n. take n slots) e ∙ take-length slots
+
+    pub all_parts : Becomes kept_of page_state_of words_of (pages_below level (words_of old) (branches_of (words_of old) slots)) (pairs_below level (words_of old) (branches_of (words_of old) slots)) (suc level) (branches_of (words_of new) above) old new
+    all_parts =
+        subst (λ xs. Becomes kept_of page_state_of words_of (pages_below level (words_of old) (branches_of (words_of old) xs)) (pairs_below level (words_of old) (branches_of (words_of old) xs)) (suc level) (branches_of (words_of new) above) old new) all
+        (subst (λ n. Becomes kept_of page_state_of words_of (pages_below n (words_of old) (branches_of (words_of old) (take at slots))) (pairs_below n (words_of old) (branches_of (words_of old) (take at slots))) (suc n) (branches_of (words_of new) above) old new) this
+        part.becomes)
+
+    pub all_pages : length (pages_below (suc level) (words_of new) (branches_of (words_of new) above)) ≡ length above + length (pages_below level (words_of old) (branches_of (words_of old) slots))
+    all_pages =
+        subst (λ xs. length (pages_below (suc level) (words_of new) (branches_of (words_of new) above)) ≡ length above + length (pages_below level (words_of old) (branches_of (words_of old) xs))) all
+        (subst (λ n. length (pages_below (suc n) (words_of new) (branches_of (words_of new) above)) ≡ length above + length (pages_below n (words_of old) (branches_of (words_of old) (take at slots)))) this part.pages)
