@@ -15,7 +15,7 @@ use Rattle.be_tree.specs.declared.slot.Slot.{Slot}
 use Rattle.be_tree.specs.declared.slot.Slot.TheVariants.{Branch}
 use Rattle.be_tree.specs.declared.building.TreeBuilder.{TreeBuilder}
 use Rattle.be_tree.specs.Building.{branches_of, pairs_given, pages_taken, items_on, pages_under, AreFewest, Gains, HoldsFewer, IsBegun, IsBuilder, IsShort, Writes, WritesAll}
-use Rattle.be_tree.specs.Counting.{TakesAtMost}
+use Rattle.be_tree.specs.Counting.{in_hand, TakesAtMost}
 use Rattle.be_tree.specs.Slot.{branch_to, pair_of, IsBranchSlot}
 use Rattle.be_tree.proofs.Builds.Parts.{one_branch, one_slot}
 use Rattle.be_tree.proofs.Nodes.Slots.{child_branch}
@@ -77,7 +77,7 @@ module _ {S K : Type 0} (kept_of : S → K) (page_state_of : S → ℕ → PageS
       record {
         begun = record {
           leaves = becomes.below;
-          slots = subst (All IsBranchSlot) (sym leaves_are) (one_slot leaves page begun.slots small);
+          slots = subst (All IsBranchSlot) (sym leaves_are) (one_slot kept_of page_state_of words_of leaves page begun.slots small);
           keys_fit = subst (All (λ item. length item.key ≤ 264)) (sym items_are) (all_right (λ item. length item.key ≤ 264) part rest (subst (All (λ item. length item.key ≤ 264)) parts begun.keys_fit));
           rising = subst IsRising (sym same) begun.rising;
         };
@@ -133,8 +133,8 @@ short_leaf had taken n s t u many fits took fewer page_state words root tree le 
     omega (arith, took k, fewer k, fits, needs 1 n (omega (arith, many)) (low_more 0 n (λ l lt. absurd (omega (arith, lt))) many) page_state words root tree le)
 
 -- no page was left above the leaves
-pub short_above : (had taken now n : ℕ) (s t u : ℕ → PageState) → now ≡ had + taken → TakesAtMost taken s t → IsShort now n t u → IsShort had n s u
-short_above had taken now n s t u e took short page_state words root tree le k = omega (arith, e, took k, short page_state words root tree le k)
+pub short_above : (had now n : ℕ) (s t u : ℕ → PageState) → ((k : ℕ) → in_hand k t + had ≤ in_hand k s + now) → IsShort now n t u → IsShort had n s u
+short_above had now n s t u took short page_state words root tree le k = omega (arith, took k, short page_state words root tree le k)
 
 pub none_of : {A : Type 0} (xs : List A) → length xs ≡ 0 → [] ≡ xs
 none_of [] e = refl
@@ -165,7 +165,7 @@ module _ {S K : Type 0} (kept_of : S → K) (page_state_of : S → ℕ → PageS
       record {
         begun = last.begun;
         gains = gains_then kept_of page_state_of words_of before after mid_builder old mid new first.gains last.gains;
-        none = last.rest ∙ drop_of_length-le mid_builder.items.items (omega (arith, left));
+        none = last.rest ∙ drop_of_length-le mid_builder.items.items {i = 6} (omega (arith, left));
         fewest = omega (arith, first.one_more, last.one_more, builder.full, builder.few, many);
         takes = λ n. omega (arith, first.takes n, last.takes n, first.one_more, last.one_more);
       }

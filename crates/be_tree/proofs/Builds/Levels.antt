@@ -1,6 +1,6 @@
 -- The levels above the leaves, up to the root.
 use Rattle.std.proofs.Common.{◌≡◌, ℕ, zero, suc, ◌+◌, ◌/◌, ◌<◌, ◌≤◌, ◌^◌, ◌⊎◌, List, [], ◌∷◌, ◌++◌, All, Result, Ok, Err, length, ap, sym, subst, ◌∙◌, refl, inl, inr, arith}
-use Rattle.std.specs.Prelude.{IfErr}
+use Rattle.std.specs.Prelude.{IfErr, IfOk, OnErr, OnOk}
 use Rattle.std.proofs.lemmas.Bool.{cases_lt}
 use Rattle.std.proofs.lemmas.List.{length-map}
 use Rattle.be_pages.specs.declared.room.PageState.{PageState}
@@ -180,3 +180,16 @@ pub as_refused : {A : Type 0} (r : Result A Refusal) (full : ℕ → Type 0) (fe
     → IfErr r (λ e. (e ≡ OutOfMemory) ⊎ (IsFullOf full e × more))
 as_refused (Ok x) full few more f h = tt
 as_refused (Err e) full few more f h = elim h [ inl o ↦ inl o | inr g ↦ inr (g.0, f g.1) ]
+
+-- a result that is passed on
+pub ok_as : {A E P Q : Type 0} (r : Result A E) → (P → Q) → OnOk r P → OnOk r Q
+ok_as (Ok x) f p = f p
+ok_as (Err e) f p = tt
+
+pub err_as : {A E P Q : Type 0} (r : Result A E) → (P → Q) → OnErr r P → OnErr r Q
+err_as (Ok x) f p = tt
+err_as (Err e) f p = f p
+
+pub if_ok_as : {A E : Type 0} (r : Result A E) (P Q : A → Type 0) → ((x : A) → P x → Q x) → IfOk r P → IfOk r Q
+if_ok_as (Ok x) P Q f p = f x p
+if_ok_as (Err e) P Q f p = tt

@@ -27,3 +27,6 @@ loop-i-preserved g c =
       only = only_then g.R.Look.kept g.R.Look.page_state g.R.Look.words c.args.page (item_place 0) here c.args.room.now c.loop-i.room only
           here (here + 42) (item_place 0) (item_place (i + 1)) c.store_item.new.room c.store_item.ensures.only (omega arith) (omega arith) (omega arith) (omega arith);
     }
+
+pub returns-clause-items : goal.returns-clause-items
+returns-clause-items g c = λ k d lt. c.loop-i.invariant.stored k d (omega (arith, lt, c.loop-i-test.false))

@@ -10,4 +10,4 @@ loop-alloc-init g c = risen_first g.R.Look.kept g.R.Look.page_state g.R.Look.wor
 pub loop-alloc-preserved : goal.loop-alloc-preserved
 loop-alloc-preserved g c =
     risen_next g.R.Look.kept g.R.Look.page_state g.R.Look.words c.args.leaves.items c.loop-alloc.slots.items c.loop-alloc.level c.args.room.now c.loop-alloc.room c.loop-alloc.invariant (omega (arith, c.loop-alloc-test.true))
-    c.in_ok-slots.field-0.items c.write_level.new.room c.in_ok-slots.ensures.ok c.in_ok-slots.ensures.branches c.in_ok-slots.ensures.size c.in_ok-slots.ensures.pages c.in_ok-slots.ensures.takes
+    c.in_ok-slots.slots.items c.write_level.new.room c.in_ok-slots.ensures.ok c.in_ok-slots.ensures.branches c.in_ok-slots.ensures.size c.in_ok-slots.ensures.pages c.in_ok-slots.ensures.takes
