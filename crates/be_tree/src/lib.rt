@@ -13,6 +13,8 @@
 //! up. A page that the write has already taken is overwritten in place, so a second change nearby
 //! usually takes no page. `clear` gives up each page of a tree.
 //!
+//! A `TreeBuilder` makes a tree anew, with full pages, from pairs in ascending order.
+//!
 //! # What is proved
 //! On the list that be_tree_reading decodes from the words, `insert` puts a pair, `remove` removes
 //! one, and `clear` leaves the empty list. The old tree's pages that the new tree doesn't share are

@@ -1,5 +1,5 @@
 -- The levels above the leaves, up to the root.
-use Rattle.std.proofs.Common.{◌≡◌, ℕ, zero, suc, ◌+◌, ◌/◌, ◌<◌, ◌≤◌, ◌^◌, ◌⊎◌, List, [], ◌∷◌, ◌++◌, All, Result, Ok, Err, length, ap, sym, subst, ◌∙◌, refl, inl, inr, arith}
+use Rattle.std.proofs.Common.{◌≡◌, ℕ, zero, suc, ◌+◌, ◌-◌, ◌/◌, ◌<◌, ◌≤◌, ◌^◌, ◌⊎◌, List, [], ◌∷◌, ◌++◌, All, Result, Ok, Err, length, ap, sym, subst, ◌∙◌, refl, inl, inr, arith}
 use Rattle.std.specs.Prelude.{IfErr, IfOk, OnErr, OnOk}
 use Rattle.std.proofs.lemmas.Bool.{cases_lt}
 use Rattle.std.proofs.lemmas.List.{length-map}
@@ -16,11 +16,11 @@ use Rattle.be_value.specs.declared.refusals.Refusal.TheVariants.{OutOfMemory}
 use Rattle.be_tree_reading.proofs.Shape.Below.{beside_pages}
 use Rattle.be_tree.specs.declared.slot.Slot.{Slot}
 use Rattle.be_tree.specs.Building.{branches_of, items_on, pages_under, HoldsFewer, IsShort, AreFewest}
-use Rattle.be_tree.specs.Slot.{branch_to, pair_of, pairs_of, IsBranchSlot}
+use Rattle.be_tree.specs.Slot.{branch_to, pair_of, pairs_of, IsBranchSlot, IsReady}
 use Rattle.be_tree.specs.Counting.{in_hand, TakesAtMost, TakesFewer}
 use Rattle.be_tree.proofs.Builds.Fewest.{IsLow, leaf_pages, needs}
 use Rattle.be_tree.proofs.Builds.Parts.{same_pair}
-use Rattle.be_tree.proofs.Nodes.Slots.{child_branch}
+use Rattle.be_tree.proofs.Nodes.Slots.{branches_ready, child_branch}
 use Rattle.be_tree.proofs.Shape.Parts.{becomes_same}
 
 -- the write has taken the pages of the levels below this one, some of which it had before
@@ -101,6 +101,11 @@ module _ {S K : Type 0} (kept_of : S → K) (page_state_of : S → ℕ → PageS
       where
         by : (l : ℕ) → 0 < l → IsLow l (length (pairs_below 1 (words_of old) (branches_of (words_of old) leaves))) → 0 < length (pairs_below 1 (words_of old) (branches_of (words_of old) leaves))
         by l high low = omega (arith, low 0 high)
+
+    pub risen_ready : All (IsReady (page_state_of mid) (words_of mid)) slots
+    risen_ready =
+        let e : level ≡ suc (level - 1) = omega (arith, risen.high) in
+        branches_ready (level - 1) (page_state_of mid) (words_of mid) (record { key = []; payload = [] }) slots risen.are (subst (λ n. IsBelow n (page_state_of mid) (words_of mid) (branches_of (words_of mid) slots)) e risen.becomes.below)
 
     -- the next level
     module _ (many : 12 < length slots) where
