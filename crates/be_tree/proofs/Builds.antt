@@ -3,3 +3,4 @@ pub mod Fewest
 pub mod Parts
 pub mod Leaves
 pub mod Levels
+pub mod Ends

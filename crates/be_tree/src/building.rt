@@ -137,11 +137,7 @@ fn write_level<R: Room>(
 }
 
 /// Writes the levels above leaves, given the branches to them, and returns the root.
-fn write_above<R: Room>(
-    alloc: Global,
-    room: &mut R,
-    leaves: Vec<Slot>,
-) -> Result<u64, Refusal>
+fn write_above<R: Room>(alloc: Global, room: &mut R, leaves: Vec<Slot>) -> Result<u64, Refusal>
     requires below { IsBelow 1 (R.page_state room.old) (R.words room.old)
         (branches_of (R.words room.old) leaves.items) }
     requires branches { All IsBranchSlot leaves.items }
@@ -231,12 +227,7 @@ impl TreeBuilder {
 
     /// Appends a pair, whose key is above those before it. After an error the builder can't be used
     /// again.
-    pub fn push<R: Room>(
-        &mut self,
-        room: &mut R,
-        key: &[u8],
-        payload: &[u8],
-    ) -> Result<(), Refusal>
+    pub fn push<R: Room>(&mut self, room: &mut R, key: &[u8], payload: &[u8]) -> Result<(), Refusal>
         requires builds { IsBuilder (R.page_state room.old) (R.words room.old) self.old }
         requires rising { IsRising (pairs_given (R.words room.old) self.old
             ++ record { key = key.now; payload = payload.now } ∷ []) }

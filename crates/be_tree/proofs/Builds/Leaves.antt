@@ -1,27 +1,24 @@
 -- The leaves of a builder.
-use Rattle.std.proofs.Common.{◌≡◌, ℕ, zero, suc, ◌+◌, ◌-◌, ◌*◌, ◌/◌, ◌<◌, ◌≤◌, ◌^◌, List, [], ◌∷◌, ◌++◌, length, drop, take, All, ap, sym, subst, ◌∙◌, refl, inl, inr, arith}
-use Rattle.std.proofs.lemmas.Bool.{cases_lt}
+use Rattle.std.proofs.Common.{◌≡◌, ℕ, zero, suc, ◌+◌, ◌-◌, ◌<◌, ◌≤◌, ◌^◌, List, [], ◌∷◌, ◌++◌, length, drop, take, All, ap, sym, subst, ◌∙◌, refl, arith}
 use Rattle.std.proofs.lemmas.List.{append-nil, append_assoc, length-append, length-drop, length-map, take-append-drop}
 use Rattle.std.proofs.Math.ListN.{drop_of_length-le}
-use Rattle.std.proofs.Math.Seq.{drop-length}
 use Rattle.be_pages.specs.declared.room.PageState.{PageState}
-use Rattle.be_pages.specs.Pages.{times, Swaps}
+use Rattle.be_pages.specs.Pages.{Swaps}
 use Rattle.be_tree_reading.specs.Pair.{Pair}
 use Rattle.be_tree_reading.specs.Key.{IsRising}
-use Rattle.be_tree_reading.specs.Tree.{child, pages, pairs_below, pages_below, IsBelow, IsTree, IsWritten, Becomes, BecomesTree}
+use Rattle.be_tree_reading.specs.Tree.{child, pages, pairs_below, pages_below, IsBelow, IsWritten, Becomes, BecomesTree}
 use Rattle.be_tree_reading.proofs.Order.{IsRising_left, IsRising_right}
 use Rattle.be_tree_reading.proofs.Shape.Below.{all_left, all_right}
 use Rattle.be_tree.specs.declared.slot.Slot.{Slot}
 use Rattle.be_tree.specs.declared.slot.Slot.TheVariants.{Branch}
 use Rattle.be_tree.specs.declared.building.TreeBuilder.{TreeBuilder}
-use Rattle.be_tree.specs.Building.{branches_of, pairs_given, pages_taken, items_on, pages_under, AreFewest, Gains, HoldsFewer, IsBegun, IsBuilder, IsShort, Writes, WritesAll}
+use Rattle.be_tree.specs.Building.{branches_of, pairs_given, pages_taken, pages_under, AreFewest, Gains, HoldsFewer, IsBegun, IsBuilder, IsShort, Writes, WritesAll}
 use Rattle.be_tree.specs.Counting.{in_hand, TakesAtMost}
 use Rattle.be_tree.specs.Slot.{branch_to, pair_of, IsBranchSlot}
 use Rattle.be_tree.proofs.Builds.Parts.{one_branch, one_slot}
 use Rattle.be_tree.proofs.Nodes.Slots.{child_branch}
-use Rattle.be_tree.proofs.Sizes.InHand.{takes_then}
 use Rattle.be_tree.proofs.Sizes.Refusals.{takes_page}
-use Rattle.be_tree.proofs.Builds.Fewest.{leaf_pages, needs, IsLow}
+use Rattle.be_tree.proofs.Builds.Fewest.{leaf_pages, needs}
 use Rattle.be_tree.proofs.Builds.Levels.{fewest_root, low_more, root_pages}
 use Rattle.be_tree_reading.proofs.Frame.{swaps_trans}
 use Rattle.be_tree_reading.proofs.Shape.Roots.{root_written}
@@ -145,18 +142,7 @@ not_none zero f = absurd (f refl)
 not_none (suc n) f = omega arith
 
 module _ {S K : Type 0} (kept_of : S → K) (page_state_of : S → ℕ → PageState) (words_of : S → ℕ → ℕ → ℕ) where
-  -- all pairs are written to one leaf
-  pub rest_one : (before after : TreeBuilder) (old new : S) → IsBuilder (page_state_of old) (words_of old) before → 12 < length (pairs_given (words_of old) before) → length before.items.items ≤ 12
-      → Writes kept_of page_state_of words_of (length before.items.items) before after old new → WritesAll kept_of page_state_of words_of before after old new
-  rest_one before after old new builder many few writes = record {
-    begun = writes.begun;
-    gains = writes.gains;
-    none = writes.rest ∙ drop-length before.items.items;
-    fewest = omega (arith, writes.one_more, builder.full, builder.enough (omega (arith, builder.full, many, few)), few);
-    takes = λ n. omega (arith, writes.takes n, writes.one_more);
-  }
-
-  -- or to two
+  -- all pairs are written to two leaves
   pub rest_two : (before mid_builder after : TreeBuilder) (old mid new : S) → IsBuilder (page_state_of old) (words_of old) before → 12 < length before.items.items
       → Writes kept_of page_state_of words_of (length before.items.items - 6) before mid_builder old mid → Writes kept_of page_state_of words_of 6 mid_builder after mid new
       → WritesAll kept_of page_state_of words_of before after old new
@@ -169,10 +155,6 @@ module _ {S K : Type 0} (kept_of : S → K) (page_state_of : S → ℕ → PageS
         fewest = omega (arith, first.one_more, last.one_more, builder.full, builder.few, many);
         takes = λ n. omega (arith, first.takes n, last.takes n, first.one_more, last.one_more);
       }
-
-  pub rest_left : (before mid_builder : TreeBuilder) (old mid : S) → 12 < length before.items.items
-      → Writes kept_of page_state_of words_of (length before.items.items - 6) before mid_builder old mid → length mid_builder.items.items ≡ 6
-  rest_left before mid_builder old mid many first = omega (arith, ap length first.rest, length-drop (length before.items.items - 6) before.items.items, many)
 
   pub taken_count : (builder : TreeBuilder) (old : S) → length (pages_taken (words_of old) builder) ≡ length builder.leaves.items
   taken_count builder old = leaf_pages (words_of old) (branches_of (words_of old) builder.leaves.items) ∙ length-map builder.leaves.items (pair_of (words_of old) (record { key = []; payload = [] }))

@@ -1,14 +1,13 @@
 -- The levels above the leaves, up to the root.
-use Rattle.std.proofs.Common.{◌≡◌, ℕ, zero, suc, ◌+◌, ◌-◌, ◌/◌, ◌<◌, ◌≤◌, ◌^◌, ◌⊎◌, List, [], ◌∷◌, ◌++◌, All, Result, Ok, Err, length, ap, sym, subst, ◌∙◌, refl, inl, inr, arith}
+use Rattle.std.proofs.Common.{◌≡◌, ℕ, zero, suc, ◌+◌, ◌-◌, ◌/◌, ◌<◌, ◌≤◌, ◌^◌, ◌⊎◌, List, [], ◌∷◌, All, Result, Ok, Err, length, ap, sym, subst, ◌∙◌, inl, inr, arith}
 use Rattle.std.specs.Prelude.{IfErr, IfOk, OnErr, OnOk}
 use Rattle.std.proofs.lemmas.Bool.{cases_lt}
 use Rattle.std.proofs.lemmas.List.{length-map}
 use Rattle.be_pages.specs.declared.room.PageState.{PageState}
-use Rattle.be_pages.specs.Pages.{times, Swaps}
+use Rattle.be_pages.specs.Pages.{Swaps}
 use Rattle.be_tree_reading.specs.Pair.{Pair}
-use Rattle.be_tree_reading.specs.Page.{items_of, level_of}
 use Rattle.be_pages.specs.Refusal.{IsFullOf}
-use Rattle.be_tree_reading.specs.Tree.{child, pages, pages_at, pages_below, pairs_below, Becomes, BecomesTree, IsBelow, IsTree, IsWritten, minimum_of_root}
+use Rattle.be_tree_reading.specs.Tree.{child, pages, pages_at, pages_below, pairs_below, Becomes, BecomesTree, IsBelow, IsWritten, minimum_of_root}
 use Rattle.be_tree_reading.proofs.Frame.{swaps_trans}
 use Rattle.be_tree_reading.proofs.Shape.Roots.{becomes_tree, root_written}
 use Rattle.be_value.specs.declared.refusals.Refusal.{Refusal}

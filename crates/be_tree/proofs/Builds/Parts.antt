@@ -1,5 +1,5 @@
 -- The pages of a level, which are written one after another.
-use Rattle.std.proofs.Common.{◌≡◌, ℕ, zero, suc, ◌+◌, ◌-◌, ◌*◌, ◌<◌, ◌≤◌, ◌^◌, List, [], ◌∷◌, ◌++◌, length, get_or, map, take, drop, All, IsTrue, ap, sym, subst, ◌∙◌, refl, arith, zero-add}
+use Rattle.std.proofs.Common.{◌≡◌, ℕ, zero, suc, ◌+◌, ◌-◌, ◌<◌, ◌≤◌, ◌^◌, List, [], ◌∷◌, ◌++◌, length, get_or, map, take, drop, All, ap, sym, subst, ◌∙◌, refl, arith, zero-add}
 use Rattle.std.specs.List.{range_with_len}
 use Rattle.std.proofs.Math.Seq.{take-length}
 use Rattle.std.proofs.lemmas.List.{append-nil, get_or-map, length-append, length-drop, length-map, length-take-le, map-append, take-append-drop}
@@ -10,7 +10,6 @@ use Rattle.be_tree_reading.specs.Pair.{Pair}
 use Rattle.be_tree_reading.specs.Key.{IsRising}
 use Rattle.be_tree_reading.specs.Page.{items_of}
 use Rattle.be_tree_reading.specs.Tree.{child, pairs_below, pages_below, pages_at, pairs_at, AreShaped, IsBelow, IsBranch, IsNode, IsWritten, Becomes}
-use Rattle.be_tree_reading.proofs.Order.{IsRising_left}
 use Rattle.be_tree_reading.proofs.Shape.Below.{all_left, all_right, below_left, below_right, beside_pages, child_page, pages_append, pairs_append, times_pages}
 use Rattle.be_tree.specs.declared.slot.Slot.{Slot}
 use Rattle.be_tree.specs.declared.slot.Slot.TheVariants.{At, Branch, New}
@@ -20,7 +19,7 @@ use Rattle.be_tree.specs.Slot.{branch_to, pair_of, pairs_of, IsBranchSlot, IsRea
 use Rattle.be_tree.proofs.Builds.Fewest.{no_pages, no_pairs}
 use Rattle.be_tree.proofs.Nodes.Slots.{IsApart, all_apart_nil, apart_branch, all_ready_swaps, branches_ready, child_branch, pairs_swaps}
 use Rattle.be_tree.proofs.Shape.Parts.{all_one, back_below, back_pairs, becomes_append, becomes_branch, becomes_same}
-use Rattle.be_tree.proofs.Sizes.InHand.{takes_same, takes_swaps, takes_then}
+use Rattle.be_tree.proofs.Sizes.InHand.{takes_same, takes_swaps}
 
 -- a list that is read item by item
 pub stored_list : {A : Type 0} (f : ℕ → A) (xs : List A) (n : ℕ) → n ≡ length xs → ((k : ℕ) (d : A) → k < n → f k ≡ get_or xs k d) → map f (range_with_len 0 n) ≡ xs

@@ -21,8 +21,9 @@ loop-i-preserved g c =
             (still.0 ∙ was.0, still.1)
         | inr past ↦
             let e : i ≡ k = omega (arith, past, less) in
+            let is : c.index-items-i.result ≡ get_or c.args.items.now i d = c.index-items-i.is ∙ get_or_default c.args.items.now i _ d lt in
             subst (λ n. IsStored (g.R.Look.words c.store_item.new.room c.args.page) n (get_or c.args.items.now n d)) e
-            (c.store_item.ensures.stored.0 ∙ c.index-items-i.is ∙ get_or_default c.args.items.now i _ d lt, c.store_item.ensures.stored.1)
+            (c.store_item.ensures.stored.0 ∙ is, c.store_item.ensures.stored.1)
       ];
       only = only_then g.R.Look.kept g.R.Look.page_state g.R.Look.words c.args.page (item_place 0) here c.args.room.now c.loop-i.room only
           here (here + 42) (item_place 0) (item_place (i + 1)) c.store_item.new.room c.store_item.ensures.only (omega arith) (omega arith) (omega arith) (omega arith);

@@ -1,4 +1,4 @@
-use Rattle.std.proofs.Common.{◌≡◌, ◌≢◌, ℕ, [], ◌<◌, IsTrue, get_or, length, map, ap, sym, subst, ◌∙◌, arith, zero-add}
+use Rattle.std.proofs.Common.{◌≡◌, ◌≢◌, ℕ, [], ◌<◌, IsTrue, get_or, length, ap, sym, subst, ◌∙◌, arith}
 use Rattle.be_pages.specs.declared.room.PageState.TheVariants.{Filled, Taken}
 use Rattle.be_tree_reading.specs.Page.{IsPage, item_at, item_place}
 use Rattle.be_tree_reading.specs.Pair.{Pair}

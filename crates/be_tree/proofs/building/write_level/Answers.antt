@@ -1,4 +1,4 @@
-use Rattle.std.proofs.Common.{◌≡◌, ◌+◌, ◌-◌, ◌/◌, ◌<◌, ◌≤◌, [], ◌∷◌, ◌++◌, suc, length, take, ap, sym, subst, ◌∙◌, refl, inl, inr, rules, arith}
+use Rattle.std.proofs.Common.{◌≡◌, ◌+◌, ◌-◌, ◌/◌, ◌≤◌, [], ◌∷◌, suc, length, take, ap, sym, subst, ◌∙◌, inl, inr, rules, arith}
 use Rattle.std.proofs.lemmas.List.{length-append}
 use Rattle.be_tree.specs.declared.slot.Slot.TheVariants.{Branch}
 use Rattle.be_tree.specs.Building.{HoldsFewer, branches_of}

@@ -1,4 +1,4 @@
-use Rattle.std.proofs.Common.{◌≡◌, [], length, refl, arith}
+use Rattle.std.proofs.Common.{◌≡◌, length, refl, arith}
 use Rattle.be_pages.specs.Pages.{untouched}
 use Rattle.be_tree.proofs.Builds.Leaves.{none_of, not_none, only_tree}
 use Rattle.be_tree.proofs.building.write_only.Goals as goal

@@ -1,4 +1,4 @@
-use Rattle.std.proofs.Common.{◌≡◌, ◌+◌, ◌≤◌, [], ◌∷◌, ◌++◌, length, ap, sym, ◌∙◌, refl, arith}
+use Rattle.std.proofs.Common.{◌+◌, ◌≤◌, [], ◌∷◌, ◌++◌, length, ap, sym, ◌∙◌, refl, arith}
 use Rattle.std.proofs.lemmas.List.{append_assoc, length-append}
 use Rattle.be_tree_reading.specs.Tree.{pairs_below}
 use Rattle.be_tree.specs.Building.{branches_of, pairs_given, pages_taken, IsShort, HoldsFewer}
@@ -29,8 +29,9 @@ returns-clause-refused g c =
     let had = length (pages_taken (g.R.Look.words c.args.room.now) builder) in
     let n = length (pairs_given (g.R.Look.words c.args.room.now) builder) + 1 in
     let full = c.requires.builds.full in
-    let held : 17 ≤ length builder.items.items = omega (arith, c.if-len.false, c.len.ensures, ap length c.in_ok-push.ensures.items, length-append builder.items.items (c.new.result ∷ [])) in
-    (c.write_first.ensures.refused.0,
-    as_refused c.write_first.result (g.R.Room.full c.write_first.new.room) (HoldsFewer 0 1 s u) (IsShort had n s u)
-    (λ fewer. short_leaf had 0 n s s u (omega (arith, full, held)) (omega (arith, taken_count g.R.Look.kept g.R.Look.page_state g.R.Look.words builder c.args.room.now, full, held)) (takes_same s s refl) fewer)
-    c.write_first.ensures.refused.1)
+    let held : 17 ≤ length builder.items.items = omega (arith, c.if-len.false, c.len.ensures, ap length c.in_ok-push.ensures.items, length-append builder.items.items (c.new.result ∷ [])) in (
+      c.write_first.ensures.refused.0,
+      as_refused c.write_first.result (g.R.Room.full c.write_first.new.room) (HoldsFewer 0 1 s u) (IsShort had n s u)
+          (λ fewer. short_leaf had 0 n s s u (omega (arith, full, held)) (omega (arith, taken_count g.R.Look.kept g.R.Look.page_state g.R.Look.words builder c.args.room.now, full, held)) (takes_same s s refl) fewer)
+          c.write_first.ensures.refused.1,
+    )

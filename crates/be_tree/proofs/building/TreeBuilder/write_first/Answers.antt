@@ -1,4 +1,4 @@
-use Rattle.std.proofs.Common.{◌≡◌, [], ◌∷◌, ◌≤◌, length, take, subst, ◌∙◌, rules, arith}
+use Rattle.std.proofs.Common.{◌≡◌, [], ◌∷◌, length, take, subst, ◌∙◌, rules, arith}
 use Rattle.std.proofs.lemmas.List.{length-take-le}
 use Rattle.be_tree.specs.Slot.{branch_to}
 use Rattle.be_tree_reading.specs.Tree.{IsWritten}

@@ -1,4 +1,4 @@
-use Rattle.std.proofs.Common.{◌≡◌, ◌+◌, ◌-◌, ◌<◌, ◌≤◌, length, refl, subst, rules, arith}
+use Rattle.std.proofs.Common.{◌≡◌, ◌-◌, ◌<◌, length, refl, subst, rules, arith}
 use Rattle.be_tree.specs.Building.{HoldsFewer, IsShort, Writes, pages_taken, pairs_given}
 use Rattle.be_tree_reading.proofs.Frame.{start_trans, swaps_start}
 use Rattle.be_tree.proofs.Builds.Leaves.{rest_two, short_leaf}
