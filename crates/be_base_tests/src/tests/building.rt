@@ -54,21 +54,21 @@ built 25 8 => 4
 built 29 8 => 4
 built 30 8 => 4
 built 143 13 => 13
-built 143 12 => no page is free
+built 143 12 => refused 11 Full 0
 built 144 13 => 13
 built 145 16 => 16
-built 145 15 => no page is free
+built 145 15 => refused 11 Full 0
 built 149 16 => 16
 built 150 16 => 16
 built 156 16 => 16
 built 157 17 => 17
-built 157 16 => no page is free
+built 157 16 => refused 11 Full 0
 built 1728 157 => 157
-built 1728 156 => no page is free
+built 1728 156 => refused 11 Full 0
 built 1729 161 => 161
-built 1729 160 => no page is free
+built 1729 160 => refused 11 Full 0
 built 1734 161 => 161
 built 10000 911 => 911
-built 10000 910 => no page is free";
+built 10000 910 => refused 11 Full 0";
     replies(rt.alloc(), lines)
 }
