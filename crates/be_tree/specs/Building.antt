@@ -1,5 +1,5 @@
 -- A tree that is built from pairs in ascending order, and the fewest pages that it can have.
-use Rattle.std.specs.Prelude.{◌≡◌, ℕ, zero, suc, ◌+◌, ◌*◌, ◌/◌, ◌<◌, ◌≤◌, ◌⊎◌, List, [], ◌∷◌, ◌++◌}
+use Rattle.std.specs.Prelude.{◌≡◌, ℕ, zero, suc, ◌+◌, ◌*◌, ◌/◌, ◌<◌, ◌≤◌, ◌⊎◌, List, [], ◌++◌}
 use Rattle.std.specs.Prelude.{length, drop, All, OnErr, IfErr, Result}
 use Rattle.be_pages.specs.declared.room.PageState.{PageState}
 use Rattle.be_pages.specs.Pages.{KeepsStart, Swaps}
@@ -80,7 +80,7 @@ abbrev pub pages_under : (level n : ℕ) → ℕ
 pages_under zero n = 0
 pages_under (suc level) n = items_on (suc level) n + pages_under level n
 
--- the write holds fewer than `most` more pages than before, not counting `had` that it held before
+-- the pages that the write holds more than before, and `had` others, are fewer than `most`
 abbrev pub HoldsFewer : (had most : ℕ) → (old new : ℕ → PageState) → Type 0
 HoldsFewer had most old new = (n : ℕ) → in_hand n new + had < in_hand n old + most
 
@@ -98,7 +98,8 @@ AreFewest count n = (page_state : ℕ → PageState) (words : ℕ → ℕ → �
     → IsTree page_state words root → n ≤ length (pairs words root)
     → count ≤ length (pages words root)
 
--- each tree with at least n pairs has more pages than the write holds, counting those that it had
+-- the pages that the write holds more than before, and `had` others, are fewer than those of any
+-- tree with at least n pairs
 abbrev pub IsShort : (had n : ℕ) → (old new : ℕ → PageState) → Type 0
 IsShort had n old new = (page_state : ℕ → PageState) (words : ℕ → ℕ → ℕ) (root : ℕ)
     → IsTree page_state words root → n ≤ length (pairs words root)

@@ -1,7 +1,7 @@
 use Rattle.std.proofs.Common.{◌≡◌, ◌+◌, ◌<◌, ◌∙◌, get_or, length, subst, inl, inr, arith}
 use Rattle.std.proofs.lemmas.Bool.{cases_lt}
 use Rattle.std.proofs.lemmas.List.{get_or_default}
-use Rattle.be_tree_reading.specs.Page.{item_place}
+use Rattle.be_tree_reading.specs.Page.{item_at, item_place}
 use Rattle.be_tree.specs.Splicing.{IsStored}
 use Rattle.be_tree.proofs.Splices.{only_then, there}
 use Rattle.be_tree.proofs.building.store_items.Goals as goal
@@ -23,7 +23,7 @@ loop-i-preserved g c =
             let e : i ≡ k = omega (arith, past, less) in
             let is : c.index-items-i.result ≡ get_or c.args.items.now i d = c.index-items-i.is ∙ get_or_default c.args.items.now i _ d lt in
             subst (λ n. IsStored (g.R.Look.words c.store_item.new.room c.args.page) n (get_or c.args.items.now n d)) e
-            (c.store_item.ensures.stored.0 ∙ is, c.store_item.ensures.stored.1)
+            (subst (λ x. item_at (g.R.Look.words c.store_item.new.room c.args.page) here ≡ x) is c.store_item.ensures.stored.0, c.store_item.ensures.stored.1)
       ];
       only = only_then g.R.Look.kept g.R.Look.page_state g.R.Look.words c.args.page (item_place 0) here c.args.room.now c.loop-i.room only
           here (here + 42) (item_place 0) (item_place (i + 1)) c.store_item.new.room c.store_item.ensures.only (omega arith) (omega arith) (omega arith) (omega arith);
