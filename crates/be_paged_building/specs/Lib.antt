@@ -1,0 +1,3 @@
+pub mod Place
+pub mod Keys
+pub mod Building

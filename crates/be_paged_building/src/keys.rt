@@ -1,0 +1,111 @@
+//! The keys of an index, which are collected and put in order at the end.
+ghost use Rattle.std.specs.Prelude.{◌≡◌, ◌≢◌, ◌+◌, [], ◌∷◌, ◌++◌, ◌≤◌, ◌<◌, ◌⊎◌, ℕ, suc, true, false};
+ghost use Rattle.std.specs.Prelude.{All, IfErr, IfOk, IsTrue, OnErr, OnOk, length, slice_index_or};
+ghost use Rattle.be_paged_building.specs.Keys.{BecomesKeys};
+ghost use Rattle.be_paged_building.specs.Place.{key_in};
+ghost use Rattle.be_paged_building.specs.declared.keys.Place.{Place as Places};
+ghost use Rattle.be_pages.specs.Pages.{KeepsStart};
+ghost use Rattle.be_pages.specs.Refusal.{IsFullOf};
+ghost use Rattle.be_value.specs.declared.refusals.Refusal.TheVariants.{OutOfMemory};
+
+use be_pages::Room;
+use be_tree::TreeBuilder;
+use be_value::Refusal;
+use std::alloc::{AllocError, Global};
+use std::marker::Model;
+
+/// Where a key is among the collected bytes.
+#[derive(Clone, Copy)]
+struct Place {
+    from: usize,
+    len: usize,
+}
+
+/// The keys of one index, in the order in which they were added. They are kept one after another,
+/// because most keys are short, and a key has up to 264 bytes.
+#[derive(Drop)]
+pub(crate) struct Keys {
+    bytes: Vec<u8>,
+    places: Vec<Place>,
+}
+
+impl Model for Keys {
+    ghost use Rattle.std.specs.Prelude.{◌+◌, ◌≤◌, ℕ, List, All, length, map};
+    ghost use Rattle.be_paged_building.specs.Place.{key_in};
+
+    ghost Value = { List (List ℕ) };
+
+    ghost view = { λ keys. map (key_in keys.bytes.items) keys.places.items };
+
+    ghost invariant = { λ keys. All (λ place. place.from + place.len ≤ length keys.bytes.items)
+        keys.places.items };
+}
+
+/// Returns the key at a place; beyond the end of the bytes, it is cut off.
+fn key_at(bytes: &[u8], place: Place) -> &[u8]
+    ensures { result.now ≡ key_in bytes.now place }
+{
+    let rest = &bytes[place.from.min(bytes.len())..];
+    &rest[..place.len.min(rest.len())]
+}
+
+impl Keys {
+    /// Begins with no keys.
+    pub(crate) fn new(alloc: Global) -> Keys
+        ensures { result ≡ [] }
+    {
+        Keys {
+            bytes: Vec::new(alloc),
+            places: Vec::new(alloc),
+        }
+    }
+
+    /// Adds a key.
+    pub(crate) fn add(&mut self, key: &[u8]) -> Result<(), AllocError>
+        ensures { OnOk result (self.new ≡ self.old ++ key.now ∷ []) }
+    {
+        let place = Place {
+            from: self.bytes.len(),
+            len: key.len(),
+        };
+        self.bytes.extend_from_slice(key)?;
+        self.places.push(place)?;
+        Ok(())
+    }
+
+    /// Builds a tree of the keys in order, without payloads, and returns its root. A key that occurs
+    /// twice is in the tree once.
+    pub(crate) fn build<R: Room>(self, alloc: Global, room: &mut R) -> Result<u64, Refusal>
+        requires fit { All (λ key. length key ≤ 264) self }
+        requires open { IsTrue (R.is_open (R.kept room.old)) }
+        ensures ok { IfOk result (λ root. BecomesKeys R.kept R.page_state R.words self root room.old
+            room.new) }
+        ensures err { OnErr result (KeepsStart R.kept R.page_state R.words room.old room.new) }
+        ensures kind { IfErr result (λ e. (e ≡ OutOfMemory) ⊎ IsFullOf (R.full room.new) e) }
+    {
+        let Keys { bytes, mut places } = self;
+        let bytes = bytes.as_slice();
+        places.sort_unstable_by(|a, b| key_at(bytes, *a).cmp(key_at(bytes, *b)));
+        let places = places.as_slice();
+        let mut tree = TreeBuilder::new(alloc);
+        for i in 0..places.len() {
+            if !is_again(bytes, places, i) {
+                tree.push(room, key_at(bytes, places[i]), &[])?;
+            }
+        }
+        tree.finish(room)
+    }
+}
+
+/// Returns `true` if a key is the same as the one before it.
+fn is_again(bytes: &[u8], places: &[Place], i: usize) -> bool
+    requires { i < length places.now }
+    ensures again { result ≡ true → (j : ℕ) × ((suc j ≡ i) × ((d : Places)
+        → key_in bytes.now (slice_index_or places.now j d)
+        ≡ key_in bytes.now (slice_index_or places.now i d))) }
+    ensures new { result ≡ false → (j : ℕ) (d : Places) → suc j ≡ i
+        → key_in bytes.now (slice_index_or places.now j d)
+        ≢ key_in bytes.now (slice_index_or places.now i d) }
+{
+    i > 0 && key_at(bytes, places[i - 1]) == key_at(bytes, places[i])
+}
