@@ -1,4 +1,4 @@
-use Rattle.std.proofs.Common.{ℕ, ◌+◌, ◌<◌, ◌≤◌, ap, sym, subst, ◌∙◌, refl, arith}
+use Rattle.std.proofs.Common.{◌<◌, ap, sym, subst, ◌∙◌, refl, arith}
 use Rattle.std.specs.Int.{to_be_bytes, w64}
 use Rattle.be_tree.specs.Building.{pairs_given}
 use Rattle.be_tree.proofs.Builds.Ends.{below_end, rising_end}
