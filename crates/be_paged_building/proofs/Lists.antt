@@ -1,7 +1,11 @@
 -- Keys that are listed, sorted and put into a tree.
-use Rattle.std.proofs.Common.{◌≡◌, ◌≢◌, ℕ, zero, suc, ◌+◌, ◌<◌, ◌≤◌, Bool, true, false, List, [], ◌∷◌, ◌++◌, All, Some, None, get_or, length, drop, take, map, min, ap, sym, subst, ◌∙◌, refl, inl, inr, arith, cond}
+use Rattle.std.proofs.Common.{◌≡◌, ◌≢◌, ℕ, zero, suc, ◌+◌, ◌<◌, ◌≤◌, Bool, true, false, List, [], ◌∷◌, ◌++◌, All, Some, None, get_or, length, drop, take, map, ap, sym, subst, ◌∙◌, refl, inl, inr, arith, cond}
 use Rattle.std.specs.List.{Contains}
-use Rattle.std.specs.List.Sorted.{IsSortedBy}
+use Rattle.std.specs.List.Sorted.{IsPermutation, IsSortedBy}
+use Rattle.std.proofs.Math.Seq.{take-length}
+use Rattle.std.proofs.lemmas.List.{get_or_default, take-append-le}
+use Rattle.std.proofs.lemmas.List.Sorted.{Contains-permutation, IsPermutation-sym}
+use Rattle.be_paged_building.specs.Keys.{HaveKeys}
 use Rattle.std.specs.Ordering.{is_eq, is_lt}
 use Rattle.std.specs.Cmp.{tied_itself}
 use Rattle.std.specs.declared.cmp.Ordering.{Ordering}
@@ -14,17 +18,6 @@ use Rattle.be_tree.proofs.Builds.Ends.{below_end, rising_end}
 use Rattle.be_tree_reading.specs.Key.{key_cmp, payload_at, AllBelow, IsRising}
 use Rattle.be_tree_reading.specs.Pair.{Pair}
 use Rattle.be_tree_reading.proofs.Order.{key_cmp_flip, key_exact, key_total, payload_at_right}
-
--- a part of a list that begins or ends past the list's end
-pub drop_min : {A : Type 0} (a : ℕ) (xs : List A) → drop (min a (length xs)) xs ≡ drop a xs
-drop_min zero xs = let e : min 0 (length xs) ≡ 0 = omega arith in ap (λ n. drop n xs) e
-drop_min (suc a) [] = let e : min (suc a) 0 ≡ 0 = omega arith in ap (λ n. drop n []) e
-drop_min (suc a) (x ∷ xs) = let e : min (suc a) (suc (length xs)) ≡ suc (min a (length xs)) = omega arith in ap (λ n. drop n (x ∷ xs)) e ∙ drop_min a xs
-
-pub take_min : {A : Type 0} (a : ℕ) (xs : List A) → take (min a (length xs)) xs ≡ take a xs
-take_min zero xs = let e : min 0 (length xs) ≡ 0 = omega arith in ap (λ n. take n xs) e
-take_min (suc a) [] = let e : min (suc a) 0 ≡ 0 = omega arith in ap (λ n. take n []) e
-take_min (suc a) (x ∷ xs) = let e : min (suc a) (suc (length xs)) ≡ suc (min a (length xs)) = omega arith in ap (λ n. take n (x ∷ xs)) e ∙ ap (λ ys. x ∷ ys) (take_min a xs)
 
 -- the pairs have the keys of the first places, and each key above the last of them is above all
 pub record HaveFirst (bytes : List ℕ) (places : List Place) (count : ℕ) (pairs : List Pair) : Type 0
@@ -54,6 +47,20 @@ contains_at f (x ∷ xs) zero d lt = (0, omega arith, refl)
 contains_at f (x ∷ xs) (suc i) d lt =
     let later : Contains (map f xs) (f (get_or xs i d)) = contains_at f xs i d (omega (arith, lt)) in
     (suc later.0, omega (arith, later.1), later.2)
+
+contains_mapped : {X Y : Type 0} (f : X → Y) (xs : List X) (x : X) → Contains xs x → Contains (map f xs) (f x)
+contains_mapped f [] x (k, below, is) = absurd (omega arith)
+contains_mapped f (y ∷ xs) x (zero, below, is) = (0, omega arith, ap f is)
+contains_mapped f (y ∷ xs) x (suc k, below, is) =
+    let later : Contains (map f xs) (f x) = contains_mapped f xs x (k, omega arith, is) in
+    (suc later.0, omega (arith, later.1), later.2)
+
+mapped_contains : {X Y : Type 0} (f : X → Y) (xs : List X) (y : Y) → Contains (map f xs) y → (x : X) × Contains xs x × (f x ≡ y)
+mapped_contains f [] y (k, below, is) = absurd (omega arith)
+mapped_contains f (x ∷ xs) y (zero, below, is) = (x, (0, omega arith, refl), is)
+mapped_contains {X} f (x ∷ xs) y (suc k, below, is) =
+    let found : (z : X) × Contains xs z × (f z ≡ y) = mapped_contains f xs y (k, omega arith, is) in
+    (found.0, (suc found.1.0, omega (arith, found.1.1), found.1.2), found.2)
 
 module _ (bytes : List ℕ) (places : List Place) (i : ℕ) (here : Place) (pairs : List Pair) (lt : i < length places) (is : (d : Place) → get_or places i d ≡ here) (puts : HaveFirst bytes places i pairs) where
   -- the key is the same as the one before
@@ -123,3 +130,44 @@ put_none bytes places = record {
   only = All-nil (λ pair. Contains (map (key_in bytes) places) pair.key × (pair.payload ≡ []));
   below = λ k above. tt;
 }
+
+-- a key is added after the other bytes
+part_within : {A : Type 0} (from len : ℕ) (xs ys : List A) → from + len ≤ length xs → take len (drop from (xs ++ ys)) ≡ take len (drop from xs)
+part_within zero len xs ys le = take-append-le len xs ys (omega (arith, le))
+part_within (suc from) len [] ys le = absurd (omega (arith, le))
+part_within (suc from) len (x ∷ xs) ys le = part_within from len xs ys (omega (arith, le))
+
+part_after : {A : Type 0} (xs ys : List A) → take (length ys) (drop (length xs) (xs ++ ys)) ≡ ys
+part_after [] ys = take-length ys
+part_after (x ∷ xs) ys = part_after xs ys
+
+pub list_more : (bytes more : List ℕ) (places : List Place) → All (λ place. place.from + place.len ≤ length bytes) places
+    → map (key_in (bytes ++ more)) (places ++ record { from = length bytes; len = length more } ∷ []) ≡ map (key_in bytes) places ++ more ∷ []
+list_more bytes more [] within = ap (λ k. k ∷ []) (part_after bytes more)
+list_more bytes more (p ∷ ps) within = both (part_within p.from p.len bytes more (within 0 p (omega arith))) (list_more bytes more ps (λ i d lt. within (suc i) d (omega (arith, lt))))
+  where
+    both : {x y : List ℕ} {xs ys : List (List ℕ)} → x ≡ y → xs ≡ ys → x ∷ xs ≡ y ∷ ys
+    both p q = cc
+
+-- the first keys are all of them
+pub put_all : (bytes : List ℕ) (places old : List Place) (pairs : List Pair) → IsPermutation old places → HaveFirst bytes places (length places) pairs → HaveKeys (map (key_in bytes) old) pairs
+put_all bytes places old pairs moved puts = record {
+  each = λ k has.
+      let found = mapped_contains (key_in bytes) old k has in
+      let there : Contains places found.0 = Contains-permutation old places found.0 moved found.1 in
+      let key : key_in bytes (get_or places there.0 found.0) ≡ k = ap (key_in bytes) there.2 ∙ found.2 in
+      subst (λ q. payload_at pairs q ≡ Some []) key (puts.each there.0 found.0 there.1);
+  only = λ i d lt.
+      let has = puts.only i d lt in
+      let found = mapped_contains (key_in bytes) places (get_or pairs i d).key has.0 in
+      let there : Contains old found.0 = Contains-permutation places old found.0 (IsPermutation-sym old places moved) found.1 in
+      (subst (Contains (map (key_in bytes) old)) found.2 (contains_mapped (key_in bytes) old found.0 there), has.1);
+}
+
+-- what holds of each key holds of those that are sorted
+pub fit_sorted : (P : List ℕ → Type 0) (bytes : List ℕ) (places old : List Place) → IsPermutation old places → All P (map (key_in bytes) old) → (i : ℕ) (d : Place) → i < length places → P (key_in bytes (get_or places i d))
+fit_sorted P bytes places old moved all i d lt =
+    let x = get_or places i d in
+    let at : Contains places x = (i, lt, get_or_default places i x d lt) in
+    let found : Contains (map (key_in bytes) old) (key_in bytes x) = contains_mapped (key_in bytes) old x (Contains-permutation places old x (IsPermutation-sym old places moved) at) in
+    subst P found.2 (all found.0 (key_in bytes x) found.1)

@@ -97,6 +97,14 @@ impl Keys {
     }
 }
 
+/// Returns `true` if the keys at two places are the same.
+fn is_same(bytes: &[u8], a: Place, b: Place) -> bool
+    ensures same { result ≡ true → key_in bytes.now a ≡ key_in bytes.now b }
+    ensures other { result ≡ false → key_in bytes.now a ≢ key_in bytes.now b }
+{
+    key_at(bytes, a) == key_at(bytes, b)
+}
+
 /// Returns `true` if a key is the same as the one before it.
 fn is_again(bytes: &[u8], places: &[Place], i: usize) -> bool
     requires { i < length places.now }
@@ -107,5 +115,8 @@ fn is_again(bytes: &[u8], places: &[Place], i: usize) -> bool
         → key_in bytes.now (slice_index_or places.now j d)
         ≢ key_in bytes.now (slice_index_or places.now i d) }
 {
-    i > 0 && key_at(bytes, places[i - 1]) == key_at(bytes, places[i])
+    if i == 0 {
+        return false;
+    }
+    is_same(bytes, places[i - 1], places[i])
 }
