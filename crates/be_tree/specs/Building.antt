@@ -46,11 +46,11 @@ pub record IsBuilder (page_state : ℕ → PageState) (words : ℕ → ℕ → �
 
 -- the builder has been given these pairs as well, and has taken pages for new leaves only
 pub record Gains {S K : Type 0} (kept_of : S → K) (page_state_of : S → ℕ → PageState)
-    (words_of : S → ℕ → ℕ → ℕ) (more : List Pair) (before after : TreeBuilder) (old new : S) : Type 0
-  where
-    pub has_pairs : pairs_given (words_of new) after ≡ pairs_given (words_of old) before ++ more
-    pub swaps : Swaps kept_of page_state_of words_of (pages_taken (words_of old) before)
-        (pages_taken (words_of new) after) old new
+    (words_of : S → ℕ → ℕ → ℕ)
+    (more : List Pair) (before after : TreeBuilder) (old new : S) : Type 0 where
+  pub has_pairs : pairs_given (words_of new) after ≡ pairs_given (words_of old) before ++ more
+  pub swaps : Swaps kept_of page_state_of words_of (pages_taken (words_of old) before)
+      (pages_taken (words_of new) after) old new
 
 -- the builder has written its first `count` pairs to a leaf
 pub record Writes {S K : Type 0} (kept_of : S → K) (page_state_of : S → ℕ → PageState)

@@ -109,10 +109,10 @@ fn write_level<R: Room>(
         (suc level) (branches_of (R.words room.new) above.items) room.old room.new) }
     ensures branches { IfOk result (λ above. All IsBranchSlot above.items) }
     ensures size { IfOk result (λ above. length above.items ≡ (length slots.now + 11) / 12) }
-    ensures pages { IfOk result (λ above.
-        length (pages_below (suc level) (R.words room.new) (branches_of (R.words room.new)
-        above.items)) ≡ length above.items
-        + length (pages_below level (R.words room.old) (branches_of (R.words room.old) slots.now))) }
+    ensures pages { IfOk result (λ above. length (pages_below (suc level) (R.words room.new)
+        (branches_of (R.words room.new) above.items)) ≡ length above.items
+        + length (pages_below level (R.words room.old)
+        (branches_of (R.words room.old) slots.now))) }
     ensures takes { IfOk result (λ above. TakesAtMost (length above.items) (R.page_state room.old)
         (R.page_state room.new)) }
     ensures refused { RefusesAt R.kept R.page_state R.words R.full

@@ -48,9 +48,9 @@ short_level had level n s t u some low taken fewer page_state words root tree le
 pub fewest_root : (level n count : ℕ) → 0 < n → IsLow level n → count ≡ suc (pages_under level n) → AreFewest count n
 fewest_root level n count some low e page_state words root tree le = omega (arith, e, needs level n some low page_state words root tree le)
 
-pub root_least : (level : ℕ) → minimum_of_root level ≤ 2
-root_least zero = omega arith
-root_least (suc level) = omega arith
+pub root_minimum : (level : ℕ) → minimum_of_root level ≤ 2
+root_minimum zero = omega arith
+root_minimum (suc level) = omega arith
 
 -- the pages of a tree whose root was written
 pub root_pages : {S K : Type 0} (kept_of : S → K) (page_state_of : S → ℕ → PageState) (words_of : S → ℕ → ℕ → ℕ) (level : ℕ) (items : List Pair) (branch : Pair) (old new : S)
@@ -166,7 +166,7 @@ module _ {S K : Type 0} (kept_of : S → K) (page_state_of : S → ℕ → PageS
         let e : suc (child branch) ≡ top + 1 = omega (arith, is) in
         let written = subst (λ p. IsWritten level w (pairs_of v p slots) branch) (same_pair given [] [] no_key no_payload) wrote in
         let took = subst (λ p. Swaps kept_of page_state_of words_of [] (p ∷ []) mid new) (sym is) swaps in
-        let enough : minimum_of_root level ≤ length items = omega (arith, root_least level, risen.some, length-map slots (pair_of v (record { key = []; payload = [] }))) in (
+        let enough : minimum_of_root level ≤ length items = omega (arith, root_minimum level, risen.some, length-map slots (pair_of v (record { key = []; payload = [] }))) in (
           subst (λ r. BecomesTree kept_of page_state_of words_of (pages_below 1 (words_of old) (branches_of (words_of old) leaves)) all r old new) e
               (becomes_tree kept_of page_state_of words_of (pages_below 1 (words_of old) (branches_of (words_of old) leaves)) all level items (suc (child branch)) old mid new risen.becomes
               (root_written kept_of page_state_of words_of level items branch [] mid new risen.becomes.below enough written took (λ q. omega (arith, risen.becomes.below.once q)))),
