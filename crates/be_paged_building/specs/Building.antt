@@ -68,14 +68,14 @@ abbrev pub MayBeNode : State → ℕ → Type 0
 MayBeNode volume node = (volume.next ≤ node) × (node < 2 ^ 63)
 
 -- an attribute of a node may come next
-pub record MayHave (volume : State) (node : ℕ) (name : List ℕ) (value : Value) (held : Bool) : Type 0
-  where
-    pub there : map.contains_key volume.nodes node ≡ true
-    pub few : map.len (attributes_of volume.nodes node) < 64
-    pub above : (other : List ℕ) → map.contains_key (attributes_of volume.nodes node) other ≡ true
-        → name_cmp other name ≡ Less
-    pub index : held ≡ true → (found : Index) × (map.get volume.indices name ≡ Some found)
-        × (found.kind ≡ kind_of value)
+pub record MayHave (volume : State) (node : ℕ) (name : List ℕ) (value : Value)
+    (held : Bool) : Type 0 where
+  pub there : map.contains_key volume.nodes node ≡ true
+  pub few : map.len (attributes_of volume.nodes node) < 64
+  pub above : (other : List ℕ) → map.contains_key (attributes_of volume.nodes node) other ≡ true
+      → name_cmp other name ≡ Less
+  pub index : held ≡ true → (found : Index) × (map.get volume.indices name ≡ Some found)
+      × (found.kind ≡ kind_of value)
 
 -- the name of the last attribute, or no bytes if the node has none
 abbrev pub name_of : Option (List ℕ) → List ℕ

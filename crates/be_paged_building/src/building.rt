@@ -144,9 +144,10 @@ impl VolumeBuilder {
     }
 
     /// Adds an attribute of the last node; if it is held, the index of its name has it. Fails with
-    /// `NoNode` before the first node, with `TooManyAttrs` after 64 attributes, with `NoAttr` if the
-    /// name isn't above the last one, and for one that is held with `NoSuchIndex` if there is no
-    /// such index, and with `NotIndexable` if it is of another kind. The volume is then unchanged.
+    /// `NoNode` before the first node, with `TooManyAttrs` after 64 attributes, with `NoAttr` if
+    /// the name isn't above the last one, and for one that is held with `NoSuchIndex` if there is
+    /// no such index, and with `NotIndexable` if it is of another kind. The volume is then
+    /// unchanged.
     /// After `Full` or `OutOfMemory` the builder can't be used again.
     pub fn attribute<R: Room>(
         &mut self,

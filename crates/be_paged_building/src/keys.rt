@@ -1,5 +1,5 @@
 //! The keys of an index, which are collected and put in order at the end.
-ghost use Rattle.std.specs.Prelude.{◌≡◌, ◌≢◌, ◌+◌, [], ◌∷◌, ◌++◌, ◌≤◌, ◌<◌, ◌⊎◌, ℕ, suc, true, false};
+ghost use Rattle.std.specs.Prelude.{◌≡◌, ◌≢◌, [], ◌∷◌, ◌++◌, ◌≤◌, ◌<◌, ◌⊎◌, ℕ, suc, true, false};
 ghost use Rattle.std.specs.Prelude.{All, IfErr, IfOk, IsTrue, OnErr, OnOk, length, slice_index_or};
 ghost use Rattle.be_paged_building.specs.Keys.{BecomesKeys};
 ghost use Rattle.be_paged_building.specs.Place.{key_in};
@@ -73,8 +73,8 @@ impl Keys {
         Ok(())
     }
 
-    /// Builds a tree of the keys in order, without payloads, and returns its root. A key that occurs
-    /// twice is in the tree once.
+    /// Builds a tree of the keys in order, without payloads, and returns its root. A key that
+    /// occurs twice is in the tree once.
     pub(crate) fn build<R: Room>(self, alloc: Global, room: &mut R) -> Result<u64, Refusal>
         requires fit { All (λ key. length key ≤ 264) self }
         requires open { IsTrue (R.is_open (R.kept room.old)) }
