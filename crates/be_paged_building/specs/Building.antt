@@ -105,8 +105,8 @@ pub record Builds (page_state : ℕ → PageState) (words : ℕ → ℕ → ℕ)
       (pairs_given words builder.catalog)
   pub next : volume.next ≡ builder.node + 1
   pub count : builder.attributes ≡ map.len (attributes_of volume.nodes builder.node)
-  pub entries : each (λ e. (e.name, e.kind)) builder.entries.items
-      ≡ each (λ i. (i.0, i.1.kind)) (map.entries volume.indices)
+  pub entries : each {B = List ℕ × Kind} (λ e. (e.name, e.kind)) builder.entries.items
+      ≡ each {B = List ℕ × Kind} (λ i. (i.0, i.1.kind)) (map.entries volume.indices)
   pub roots : All (λ e. e.root ≡ 0) builder.entries.items
   pub keys : AreKeysOf builder.keys.items (map.entries volume.indices)
   pub sound : IsSound volume
