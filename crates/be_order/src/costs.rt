@@ -10,7 +10,6 @@ ghost use Rattle.be_order.specs.Imports.{State, StillAnswers};
 use crate::OrderedSource;
 use be_plan::{KeyBounds, KeyRange};
 use be_query::{Cmp, Comparison, Literal, Tree};
-use be_value::Name;
 
 /// A probe of a node reads its attribute or looks for it in an index. It takes as many instructions
 /// as walking over this many keys.
@@ -92,26 +91,6 @@ fn is_loose(comparison: &Comparison) -> bool {
     }
 }
 
-/// Returns the approximate number of keys that a part of a query allows in the index of a name, or
-/// `None` if there is no index.
-fn keys_allowed<S: OrderedSource>(
-    source: &mut S,
-    bounds: &mut KeyBounds,
-    whole: &Tree,
-    name: &Name,
-) -> Option<u64>
-    requires { (volume : State) × S.answers_for source.old volume }
-    ensures stays { S.kept source.new ≡ S.kept source.old }
-    ensures answers { StillAnswers S.answers_for source.old source.new }
-    ensures still { (volume : State) × S.answers_for source.new volume }
-{
-    let Some(kind) = source.kind_of(name) else {
-        return None;
-    };
-    let _rest = bounds.narrow(whole, name, kind);
-    Some(source.about(bounds.keys(name)))
-}
-
 /// Returns the cost of a comparison. `keys` is the approximate number of keys that the comparison
 /// and everything that `&&` joins to it allow in the index of its name, or `None` if there is no
 /// index.
@@ -152,7 +131,7 @@ fn cost_of<S: OrderedSource>(
 {
     match tree {
         Tree::Leaf(comparison) => {
-            let keys = keys_allowed(source, bounds, whole, &comparison.name);
+            let keys = bounds.allowed(source, whole, &comparison.name);
             cost_of_comparison(comparison, keys)
         }
         Tree::And(a, b) => {

@@ -3,6 +3,7 @@ pub mod Bounding
 pub mod Cover
 pub mod Explain
 pub mod KeyTests
+pub mod Least
 pub mod Marks
 pub mod Narrow
 pub mod Picked

@@ -20,6 +20,7 @@ mod coverage;
 mod evaluating;
 mod explaining;
 mod keytests;
+mod least;
 mod listing;
 mod names;
 mod narrowing;

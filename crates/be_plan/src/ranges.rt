@@ -153,6 +153,13 @@ impl Range {
         }
     }
 
+    /// Returns `true` if the low bound is above the high one, so that the range has no keys.
+    pub(crate) fn is_empty(&self) -> bool
+        ensures { result ≡ true → (k : List ℕ) → IsIn self.now k → ⊥ }
+    {
+        self.bounded && self.low().cmp(&self.high.as_slice()).is_gt()
+    }
+
     /// Returns `true` if the key is above all keys of the range.
     pub(crate) fn ends_before(&self, key: &[u8]) -> bool
         ensures { result ≡ is_above (high_of self.now) key.now }

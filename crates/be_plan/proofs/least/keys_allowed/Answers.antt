@@ -1,7 +1,10 @@
-use Rattle.be_order.proofs.costs.keys_allowed.Goals as goal
+use Rattle.be_plan.proofs.least.keys_allowed.Goals as goal
 
 pub returns-in_default-clause-still : goal.returns-in_default-clause-still
 returns-in_default-clause-still g c = (c.requires.0, c.kind_of.ensures.answers _ c.requires.1)
+
+pub returns-then-is_empty-clause-still : goal.returns-then-is_empty-clause-still
+returns-then-is_empty-clause-still g c = (c.requires.0, c.kind_of.ensures.answers _ c.requires.1)
 
 pub about-requires : goal.about-requires
 about-requires g c = (c.requires.0, c.kind_of.ensures.answers _ c.requires.1)
