@@ -1,12 +1,12 @@
 -- The first nodes of an answer by number, and arbitrary nodes of an answer.
-use Rattle.std.specs.Prelude.{◌≡◌, ◌≢◌, ℕ, ◌<◌, List, Ok, filter, length, min, nat_le, take}
+use Rattle.std.specs.Prelude.{◌≡◌, ◌≢◌, ℕ, ◌<◌, List, Ok, filter, length, min, nat_le, take, true}
 use Rattle.std.specs.Prelude.{slice_index}
 use Rattle.std.specs.List.{Contains}
 use Rattle.std.specs.Result.{result_map_both}
 use Rattle.std.specs.declared.result.Result.{Result}
 use Rattle.be_value.specs.declared.refusals.Refusal.{Refusal}
 use Rattle.be_query.specs.Grammar.{Formula}
-use Rattle.be_volume.specs.Query.{scan}
+use Rattle.be_volume.specs.Query.{sat, scan}
 use Rattle.be_volume.specs.Volume.{State}
 
 -- The first `most` nodes of the scan whose number is at least `first`.
@@ -21,3 +21,9 @@ pub record IsAnyOf (answer : Result (List ℕ) Refusal) (most : ℕ) (nodes : Li
   pub among : (n : ℕ) → Contains nodes n → Contains all n
   pub once : (i j : ℕ) → i < j → j < length nodes → slice_index nodes i ≢ slice_index nodes j
   pub count : length nodes ≡ min most (length all)
+
+-- The nodes satisfy the formula and are distinct, and there are this many of them.
+pub record AreSome (s : State) (f : Formula) (most : ℕ) (nodes : List ℕ) : Type 0 where
+  pub only : (n : ℕ) → Contains nodes n → sat s f n ≡ true
+  pub once : (i j : ℕ) → i < j → j < length nodes → slice_index nodes i ≢ slice_index nodes j
+  pub count : length nodes ≡ most

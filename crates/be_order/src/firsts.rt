@@ -5,8 +5,9 @@ ghost use Rattle.be_order.specs.Imports.{index_kind, option_copied, scan, Answer
 ghost use Rattle.be_order.specs.Imports.{Decides, Formula, OutOfMemory, State};
 ghost use Rattle.be_order.specs.Firsts.{IsAnyOf, from_number};
 
+use crate::some::some_of;
 use crate::{OrderedKeys, OrderedSource};
-use be_plan::{KeyRange, PreparedQuery, Source, answer_into};
+use be_plan::{KeyRange, PreparedQuery, Source, answer_into, is_covered};
 use be_value::{Kind, Refusal};
 use std::alloc::Global;
 
@@ -105,7 +106,9 @@ fn walk_any<S: OrderedSource>(
 ///
 /// If the range of one index decides the query and the source walks in order, the first nodes in
 /// the range are returned. This costs a walk over as many keys as there are nodes returned, and
-/// allocates memory only for the list. Otherwise it costs as much as finding the whole answer.
+/// allocates memory only for the list. Otherwise each side of an `||` is tried by a walk over one
+/// index, which tests each node until there are enough. If no side has enough nodes, or listing
+/// them is expected to cost less, the whole answer is found.
 pub fn any_prepared_into<S: OrderedSource>(
     alloc: Global,
     prepared: &mut PreparedQuery,
@@ -128,6 +131,12 @@ pub fn any_prepared_into<S: OrderedSource>(
             if walked {
                 return Ok(());
             }
+        }
+    }
+    let tree = prepared.query().tree();
+    if is_covered(source, tree) {
+        if some_of(alloc, tree, source, most, found)? {
+            return Ok(());
         }
     }
     answer_into(alloc, prepared.query(), source, found)?;

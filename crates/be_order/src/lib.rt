@@ -13,6 +13,7 @@ mod keys;
 mod laws;
 mod pages;
 mod prepared;
+mod some;
 mod sources;
 mod tested;
 

@@ -15,12 +15,15 @@ use crate::choosing::{PartChoice, cheaper, count, join_picks, score_of};
 use crate::narrowing::narrow_beside;
 use crate::ranges::Range;
 use crate::{Cover, Picks, Source};
-use be_query::{Comparison, Tree};
+use be_query::{Cmp, Comparison, Tree};
 use be_value::Name;
 use std::alloc::{AllocError, Global};
 
 /// Walking over this many keys takes no longer than estimating how many keys another range has.
 const FEW: u64 = 16;
+
+/// Stepping to a key to test it takes as many instructions as listing this many.
+const KEYS_A_STEP: u64 = 32;
 
 /// Returns about how many keys a part of a query allows in the index of a name, or `None` if there
 /// is no index. The range is narrowed to these keys.
@@ -48,9 +51,19 @@ pub(crate) fn keys_allowed<S: Source>(
     Some(source.about(range.keys(name)))
 }
 
+/// Returns about how many keys are listed in the time of a walk for this comparison over `keys`
+/// keys. No range decides a `!=`, so its walk tests each key. Of two comparisons with equally many
+/// keys, the one with the lower score costs less.
+fn cost_of(comparison: &Comparison, keys: u64) -> u64 {
+    let listed = match comparison.op {
+        Cmp::Ne => keys.saturating_mul(KEYS_A_STEP),
+        _ => keys,
+    };
+    listed.saturating_add(score_of(comparison))
+}
+
 /// Returns the choice for the comparison at position `at`, whose range has about `keys` keys if its
-/// name has an index. Of two comparisons with equally many keys, the one with the lower score is
-/// chosen.
+/// name has an index.
 fn least_leaf(comparison: &Comparison, at: usize, keys: Option<u64>) -> PartChoice
     requires { at < 256 }
     ensures chosen { is_some result.cover ≡ is_some keys }
@@ -60,7 +73,7 @@ fn least_leaf(comparison: &Comparison, at: usize, keys: Option<u64>) -> PartChoi
     let cover = match keys {
         Some(keys) => Some(Cover {
             picks: Picks::one(at),
-            score: keys.saturating_add(score_of(comparison)),
+            score: cost_of(comparison, keys),
         }),
         None => None,
     };

@@ -40,7 +40,7 @@ pub use asking::{answer, answer_into, true_nodes_into};
 pub use bounding::KeyBounds;
 pub use choosing::choose_from;
 pub use coverage::covers;
-pub use evaluating::is_true;
+pub use evaluating::{is_covered, is_true};
 pub use explaining::explain;
 pub use keytests::KeyTest;
 pub use listing::choose;
