@@ -1,5 +1,6 @@
 pub mod Anys
 pub mod Cursors
+pub mod Enough
 pub mod Filters
 pub mod Fronts
 pub mod IndexParts

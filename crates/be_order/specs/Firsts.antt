@@ -1,7 +1,8 @@
 -- The first nodes of an answer by number, and arbitrary nodes of an answer.
 use Rattle.std.specs.Prelude.{◌≡◌, ◌≢◌, ℕ, ◌<◌, List, Ok, filter, length, min, nat_le, take, true}
 use Rattle.std.specs.Prelude.{slice_index}
-use Rattle.std.specs.List.{Contains}
+use Rattle.std.specs.List.{Contains, IsDistinct}
+use Rattle.std.specs.Ordering.{eq_by_cmp, nat_cmp}
 use Rattle.std.specs.Result.{result_map_both}
 use Rattle.std.specs.declared.result.Result.{Result}
 use Rattle.be_value.specs.declared.refusals.Refusal.{Refusal}
@@ -25,5 +26,5 @@ pub record IsAnyOf (answer : Result (List ℕ) Refusal) (most : ℕ) (nodes : Li
 -- The nodes satisfy the formula and are distinct, and there are this many of them.
 pub record AreSome (s : State) (f : Formula) (most : ℕ) (nodes : List ℕ) : Type 0 where
   pub only : (n : ℕ) → Contains nodes n → sat s f n ≡ true
-  pub once : (i j : ℕ) → i < j → j < length nodes → slice_index nodes i ≢ slice_index nodes j
+  pub once : IsDistinct (eq_by_cmp nat_cmp) nodes
   pub count : length nodes ≡ most

@@ -7,7 +7,7 @@ ghost use Rattle.be_order.specs.Firsts.{IsAnyOf, from_number};
 
 use crate::some::some_of;
 use crate::{OrderedKeys, OrderedSource};
-use be_plan::{KeyRange, PreparedQuery, Source, answer_into, is_covered};
+use be_plan::{KeyRange, PreparedQuery, Source, answer_into};
 use be_value::{Kind, Refusal};
 use std::alloc::Global;
 
@@ -133,13 +133,11 @@ pub fn any_prepared_into<S: OrderedSource>(
             }
         }
     }
-    let tree = prepared.query().tree();
-    if is_covered(source, tree) {
-        if some_of(alloc, tree, source, most, found)? {
-            return Ok(());
-        }
+    let query = prepared.query();
+    if some_of(alloc, query.tree(), source, most, found)? {
+        return Ok(());
     }
-    answer_into(alloc, prepared.query(), source, found)?;
+    answer_into(alloc, query, source, found)?;
     found.truncate(most);
     Ok(())
 }

@@ -3,17 +3,17 @@
 //! Every node that satisfies a side of an `||` is one of the answer. So a walk over the index of
 //! one name, in its order, finds some of the answer: it tests each node against one side until
 //! enough of them satisfy it.
-ghost use Rattle.std.specs.Prelude.{◌≡◌, ◌≤◌, true, IfErr, IfOk};
-ghost use Rattle.be_order.specs.Imports.{comparisons, formula, index_kind, option_copied};
+ghost use Rattle.std.specs.Prelude.{◌≡◌, ◌≤◌, true, IfErr, IfOk, Some};
+ghost use Rattle.be_order.specs.Imports.{comparisons, formula, index_kind, option_copied, scan};
 ghost use Rattle.be_order.specs.Imports.{OutOfMemory, State, StillAnswers};
-ghost use Rattle.be_order.specs.Firsts.{AreSome};
+ghost use Rattle.be_order.specs.Firsts.{AreSome, IsAnyOf};
 ghost use Rattle.be_order.specs.Walks.{HasAllWithin};
 
 use crate::prepared::page_beside;
 use crate::{Order, OrderedKeys, OrderedSource};
-use be_plan::{KeyBounds, KeyRange};
+use be_plan::{KeyBounds, KeyRange, is_covered};
 use be_query::Tree;
-use be_value::{Name, Refusal};
+use be_value::{Kind, Name, Refusal};
 use std::alloc::Global;
 
 /// A name that a part of a query has comparisons on, and about how many keys the part allows in its
@@ -77,11 +77,13 @@ fn some_within<S: OrderedSource>(
     tree: &Tree,
     source: &mut S,
     keys: KeyRange<'_>,
+    kind: Kind,
     most: usize,
     found: &mut Vec<u64>,
 ) -> Result<bool, Refusal>
     ghost volume: { State }
     requires answers { S.answers_for source.old volume }
+    requires kind { index_kind volume keys.name.now ≡ Some kind }
     requires all { HasAllWithin volume (formula tree.now) keys.name.now keys.low.now
         (option_copied keys.high) }
     ensures some { IfOk result (λ full. full ≡ true
@@ -91,13 +93,57 @@ fn some_within<S: OrderedSource>(
     ensures answers { S.answers_for source.new volume }
 {
     found.clear();
+    let cursor = None;
     let walk = OrderedKeys {
         keys,
         descending: false,
-        cursor: &None,
+        cursor: &cursor,
     };
     let walked = source.first_nodes(walk, most, found)?;
-    Ok(walked && found.len() == most)
+    if !walked {
+        return Ok(false);
+    }
+    if found.len() != most {
+        return Ok(false);
+    }
+    Ok(true)
+}
+
+/// Replaces the content of a list with a page, by the index of this name, of the nodes that satisfy
+/// a part of a query. Returns `true` if the page is full.
+fn some_on_page<S: OrderedSource>(
+    alloc: Global,
+    tree: &Tree,
+    source: &mut S,
+    by: &Name,
+    kind: Kind,
+    most: usize,
+    found: &mut Vec<u64>,
+) -> Result<bool, Refusal>
+    ghost volume: { State }
+    requires answers { S.answers_for source.old volume }
+    requires few { comparisons (formula tree.now) ≤ 256 }
+    requires kind { index_kind volume by.now ≡ Some kind }
+    ensures some { IfOk result (λ full. full ≡ true
+        → AreSome volume (formula tree.now) most found.new.items) }
+    ensures memory { IfErr result (λ e. e ≡ OutOfMemory) }
+    ensures stays { S.kept source.new ≡ S.kept source.old }
+    ensures answers { S.answers_for source.new volume }
+{
+    let order = Order {
+        by,
+        descending: false,
+        most,
+    };
+    let mut cursor = None;
+    let asked = page_beside(alloc, tree, source, kind, order, &mut cursor, found)?;
+    let Some(_) = asked else {
+        return Ok(false);
+    };
+    if found.len() != most {
+        return Ok(false);
+    }
+    Ok(true)
 }
 
 /// Replaces the content of a list with some nodes that satisfy a part of a query. Returns `true` if
@@ -122,24 +168,19 @@ fn some_of_part<S: OrderedSource>(
     let Some(least) = least_name(source, &mut bounds, tree, tree) else {
         return Ok(false);
     };
-    let Some(kind) = source.kind_of(least.name) else {
+    let name = least.name;
+    let Some(kind) = source.kind_of(name) else {
         return Ok(false);
     };
-    if bounds.narrow(tree, least.name, kind).is_none() {
-        return some_within(tree, source, bounds.keys(least.name), most, found);
+    match bounds.narrow(tree, name, kind) {
+        None => some_within(tree, source, bounds.keys(name), kind, most, found),
+        Some(_) => some_on_page(alloc, tree, source, name, kind, most, found),
     }
-    let order = Order {
-        by: least.name,
-        descending: false,
-        most,
-    };
-    let asked = page_beside(alloc, tree, source, kind, order, &mut None, found)?;
-    Ok(asked.is_some() && found.len() == most)
 }
 
 /// Replaces the content of a list with `most` nodes that satisfy one side of an `||`, and returns
 /// `true`. Returns `false` if no single walk finds so many.
-pub(crate) fn some_of<S: OrderedSource>(
+fn some_of_sides<S: OrderedSource>(
     alloc: Global,
     tree: &Tree,
     source: &mut S,
@@ -163,4 +204,28 @@ pub(crate) fn some_of<S: OrderedSource>(
         rest = a;
     }
     some_of_part(alloc, rest, source, most, found)
+}
+
+/// Replaces the content of a list with `most` nodes of an answer, and returns `true`. Returns
+/// `false` if the indices don't cover the query, or if no single walk finds so many.
+pub(crate) fn some_of<S: OrderedSource>(
+    alloc: Global,
+    tree: &Tree,
+    source: &mut S,
+    most: usize,
+    found: &mut Vec<u64>,
+) -> Result<bool, Refusal>
+    ghost volume: { State }
+    requires answers { S.answers_for source.old volume }
+    requires few { comparisons (formula tree.now) ≤ 256 }
+    ensures any { IfOk result (λ full. full ≡ true
+        → IsAnyOf (scan volume (formula tree.now)) most found.new.items) }
+    ensures memory { IfErr result (λ e. e ≡ OutOfMemory) }
+    ensures stays { S.kept source.new ≡ S.kept source.old }
+    ensures answers { S.answers_for source.new volume }
+{
+    if !is_covered(source, tree) {
+        return Ok(false);
+    }
+    some_of_sides(alloc, tree, source, most, found)
 }
