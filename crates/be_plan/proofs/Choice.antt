@@ -138,6 +138,39 @@ pub leaf_choice : (indexed : List ℕ → Bool) (whole : Formula) (at : ℕ) (na
 leaf_choice indexed whole at name op literal None part e h = sym e
 leaf_choice indexed whole at name op literal (Some x) part e h = subst (Covering indexed whole at (Leaf name op literal)) (sym h) (to_leaf indexed whole at name op literal part (sym e))
 
+module _ (indexed : List ℕ → Bool) (whole : Formula) (at : ℕ) (f l a b : Formula) (first : l ≡ a) (x : Option Cover) (left : IsPart whole at l → IsChoice indexed whole at l x) where
+  left_is : IsPart whole at (And a b) → IsChoice indexed whole at a x
+  left_is part = subst (λ g. IsChoice indexed whole at g x) first (left (subst (IsPart whole at) (sym first) (left_part whole at a b part)))
+
+  -- The choice for the left side of an "and", if there is one.
+  pub left_choice : f ≡ And a b → IsPart whole at f → is_some x ≡ true → IsChoice indexed whole at f x
+  left_choice is part some = subst (λ g. IsChoice indexed whole at g x) (sym is) (by x some (left_is (subst (IsPart whole at) is part)))
+    where
+      by : (y : Option Cover) → is_some y ≡ true → IsChoice indexed whole at a y → IsChoice indexed whole at (And a b) y
+      by None e h = cc
+      by (Some y) e h = to_left indexed whole at a b y.picks h
+
+  module _ (r : Formula) (second : r ≡ b) (y : Option Cover) (middle : ℕ) (middle_is : middle ≡ at + comparisons l) (right : IsPart whole middle r → IsChoice indexed whole middle r y) where
+    right_is : IsPart whole at (And a b) → IsChoice indexed whole (at + comparisons a) b y
+    right_is part =
+        let here : middle ≡ at + comparisons a = middle_is ∙ ap (λ g. at + comparisons g) first in
+        let there : IsPart whole middle r = subst (IsPart whole middle) (sym second) (subst (λ m. IsPart whole m b) (sym here) (right_part whole at a b part)) in
+        subst (λ m. IsChoice indexed whole m b y) here (subst (λ g. IsChoice indexed whole middle g y) second (right there))
+
+    -- The cheaper choice of both sides of an "and".
+    pub both_choice : f ≡ And a b → IsPart whole at f → IsChoice indexed whole at f (cheaper x y)
+    both_choice is part =
+        let p = subst (IsPart whole at) is part in
+        subst (λ g. IsChoice indexed whole at g (cheaper x y)) (sym is) (of_both indexed whole at a b x y (left_is p) (right_is p))
+
+    -- The choices of both sides of an "or".
+    pub either_choice : (z : Option Cover) → option_map (λ (c : Cover). c.picks) z ≡ option_map (λ (c : Cover). c.picks) (both_covers x y) → f ≡ Or a b → IsPart whole at f →
+        IsChoice indexed whole at f z
+    either_choice z picks is part =
+        let p : IsPart whole at (Or a b) = subst (IsPart whole at) is part in
+        subst (λ g. IsChoice indexed whole at g z) (sym is)
+        (same_picks indexed whole at (Or a b) (both_covers x y) z picks (of_either indexed whole at a b x y (left_is p) (right_is p)))
+
 -- What follows from a choice for the whole.
 pub choice_covers : (indexed : List ℕ → Bool) (f : Formula) (x : Option Cover) → IsChoice indexed f 0 f x →
     IfSome x (λ c. covers indexed c.picks f ≡ true) × (is_some x ≡ rests indexed f)

@@ -85,7 +85,9 @@ fn least_leaf(comparison: &Comparison, at: usize, keys: Option<u64>) -> PartChoi
 
 /// Returns `true` if the walks of the cover visit so few keys that no other cover is worth an
 /// estimate.
-fn has_few(cover: &Option<Cover>) -> bool {
+fn has_few(cover: &Option<Cover>) -> bool
+    ensures { result ≡ true → is_some cover.now ≡ true }
+{
     match cover {
         Some(cover) => cover.score <= FEW,
         None => false,

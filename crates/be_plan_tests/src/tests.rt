@@ -17,6 +17,7 @@
 
 mod both;
 mod counting;
+mod least;
 mod ranges;
 mod sizes;
 

@@ -58,6 +58,8 @@ pub(crate) struct Counts {
     pub asked: ArrayString<64>,
     pub kinds: u64,
     pub ranges: u64,
+    /// How many keys these ranges have, at most 64 for each.
+    pub listed: u64,
     pub values: u64,
     /// How many keys were searched for.
     pub searches: u64,
@@ -77,6 +79,8 @@ struct Counting<'a> {
     volume: &'a Volume,
     /// The number of keys that it estimates for each index.
     keys: u64,
+    /// Whether it estimates how many keys a range has.
+    counts_keys: bool,
     counts: Counts,
 }
 
@@ -88,10 +92,12 @@ fn start_counting(volume: &Volume, keys: u64) -> Counting<'_>
         source: volume_source(volume),
         volume,
         keys,
+        counts_keys: false,
         counts: Counts {
             asked: ArrayString::new(),
             kinds: 0,
             ranges: 0,
+            listed: 0,
             values: 0,
             searches: 0,
         },
@@ -123,6 +129,7 @@ impl Source for Counting<'_> {
     fn nodes_within(&mut self, keys: KeyRange<'_>, found: &mut Vec<u64>) -> Result<(), Refusal> {
         self.counts.ranges = self.counts.ranges.wrapping_add(1);
         let count = keys_within(self.volume, keys.name, keys.low, keys.high);
+        self.counts.listed = self.counts.listed.wrapping_add(count as u64);
         write_steps(&mut self.counts, keys.name, count);
         self.source.nodes_within(keys, found)
     }
@@ -139,6 +146,14 @@ impl Source for Counting<'_> {
 
     fn estimate(&mut self, _name: &Name) -> u64 {
         self.keys
+    }
+
+    fn about(&mut self, keys: KeyRange<'_>) -> u64 {
+        if self.counts_keys {
+            keys_within(self.volume, keys.name, keys.low, keys.high) as u64
+        } else {
+            1 << 32
+        }
     }
 }
 
@@ -180,6 +195,19 @@ pub(crate) fn nodes_estimated(
     keys: u64,
 ) -> Result<(Vec<u64>, Counts), Refusal> {
     let mut source = start_counting(volume, keys);
+    let nodes = answer(alloc, query, &mut source)?;
+    Ok((nodes, source.counts))
+}
+
+/// The nodes that match the query, and what was asked for to find them, if the source estimates how
+/// many keys each range has, up to 64.
+pub(crate) fn nodes_least(
+    alloc: Global,
+    volume: &Volume,
+    query: &Query,
+) -> Result<(Vec<u64>, Counts), Refusal> {
+    let mut source = start_counting(volume, u64::MAX);
+    source.counts_keys = true;
     let nodes = answer(alloc, query, &mut source)?;
     Ok((nodes, source.counts))
 }
