@@ -73,9 +73,9 @@ module _ (s : State) (sound : IsSound s) (by : List ℕ) (kind : Kind) (is : ind
       let firsts = walked.first in
       let P : ℕ → Type 0 = λ m. sat s f m ≡ true in
       let only : (n : ℕ) → Contains (nodes_of es) n → sat s f n ≡ true = λ n h.
-          let e = mapped_contains (λ (e : List ℕ × ℕ). e.1) es n h in
-          let one = (firsts.only e.0.0 e.0.1 e.1).0 in
-          subst P (one.node_is ∙ e.2) (all e.0.0 one.is_key one.within) in
+      let e = mapped_contains (λ (e : List ℕ × ℕ). e.1) es n h in
+      let one = (firsts.only e.0.0 e.0.1 e.1).0 in
+      subst P (one.node_is ∙ e.2) (all e.0.0 one.is_key one.within) in
       let once : IsDistinct same_node (nodes_of es) = nodes_once s by false es (sorted_keys false es firsts.rising) (λ k n h. keyed_entry low high k n (firsts.only k n h).0) in
       record {
         only = λ n h. only n (subst (λ (l : List ℕ). Contains l n) walked.added h);
@@ -108,11 +108,11 @@ module _ (s : State) (sound : IsSound s) (by : List ℕ) (kind : Kind) (is : ind
   some_paged found next more e count =
       let front = take most rest in
       let only : (n : ℕ) → Contains (nodes_of front) n → sat s f n ≡ true = λ n h.
-          let e = mapped_contains (λ (e : List ℕ × ℕ). e.1) front n h in
-          let there : Contains nodes n = subst (Contains nodes) e.2 (keyed_rest e.0.0 e.0.1 (contains_front most rest e.0 e.1)).1 in
-          (filters.from_filter (sat s f) (fin.keys s.nodes) n there).1 in
+      let e = mapped_contains (λ (e : List ℕ × ℕ). e.1) front n h in
+      let there : Contains nodes n = subst (Contains nodes) e.2 (keyed_rest e.0.0 e.0.1 (contains_front most rest e.0 e.1)).1 in
+      (filters.from_filter (sat s f) (fin.keys s.nodes) n there).1 in
       let once : IsDistinct same_node (nodes_of front) = nodes_once s by false front (sorted_take most rest (sorted_rest s sound by kind is false None nodes))
-          (λ k n h. (keyed_rest k n (contains_front most rest (k, n) h)).0) in
+      (λ k n h. (keyed_rest k n (contains_front most rest (k, n) h)).0) in
       let are = page_nodes found next more e in
       record {
         only = λ n h. only n (subst (λ (l : List ℕ). Contains l n) (sym are) h);
@@ -125,11 +125,11 @@ pub some_any : (s : State) → IsSound s → (f : Formula) (most : ℕ) (found :
 some_any s sound f most found rests some =
     let all : List ℕ = filter (sat s f) (fin.keys s.nodes) in
     let inside : (n : ℕ) → Contains found n → is_in n all ≡ true = λ n h.
-        in_filter (sat s f) (fin.keys s.nodes) n (sym (fin.contains_key-keys s.nodes n) ∙ true_there s sound f n (some.only n h)) (some.only n h) in
+    in_filter (sat s f) (fin.keys s.nodes) n (sym (fin.contains_key-keys s.nodes n) ∙ true_there s sound f n (some.only n h)) (some.only n h) in
     let p : ℕ → Bool = λ n. is_in n found in
     let kept : List ℕ = filter p all in
     let as_many : length kept ≡ length found = length-from_same_keys (eq_by_cmp_equiv nat_cmp_total) kept found (rises_once kept (rises_filter p all (rises_filter (sat s f) (fin.keys s.nodes) (rises_keys s.nodes))))
-        some.once (λ n. both_ways _ _ (λ h. (from_filter p all n h).1) (λ h. in_filter p all n (inside n (contains_of_is_in found n h)) h)) in
+    some.once (λ n. both_ways _ _ (λ h. (from_filter p all n h).1) (λ h. in_filter p all n (inside n (contains_of_is_in found n h)) h)) in
     let others : ℕ = length (filter (λ n. not (p n)) all) in
     let parts : length kept + others ≡ length all = length-filter_both p (λ n. not (p n)) (λ n. refl) all in
     record {

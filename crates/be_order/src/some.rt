@@ -16,6 +16,9 @@ use be_query::Tree;
 use be_value::{Kind, Name, Refusal};
 use std::alloc::Global;
 
+/// Finding all nodes of this many keys takes no longer than estimating what a walk costs.
+const FEW: u64 = 64;
+
 /// A name that a part of a query has comparisons on, and about how many keys the part allows in its
 /// index.
 #[derive(Clone, Copy)]
@@ -64,7 +67,11 @@ fn least_name<'t, S: OrderedSource>(
             let left = least_name(source, bounds, a, a);
             let right = least_name(source, bounds, b, b);
             match (left, right) {
-                (Some(left), Some(right)) => Some(if left.keys < right.keys { right } else { left }),
+                (Some(left), Some(right)) => Some(if left.keys < right.keys {
+                    right
+                } else {
+                    left
+                }),
                 _ => None,
             }
         }
@@ -147,7 +154,7 @@ fn some_on_page<S: OrderedSource>(
 }
 
 /// Replaces the content of a list with some nodes that satisfy a part of a query. Returns `true` if
-/// there are `most` of them.
+/// there are `most` of them, and `false` if it has fewer or only a few keys are allowed.
 fn some_of_part<S: OrderedSource>(
     alloc: Global,
     tree: &Tree,
@@ -168,6 +175,9 @@ fn some_of_part<S: OrderedSource>(
     let Some(least) = least_name(source, &mut bounds, tree, tree) else {
         return Ok(false);
     };
+    if least.keys <= FEW {
+        return Ok(false);
+    }
     let name = least.name;
     let Some(kind) = source.kind_of(name) else {
         return Ok(false);

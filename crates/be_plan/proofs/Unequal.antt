@@ -1,5 +1,5 @@
 -- A comparison by `!=` is true of what is below its literal and of what is above it.
-use Rattle.std.proofs.Common.{◌≡◌, ◌⊎◌, ℕ, ℤ, Bool, true, false, List, refl, sym, ap, ◌∙◌, Some, None, inl, inr, not}
+use Rattle.std.proofs.Common.{◌≡◌, ◌⊎◌, ℕ, ℤ, pos, Bool, true, false, List, refl, sym, ap, ◌∙◌, Some, None, inl, inr, not}
 use Rattle.std.specs.Option.{option_map_or}
 use Rattle.std.specs.Ordering.{int_cmp, is_eq, is_lt, is_gt}
 use Rattle.std.specs.Str.{chars}
@@ -64,8 +64,8 @@ below_unequal (Long n) l h = number_less _ (literal_number l) h
 below_unequal (Llng n) l h = number_less _ (literal_number l) h
 below_unequal (Mims t) l h = text_less t l h
 below_unequal (Rawt bytes) l h = h
-below_unequal (Ulng n) l h = number_less _ (literal_number l) h
-below_unequal (Ullg n) l h = number_less _ (literal_number l) h
+below_unequal (Ulng n) l h = number_less (pos n) (literal_number l) h
+below_unequal (Ullg n) l h = number_less (pos n) (literal_number l) h
 
 -- A value above the literal is unequal to it.
 pub above_unequal : (v : Value) (l : Literal) → holds Gt v l ≡ true → holds Ne v l ≡ true
@@ -74,8 +74,8 @@ above_unequal (Long n) l h = number_greater _ (literal_number l) h
 above_unequal (Llng n) l h = number_greater _ (literal_number l) h
 above_unequal (Mims t) l h = text_greater t l h
 above_unequal (Rawt bytes) l h = h
-above_unequal (Ulng n) l h = number_greater _ (literal_number l) h
-above_unequal (Ullg n) l h = number_greater _ (literal_number l) h
+above_unequal (Ulng n) l h = number_greater (pos n) (literal_number l) h
+above_unequal (Ullg n) l h = number_greater (pos n) (literal_number l) h
 
 -- A value that is unequal to the literal is below it or above it.
 pub unequal_either : (v : Value) (l : Literal) → holds Ne v l ≡ true → (holds Lt v l ≡ true) ⊎ (holds Gt v l ≡ true)
@@ -84,8 +84,8 @@ unequal_either (Long n) l h = number_either _ (literal_number l) h
 unequal_either (Llng n) l h = number_either _ (literal_number l) h
 unequal_either (Mims t) l h = text_either t l h
 unequal_either (Rawt bytes) l h = cc
-unequal_either (Ulng n) l h = number_either _ (literal_number l) h
-unequal_either (Ullg n) l h = number_either _ (literal_number l) h
+unequal_either (Ulng n) l h = number_either (pos n) (literal_number l) h
+unequal_either (Ullg n) l h = number_either (pos n) (literal_number l) h
 
 -- If a range leaves only a `!=` to be tested, a part of it whose values are all unequal to the
 -- literal leaves nothing.

@@ -37,12 +37,16 @@ fn summary(alloc: Global, volume: &Volume, text: &str) -> Result<String, Refusal
     let first = nodes.first().copied().unwrap_or(0);
     let last = nodes.last().copied().unwrap_or(0);
     Ok(format!(in alloc;
-        "{first} {last} {} keys {} asks {}", nodes.len(), counts.listed, counts.values
+        "{first} {last} {} keys {} asks {}",
+        nodes.len(),
+        counts.listed,
+        counts.values
     )?)
 }
 
 /// The queries, and the texts. A line that begins with `#` is a comment.
-const CASES: &str = "# The range of k has 20 keys, and the flag 0 has 50. Only the flag is asked about.
+const CASES: &str =
+    "# The range of k has 20 keys, and the flag 0 has 50. Only the flag is asked about.
 f==0 && k>=11 && k<=30 => 11 29 17 keys 20 asks 20
 k>=11 && k<=30 && f==0 => 11 29 17 keys 20 asks 20
 f==0 && (k>=11 && k<=30) => 11 29 17 keys 20 asks 20

@@ -2,6 +2,3 @@ use Rattle.be_plan.proofs.walks.pass_unequal.Given as goal
 
 abbrev pub ghost-walk_decided : goal.ghost-walk_decided
 ghost-walk_decided g a = g.volume
-
-abbrev pub ghost-walk_decided-2 : goal.ghost-walk_decided-2
-ghost-walk_decided-2 g a = g.volume

@@ -53,8 +53,8 @@ pub returns-in_err-pass_texts-clause-collects : goal.returns-in_err-pass_texts-c
 returns-in_err-pass_texts-clause-collects g c =
     collects_on g.volume (formula c.args.walk.tree.now) c.args.found.now.items c.pass_unequal.new.found.items c.pass_texts.new.found.items c.pass_unequal.ensures.collects c.pass_texts.ensures.collects
 
-pub returns-then-pass_texts-clause-collects : goal.returns-then-pass_texts-clause-collects
-returns-then-pass_texts-clause-collects g c =
+pub returns-then-branch-2-clause-collects : goal.returns-then-branch-2-clause-collects
+returns-then-branch-2-clause-collects g c =
     collects_on g.volume (formula c.args.walk.tree.now) c.args.found.now.items c.pass_unequal.new.found.items c.pass_texts.new.found.items c.pass_unequal.ensures.collects c.pass_texts.ensures.collects
 
 pub returns-clause-collects : goal.returns-clause-collects

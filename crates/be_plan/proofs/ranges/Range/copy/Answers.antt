@@ -19,7 +19,7 @@ pub returns-in_default-clause-keeps : goal.returns-in_default-clause-keeps
 returns-in_default-clause-keeps c = λ k w.
     let low = c.args.self.now.low.items in
     let read : c.low.result.now ++ [] ≡ low = ap (λ l. l ++ []) c.low.ensures ∙ append-nil low in
-    c.raise_to.ensures.keeps k (ap (λ l. is_lt (name_cmp k l)) read ∙ w.from_low) (c.whole.ensures k)
+    c.raise_to.ensures.keeps k (ap (λ l. is_lt (name_cmp k l)) read ∙ w.from_low) (c.whole-range.ensures k)
 
 pub returns-clause-within : goal.returns-clause-within
 returns-clause-within c = λ k w.
@@ -39,4 +39,4 @@ returns-clause-keeps c = λ k w.
     let read : c.low.result.now ++ [] ≡ low = ap (λ l. l ++ []) c.low.ensures ∙ append-nil low in
     let is : high_of c.args.self.now ≡ Some high = search rules in
     c.lower_to.ensures.keeps k (ap (λ l. is_gt (name_cmp k l)) (append-nil high) ∙ sym (ap (λ h. is_above h k) is) ∙ w.to_high)
-    (c.raise_to.ensures.keeps k (ap (λ l. is_lt (name_cmp k l)) read ∙ w.from_low) (c.whole.ensures k))
+    (c.raise_to.ensures.keeps k (ap (λ l. is_lt (name_cmp k l)) read ∙ w.from_low) (c.whole-range.ensures k))

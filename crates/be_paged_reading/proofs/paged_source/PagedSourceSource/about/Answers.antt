@@ -7,7 +7,7 @@ use Rattle.be_paged_reading.specs.Source.{IsKnown}
 use Rattle.be_paged_reading.proofs.Stored.PageIndices.{source_since}
 use Rattle.be_paged_reading.proofs.Asking.SourceKeys.{entry_tree}
 use Rattle.be_paged_reading.proofs.Versions.{version_since}
-use Rattle.be_paged_reading.proofs.paged_source.PagedSource.about_within.Goals as goal
+use Rattle.be_paged_reading.proofs.paged_source.PagedSourceSource.about.Goals as goal
 
 nowhere : Entry
 nowhere = record { name = []; kind = kinds.Cstr; root = 0 }
