@@ -132,12 +132,6 @@ same_picks indexed whole at f None (Some y) e h = cc
 same_picks indexed whole at f (Some x) None e h = cc
 same_picks indexed whole at f (Some x) (Some y) e h = let same : x.picks ≡ y.picks = cc in subst (Covering indexed whole at f) same h
 
--- The choice for a comparison is its own position, if its name has an index.
-pub leaf_choice : (indexed : List ℕ → Bool) (whole : Formula) (at : ℕ) (name : List ℕ) (op : Cmp) (literal : Literal) (x : Option Cover) → IsPart whole at (Leaf name op literal) →
-    is_some x ≡ indexed name → IfSome x (λ c. c.picks ≡ at ∷ []) → IsChoice indexed whole at (Leaf name op literal) x
-leaf_choice indexed whole at name op literal None part e h = sym e
-leaf_choice indexed whole at name op literal (Some x) part e h = subst (Covering indexed whole at (Leaf name op literal)) (sym h) (to_leaf indexed whole at name op literal part (sym e))
-
 module _ (indexed : List ℕ → Bool) (whole : Formula) (at : ℕ) (f l a b : Formula) (first : l ≡ a) (x : Option Cover) (left : IsPart whole at l → IsChoice indexed whole at l x) where
   left_is : IsPart whole at (And a b) → IsChoice indexed whole at a x
   left_is part = subst (λ g. IsChoice indexed whole at g x) first (left (subst (IsPart whole at) (sym first) (left_part whole at a b part)))

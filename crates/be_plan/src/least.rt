@@ -77,10 +77,7 @@ fn least_leaf(comparison: &Comparison, at: usize, keys: Option<u64>) -> PartChoi
         }),
         None => None,
     };
-    PartChoice {
-        cover,
-        end: at + 1,
-    }
+    PartChoice { cover, end: at + 1 }
 }
 
 /// Returns `true` if the walks of the cover visit so few keys that no other cover is worth an
@@ -143,7 +140,10 @@ fn least_part<S: Source>(
             let left = least_part(alloc, source, range, a, joined, at)?;
             if has_few(&left.cover) {
                 let end = left.end + count(b);
-                return Ok(PartChoice { cover: left.cover, end });
+                return Ok(PartChoice {
+                    cover: left.cover,
+                    end,
+                });
             }
             let right = least_part(alloc, source, range, b, joined, left.end)?;
             let end = right.end;

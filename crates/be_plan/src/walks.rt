@@ -230,7 +230,11 @@ fn pass_unequal<S: Source>(
     let Some(above) = part_beyond(walk, comparison, Cmp::Gt) else {
         return Ok(false);
     };
-    let Walk { tree, index, range: _ } = walk;
+    let Walk {
+        tree,
+        index,
+        range: _,
+    } = walk;
     let first = Walk {
         tree,
         index,
