@@ -5,7 +5,7 @@ ghost use Rattle.be_order.specs.Imports.{index_kind, option_copied, scan, Answer
 ghost use Rattle.be_order.specs.Imports.{Decides, Formula, OutOfMemory, State};
 ghost use Rattle.be_order.specs.Firsts.{IsAnyOf, from_number};
 
-use crate::some::some_of;
+use crate::sides::some_of;
 use crate::{OrderedKeys, OrderedSource};
 use be_plan::{KeyRange, PreparedQuery, Source, answer_into};
 use be_value::{Kind, Refusal};

@@ -13,7 +13,7 @@ mod keys;
 mod laws;
 mod pages;
 mod prepared;
-mod some;
+mod sides;
 mod sources;
 mod tested;
 

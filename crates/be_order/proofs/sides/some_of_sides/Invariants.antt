@@ -2,7 +2,7 @@ use Rattle.std.proofs.Common.{◌≡◌, ◌≤◌, ℕ, true}
 use Rattle.be_query.specs.Grammar.{comparisons}
 use Rattle.be_query.specs.View.{formula}
 use Rattle.be_volume.specs.Query.{sat}
-use Rattle.be_order.proofs.some.some_of_sides.Given as goal
+use Rattle.be_order.proofs.sides.some_of_sides.Given as goal
 
 abbrev pub ghost-some_of_part : goal.ghost-some_of_part
 ghost-some_of_part g a = g.volume

@@ -1,4 +1,4 @@
-use Rattle.be_order.proofs.some.some_of_part.Given as goal
+use Rattle.be_order.proofs.sides.some_of_part.Given as goal
 
 abbrev pub ghost-some_within : goal.ghost-some_within
 ghost-some_within g a = g.volume

@@ -4,7 +4,7 @@ use Rattle.be_query.specs.View.{formula}
 use Rattle.be_order.specs.Ordered.{nodes_of}
 use Rattle.be_order.specs.Walks.{HasWalked, IsEntry}
 use Rattle.be_order.proofs.Enough.{some_walked}
-use Rattle.be_order.proofs.some.some_within.Goals as goal
+use Rattle.be_order.proofs.sides.some_within.Goals as goal
 
 pub returns-clause-some : goal.returns-clause-some
 returns-clause-some g c = λ full.
@@ -15,5 +15,5 @@ returns-clause-some g c = λ full.
     let found = c.first_nodes.new.found in
     let walked : HasWalked (IsEntry s by low high) false None c.args.most c.clear.new.self.items found.items = c.in_ok-walked.ensures.walked c.if-not-walked.false s c.requires.1.0 in
     let count : length found.items ≡ c.args.most = omega arith in
-    some_walked s (g.met.S.Source.sound c.args.source.now s c.requires.1.0) by c.args.kind c.requires.1.1 (formula c.args.tree.now) c.args.most low high found.items c.requires.1.2
+    some_walked s (g.met.S.Source.sound c.args.source.now s c.requires.1.0) by c.args.kind c.requires.1.1.0 (formula c.args.tree.now) c.args.most low high found.items c.requires.1.1.1
     (record { entries = walked.entries; first = walked.first; added = walked.added ∙ ap (λ l. l ++ nodes_of walked.entries) c.clear.ensures.items }) count

@@ -7,7 +7,7 @@ use Rattle.be_volume.specs.Reading.{index_kind}
 use Rattle.be_plan.specs.Narrow.{LeavesRest}
 use Rattle.be_plan.proofs.Seen.{left_key}
 use Rattle.be_order.specs.Walks.{HasAllWithin}
-use Rattle.be_order.proofs.some.some_of_part.Goals as goal
+use Rattle.be_order.proofs.sides.some_of_part.Goals as goal
 
 pub least_name-requires : goal.least_name-requires
 least_name-requires g c = (g.volume, c.requires.1.0)
@@ -34,8 +34,10 @@ some_within-requires g c κs within =
       within,
       (
         c.kind_of.ensures.answers s since,
-        ap (index_kind s) c.keys.ensures.name ∙ kind_is,
-        subst N (sym c.keys.ensures.name) (subst L (sym c.keys.ensures.low) (subst H (sym c.keys.ensures.high) all)),
+        (
+          ap (index_kind s) c.keys.ensures.name ∙ kind_is,
+          subst N (sym c.keys.ensures.name) (subst L (sym c.keys.ensures.low) (subst H (sym c.keys.ensures.high) all)),
+        ),
       ),
     )
 
@@ -43,5 +45,5 @@ pub some_on_page-requires : goal.some_on_page-requires
 some_on_page-requires g c κs within =
     let since = c.least_name.ensures.answers g.volume c.requires.1.0 in (
       within,
-      (c.kind_of.ensures.answers g.volume since, c.requires.1.1, sym (c.in-Some-kind_of.ensures.answer g.volume since)),
+      (c.kind_of.ensures.answers g.volume since, (c.requires.1.1, sym (c.in-Some-kind_of.ensures.answer g.volume since))),
     )

@@ -4,7 +4,7 @@ use Rattle.std.specs.declared.result.Result.{Result}
 use Rattle.std.specs.declared.result.Result.TheVariants.{Ok, Err}
 use Rattle.be_query.specs.View.{formula}
 use Rattle.be_order.proofs.Enough.{some_any}
-use Rattle.be_order.proofs.some.some_of.Goals as goal
+use Rattle.be_order.proofs.sides.some_of.Goals as goal
 
 tested : {A E : Type 0} {P Q : A → Type 0} (r : Result A E) → ((a : A) → P a → Q a) → IfOk r P → IfOk r Q
 tested (Ok a) f h = f a h

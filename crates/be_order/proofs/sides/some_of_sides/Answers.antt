@@ -7,7 +7,7 @@ use Rattle.be_query.specs.View.{formula}
 use Rattle.be_query.specs.declared.tree.Tree.{Tree}
 use Rattle.be_volume.specs.Query.{sat}
 use Rattle.be_plan.proofs.Sides.{by_left, by_right, few_left, few_right, less_left}
-use Rattle.be_order.proofs.some.some_of_sides.Goals as goal
+use Rattle.be_order.proofs.sides.some_of_sides.Goals as goal
 
 tested : {A E : Type 0} {P Q : A → Type 0} (r : Result A E) → ((a : A) → P a → Q a) → IfOk r P → IfOk r Q
 tested (Ok a) f h = f a h
@@ -27,16 +27,16 @@ some_of_part-requires g c κs within =
 pub returns-in_err-some_of_part-clause-stays : goal.returns-in_err-some_of_part-clause-stays
 returns-in_err-some_of_part-clause-stays g c = c.some_of_part.ensures.stays ∙ c.sides.invariant.stays
 
-pub returns-then-some_of_part-clause-stays : goal.returns-then-some_of_part-clause-stays
-returns-then-some_of_part-clause-stays g c = c.some_of_part.ensures.stays ∙ c.sides.invariant.stays
+pub returns-then-branch-clause-stays : goal.returns-then-branch-clause-stays
+returns-then-branch-clause-stays g c = c.some_of_part.ensures.stays ∙ c.sides.invariant.stays
 
-pub returns-then-some_of_part-clause-some : goal.returns-then-some_of_part-clause-some
-returns-then-some_of_part-clause-some g c = λ full.
+pub returns-then-branch-clause-some : goal.returns-then-branch-clause-some
+returns-then-branch-clause-some g c = λ full.
     let rest = formula c.sides.rest.now in
     let a = formula c.in-Or.a.value in
     let b = formula c.in-Or.b.value in
     let one : rest ≡ Or a b = ap formula c.in-Or.is in
-    let some = c.in_ok-some_of_part.ensures.some c.if-some_of_part.true in
+    let some = c.in_ok-some_of_part.ensures.some c.if-branch.true in
     record {
       only = λ n h. c.sides.invariant.within n (by_right g.volume rest a b one n (ap (λ (t : Tree). sat g.volume (formula t) n) (sym c.deref.ensures) ∙ some.only n h));
       once = some.once;
