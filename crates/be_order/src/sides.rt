@@ -35,7 +35,7 @@ fn fewer<'t>(a: Allowed<'t>, b: Allowed<'t>) -> Allowed<'t> {
 /// Returns the indexed name for which a part of a query allows the fewest keys. Of the sides of an
 /// `||` it is the one with the most keys, since most nodes satisfy that side. `joined` is the part
 /// together with everything that `&&` joins to it.
-fn least_name<'t, S: OrderedSource>(
+fn fewest_name<'t, S: OrderedSource>(
     source: &mut S,
     bounds: &mut KeyBounds,
     tree: &'t Tree,
@@ -55,8 +55,8 @@ fn least_name<'t, S: OrderedSource>(
             }
         }
         Tree::And(a, b) => {
-            let left = least_name(source, bounds, a, joined);
-            let right = least_name(source, bounds, b, joined);
+            let left = fewest_name(source, bounds, a, joined);
+            let right = fewest_name(source, bounds, b, joined);
             match (left, right) {
                 (Some(left), Some(right)) => Some(fewer(left, right)),
                 (Some(left), None) => Some(left),
@@ -64,8 +64,8 @@ fn least_name<'t, S: OrderedSource>(
             }
         }
         Tree::Or(a, b) => {
-            let left = least_name(source, bounds, a, a);
-            let right = least_name(source, bounds, b, b);
+            let left = fewest_name(source, bounds, a, a);
+            let right = fewest_name(source, bounds, b, b);
             match (left, right) {
                 (Some(left), Some(right)) => Some(if left.keys < right.keys {
                     right
@@ -172,13 +172,13 @@ fn some_of_part<S: OrderedSource>(
     ensures answers { S.answers_for source.new volume }
 {
     let mut bounds = KeyBounds::new();
-    let Some(least) = least_name(source, &mut bounds, tree, tree) else {
+    let Some(fewest) = fewest_name(source, &mut bounds, tree, tree) else {
         return Ok(false);
     };
-    if least.keys <= FEW {
+    if fewest.keys <= FEW {
         return Ok(false);
     }
-    let name = least.name;
+    let name = fewest.name;
     let Some(kind) = source.kind_of(name) else {
         return Ok(false);
     };

@@ -17,7 +17,7 @@ use Rattle.be_volume.specs.Query.{rests}
 use Rattle.be_plan.specs.Explain.{are_places}
 use Rattle.be_plan.specs.Cover.{Comparison, leaves, covers, covers_part, rests_on, choice, chosen, cheaper, both_covers, or_not_covered, score_of}
 use Rattle.be_plan.specs.declared.plans.Cover.{Cover}
-use Rattle.be_plan.specs.Least.{Covering, IsChoice, IsPart}
+use Rattle.be_plan.specs.Covering.{Covering, IsChoice, IsPart}
 use Rattle.be_plan.proofs.Ways.{length-leaves, left_part, right_part, or_cases, and_first, and_second}
 
 any_front : (p : ℕ → Bool) (xs ys : List ℕ) → list_any p xs ≡ true → list_any p (xs ++ ys) ≡ true

@@ -13,7 +13,7 @@ use Rattle.be_query.specs.Grammar.{Formula, Leaf, And, Or, comparisons}
 use Rattle.be_volume.specs.Query.{sat, sees, holds, covered, has_index}
 use Rattle.be_volume.specs.Volume.{State}
 use Rattle.be_plan.specs.Cover.{Comparison, leaves, covers_part, rests_on}
-use Rattle.be_plan.specs.Least.{IsPart}
+use Rattle.be_plan.specs.Covering.{IsPart}
 use Rattle.be_plan.specs.Narrow.{Allows}
 
 slice_get_left : (xs ys : List Comparison) (i : ℕ) → i < length xs → slice_get (xs ++ ys) i ≡ slice_get xs i

@@ -1,9 +1,9 @@
 pub mod Imports
 pub mod Bounding
 pub mod Cover
+pub mod Covering
 pub mod Explain
 pub mod KeyTests
-pub mod Least
 pub mod Marks
 pub mod Narrow
 pub mod Picked

@@ -9,7 +9,7 @@ ghost use Rattle.be_plan.specs.Bounding.{Bounding, HasAtMost};
 ghost use Rattle.be_plan.specs.Narrow.{Within};
 ghost use Rattle.be_plan.specs.Sources.{StillAnswers};
 
-use crate::least::keys_allowed;
+use crate::fewest::keys_allowed;
 use crate::narrowing::narrow_beside;
 use crate::ranges::Range;
 use crate::{KeyRange, Source};

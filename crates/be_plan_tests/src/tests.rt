@@ -17,7 +17,7 @@
 
 mod both;
 mod counting;
-mod least;
+mod fewest;
 mod ranges;
 mod sizes;
 

@@ -201,7 +201,7 @@ pub(crate) fn nodes_estimated(
 
 /// The nodes that match the query, and what was asked for to find them, if the source estimates how
 /// many keys each range has, up to 64.
-pub(crate) fn nodes_least(
+pub(crate) fn nodes_fewest(
     alloc: Global,
     volume: &Volume,
     query: &Query,

@@ -9,18 +9,18 @@ use Rattle.be_plan.proofs.Seen.{left_key}
 use Rattle.be_order.specs.Walks.{HasAllWithin}
 use Rattle.be_order.proofs.sides.some_of_part.Goals as goal
 
-pub least_name-requires : goal.least_name-requires
-least_name-requires g c = (g.volume, c.requires.1.0)
+pub fewest_name-requires : goal.fewest_name-requires
+fewest_name-requires g c = (g.volume, c.requires.1.0)
 
 pub kind_of-requires : goal.kind_of-requires
-kind_of-requires g c = (g.volume, c.least_name.ensures.answers g.volume c.requires.1.0)
+kind_of-requires g c = (g.volume, c.fewest_name.ensures.answers g.volume c.requires.1.0)
 
 pub some_within-requires : goal.some_within-requires
 some_within-requires g c κs within =
     let s = g.volume in
     let f = formula c.args.tree.now in
-    let since = c.least_name.ensures.answers s c.requires.1.0 in
-    let name = c.in-Some.least.name.now in
+    let since = c.fewest_name.ensures.answers s c.requires.1.0 in
+    let name = c.in-Some.fewest.name.now in
     let kind = c.in-Some-kind_of.kind in
     let kind_is = sym (c.in-Some-kind_of.ensures.answer s since) in
     let low = c.narrow.new.self.0 in
@@ -43,7 +43,7 @@ some_within-requires g c κs within =
 
 pub some_on_page-requires : goal.some_on_page-requires
 some_on_page-requires g c κs within =
-    let since = c.least_name.ensures.answers g.volume c.requires.1.0 in (
+    let since = c.fewest_name.ensures.answers g.volume c.requires.1.0 in (
       within,
       (c.kind_of.ensures.answers g.volume since, (c.requires.1.1, sym (c.in-Some-kind_of.ensures.answer g.volume since))),
     )

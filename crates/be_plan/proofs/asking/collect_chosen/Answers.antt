@@ -15,7 +15,7 @@ returns-in_default-clause-refused g c = inr (refl, sym c.in_ok-cover.ensures.cov
 pub walk_picks-requires : goal.walk_picks-requires
 walk_picks-requires g c κs within =
     let P : Option Cover → Type 0 = λ x. IfSome x (λ d. covers (has_index g.volume) d.picks (formula c.args.tree.now) ≡ true) in
-    (within, (c.requires.1.1, (c.choose_least.ensures.answers, subst P c.in-Some.is c.in_ok-cover.ensures.covers)))
+    (within, (c.requires.1.1, (c.choose_fewest.ensures.answers, subst P c.in-Some.is c.in_ok-cover.ensures.covers)))
 
 pub returns-clause-covered : goal.returns-clause-covered
 returns-clause-covered g c = on_ok c.walk_picks.result (λ has. sym c.in_ok-cover.ensures.covered ∙ ap is_some c.in-Some.is) c.walk_picks.ensures.has

@@ -1,4 +1,4 @@
-use Rattle.be_plan.proofs.least.keys_allowed.Goals as goal
+use Rattle.be_plan.proofs.fewest.keys_allowed.Goals as goal
 
 pub returns-in_default-clause-still : goal.returns-in_default-clause-still
 returns-in_default-clause-still g c = (c.requires.0, c.kind_of.ensures.answers _ c.requires.1)

@@ -1,9 +1,9 @@
 use Rattle.std.proofs.Common.{ap, subst, sym}
 use Rattle.be_query.specs.View.{formula}
 use Rattle.be_volume.specs.Query.{has_index}
-use Rattle.be_plan.specs.Least.{IsChoice}
+use Rattle.be_plan.specs.Covering.{IsChoice}
 use Rattle.be_plan.proofs.Choice.{both_choice, either_choice, left_choice}
-use Rattle.be_plan.proofs.least.+least_part.Goals as goal
+use Rattle.be_plan.proofs.fewest.+fewest_part.Goals as goal
 
 pub returns-then-has_few-clause-choice : goal.returns-then-has_few-clause-choice
 returns-then-has_few-clause-choice g t c = λ volume is whole part.

@@ -1,7 +1,7 @@
 use Rattle.be_query.specs.View.{formula}
 use Rattle.be_volume.specs.Query.{has_index}
 use Rattle.be_plan.proofs.Choice.{choice_covers, whole_part}
-use Rattle.be_plan.proofs.least.choose_least.Goals as goal
+use Rattle.be_plan.proofs.fewest.choose_fewest.Goals as goal
 
 pub returns-clause-covers : goal.returns-clause-covers
 returns-clause-covers g c =

@@ -1,7 +1,7 @@
-//! An answer walks the ranges with the fewest keys, in whatever order the comparisons stand and
+//! An answer walks the ranges with the fewest keys, in whatever order the comparisons are and
 //! wherever the parentheses are, and a range that allows no key isn't tested.
 
-use super::counting::nodes_least;
+use super::counting::nodes_fewest;
 use super::volume_of;
 use be_query::parse;
 use be_test_tools::again;
@@ -33,7 +33,7 @@ fn flagged(alloc: Global) -> Result<Volume, Refusal> {
 /// `FIRST LAST COUNT keys LISTED asks VALUES`.
 fn summary(alloc: Global, volume: &Volume, text: &str) -> Result<String, Refusal> {
     let query = parse(alloc, text)?;
-    let (nodes, counts) = nodes_least(alloc, volume, &query)?;
+    let (nodes, counts) = nodes_fewest(alloc, volume, &query)?;
     let first = nodes.first().copied().unwrap_or(0);
     let last = nodes.last().copied().unwrap_or(0);
     Ok(format!(in alloc;
@@ -47,10 +47,10 @@ fn summary(alloc: Global, volume: &Volume, text: &str) -> Result<String, Refusal
 /// The queries, and the texts. A line that begins with `#` is a comment.
 const CASES: &str =
     "# The range of k has 20 keys, and the flag 0 has 50. Only the flag is asked about.
-f==0 && k>=11 && k<=30 => 11 29 17 keys 20 asks 20
-k>=11 && k<=30 && f==0 => 11 29 17 keys 20 asks 20
-f==0 && (k>=11 && k<=30) => 11 29 17 keys 20 asks 20
-k>=11 && f==0 && k<=30 => 11 29 17 keys 20 asks 20
+f==0 && k>=11 && k<=30 => 11 29 16 keys 20 asks 20
+k>=11 && k<=30 && f==0 => 11 29 16 keys 20 asks 20
+f==0 && (k>=11 && k<=30) => 11 29 16 keys 20 asks 20
+k>=11 && f==0 && k<=30 => 11 29 16 keys 20 asks 20
 # The flag 1 has 10 keys, fewer than the range of k.
 k>=11 && k<=50 && f==1 => 12 48 7 keys 10 asks 19
 f==1 && (k>=11 && k<=50) => 12 48 7 keys 10 asks 19
@@ -84,6 +84,6 @@ fn check_summaries(alloc: Global, volume: &Volume) -> Result<(), Fail> {
 }
 
 #[test]
-fn least_keys(rt: HostRuntime) -> Result<(), Fail> {
+fn fewest_keys(rt: HostRuntime) -> Result<(), Fail> {
     check_summaries(rt.alloc(), &flagged(rt.alloc())?)
 }

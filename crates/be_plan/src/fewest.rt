@@ -1,14 +1,14 @@
 //! Choosing the picks whose walks are expected to visit the fewest keys.
 //!
-//! `choose_from` looks only at operators, so that its choice can be explained. Any other cover gives
-//! the same answer, so a call that answers takes the cover whose ranges have the fewest keys. The
-//! source estimates how many keys a range has. All comparisons on one name that `&&` joins bound the
-//! same range, wherever they stand.
+//! `choose_from` looks only at operators, so that its choice can be explained. Any other cover
+//! gives the same answer, so a call that answers takes the cover whose ranges have the fewest keys.
+//! The source estimates how many keys a range has. All comparisons on one name that `&&` joins
+//! bound the same range, wherever they are.
 ghost use Rattle.std.specs.Prelude.{◌≡◌, ◌≤◌, ◌<◌, ◌+◌, ◌∷◌, [], true, is_some, IfOk, IfSome};
 ghost use Rattle.be_plan.specs.Imports.{comparisons, covered, formula, has_index, option_map};
 ghost use Rattle.be_plan.specs.Imports.{Formula, State};
 ghost use Rattle.be_plan.specs.Cover.{both_covers, covers};
-ghost use Rattle.be_plan.specs.Least.{IsChoice, IsPart};
+ghost use Rattle.be_plan.specs.Covering.{IsChoice, IsPart};
 ghost use Rattle.be_plan.specs.Sources.{StillAnswers};
 
 use crate::choosing::{PartChoice, cheaper, count, join_picks, score_of};
@@ -64,7 +64,7 @@ fn cost_of(comparison: &Comparison, keys: u64) -> u64 {
 
 /// Returns the choice for the comparison at position `at`, whose range has about `keys` keys if its
 /// name has an index.
-fn least_leaf(comparison: &Comparison, at: usize, keys: Option<u64>) -> PartChoice
+fn fewest_leaf(comparison: &Comparison, at: usize, keys: Option<u64>) -> PartChoice
     requires { at < 256 }
     ensures chosen { is_some result.cover ≡ is_some keys }
     ensures picks { IfSome result.cover (λ cover. cover.picks ≡ at ∷ []) }
@@ -113,7 +113,7 @@ fn both(
 
 /// Returns the choice for a part of a query whose first comparison is at position `at`. `joined` is
 /// the part together with everything that `&&` joins to it.
-fn least_part<S: Source>(
+fn fewest_part<S: Source>(
     alloc: Global,
     source: &mut S,
     range: &mut Range,
@@ -134,10 +134,10 @@ fn least_part<S: Source>(
     match tree {
         Tree::Leaf(comparison) => {
             let keys = keys_allowed(source, range, joined, &comparison.name);
-            Ok(least_leaf(comparison, at, keys))
+            Ok(fewest_leaf(comparison, at, keys))
         }
         Tree::And(a, b) => {
-            let left = least_part(alloc, source, range, a, joined, at)?;
+            let left = fewest_part(alloc, source, range, a, joined, at)?;
             if has_few(&left.cover) {
                 let end = left.end + count(b);
                 return Ok(PartChoice {
@@ -145,14 +145,14 @@ fn least_part<S: Source>(
                     end,
                 });
             }
-            let right = least_part(alloc, source, range, b, joined, left.end)?;
+            let right = fewest_part(alloc, source, range, b, joined, left.end)?;
             let end = right.end;
             let cover = cheaper(left.cover, right.cover);
             Ok(PartChoice { cover, end })
         }
         Tree::Or(a, b) => {
-            let left = least_part(alloc, source, range, a, a, at)?;
-            let right = least_part(alloc, source, range, b, b, left.end)?;
+            let left = fewest_part(alloc, source, range, a, a, at)?;
+            let right = fewest_part(alloc, source, range, b, b, left.end)?;
             let end = right.end;
             let cover = both(alloc, left.cover, right.cover)?;
             Ok(PartChoice { cover, end })
@@ -163,7 +163,7 @@ fn least_part<S: Source>(
 /// Returns the cover of a query whose walks are expected to visit the fewest keys, or `None` if the
 /// indices don't cover the query. The source estimates each comparison's range once, until a range
 /// has only a few keys.
-pub(crate) fn choose_least<S: Source>(
+pub(crate) fn choose_fewest<S: Source>(
     alloc: Global,
     source: &mut S,
     range: &mut Range,
@@ -178,6 +178,6 @@ pub(crate) fn choose_least<S: Source>(
     ensures stays { S.kept source.new ≡ S.kept source.old }
     ensures answers { S.answers_for source.new volume }
 {
-    let PartChoice { cover, end: _ } = least_part(alloc, source, range, tree, tree, 0)?;
+    let PartChoice { cover, end: _ } = fewest_part(alloc, source, range, tree, tree, 0)?;
     Ok(cover)
 }
