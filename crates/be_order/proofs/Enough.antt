@@ -8,7 +8,6 @@ use Rattle.std.specs.Cmp.{both_ways}
 use Rattle.std.specs.FinMap as fin
 use Rattle.std.specs.FinMap.Entries.{below_all, is_sorted}
 use Rattle.std.specs.List.{Contains, IsDistinct}
-use Rattle.std.specs.Ordering.{nat_cmp}
 use Rattle.std.specs.Result.{result_map_both}
 use Rattle.std.specs.declared.option.Option.{Option}
 use Rattle.std.specs.declared.result.Result.TheVariants.{Ok, Err}
@@ -21,17 +20,17 @@ use Rattle.be_volume.specs.Reading.{index_kind}
 use Rattle.be_volume.specs.Sound.{IsSound}
 use Rattle.be_volume.specs.Volume.{State}
 use Rattle.be_plan.proofs.Answering.{true_there}
-use Rattle.be_plan.proofs.Rising.{contains_of_is_in, from_filter, in_by_place, in_filter, is_in, rises_filter, rises_keys}
+use Rattle.be_plan.proofs.Rising.{contains_of_is_in, from_filter, in_filter, is_in, rises_filter, rises_keys}
 use Rattle.be_order.specs.Firsts.{AreSome, IsAnyOf}
 use Rattle.be_order.specs.Ordered.{Page, after, in_order, key_cmp, nodes_of, page, page_of, page_with}
-use Rattle.be_order.specs.Walks.{AreFirst, HasAllWithin, HasWalked, IsEntry}
+use Rattle.be_order.specs.Walks.{HasAllWithin, HasWalked, IsEntry}
 use Rattle.be_order.proofs.Anys.{Keyed, nodes_once, places_apart, rises_once, same_node}
 use Rattle.be_order.proofs.Filters as filters
 use Rattle.be_order.proofs.Fronts.{at_contained, sorted_keys}
 use Rattle.be_order.proofs.IndexParts.{sorted_rest, there_is}
 use Rattle.be_order.proofs.PageKeys.{mapped_contains}
 use Rattle.be_order.proofs.Walked.{seen_of_key}
-use Rattle.be_order.proofs.WalkedPages.{contains_front, nodes_length}
+use Rattle.be_order.proofs.WalkedPages.{contains_front}
 
 abbrev Entries : Type 0
 Entries = List (List ℕ × ℕ)

@@ -1,8 +1,7 @@
 -- A comparison by `!=` is true of what is below its literal and of what is above it.
-use Rattle.std.proofs.Common.{◌≡◌, ◌⊎◌, ℕ, ℤ, pos, Bool, true, false, List, refl, sym, ap, ◌∙◌, Some, None, inl, inr, not}
+use Rattle.std.proofs.Common.{◌≡◌, ◌⊎◌, ℕ, ℤ, pos, true, false, List, refl, ap, ◌∙◌, Some, None, inl, inr, not}
 use Rattle.std.specs.Option.{option_map_or}
 use Rattle.std.specs.Ordering.{int_cmp, is_eq, is_lt, is_gt}
-use Rattle.std.specs.Str.{chars}
 use Rattle.std.specs.declared.cmp.Ordering.{Ordering}
 use Rattle.std.specs.declared.cmp.Ordering.TheVariants.{Less, Equal, Greater}
 use Rattle.std.specs.declared.option.Option.{Option}
@@ -10,12 +9,10 @@ use Rattle.be_value.specs.Key.{key}
 use Rattle.be_value.specs.declared.values.Kind.{Kind}
 use Rattle.be_value.specs.declared.values.Value.{Value}
 use Rattle.be_value.specs.declared.values.Value.TheVariants.{Cstr, Long, Llng, Mims, Rawt, Ulng, Ullg}
-use Rattle.be_pattern.specs.Match.{matches}
 use Rattle.be_query.specs.Grammar.{Exact, Formula, Leaf, Literal, Wild}
 use Rattle.be_query.specs.declared.tree.Cmp.TheVariants.{Ne, Lt, Gt}
 use Rattle.be_volume.specs.Maps.{name_cmp}
-use Rattle.be_volume.specs.Query.{holds, holds_of_number, holds_of_text, is_true_of, literal_number, sat, sees}
-use Rattle.be_volume.specs.Volume.{State}
+use Rattle.be_volume.specs.Query.{holds, holds_of_number, holds_of_text, literal_number, sat}
 use Rattle.be_plan.specs.Narrow.{IsPair, LeavesRest, Within}
 
 less_unequal : (o : Ordering) → is_lt o ≡ true → not (is_eq o) ≡ true

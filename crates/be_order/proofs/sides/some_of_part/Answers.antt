@@ -1,4 +1,4 @@
-use Rattle.std.proofs.Common.{◌≡◌, ◌∙◌, List, ℕ, None, ap, subst, sym}
+use Rattle.std.proofs.Common.{◌∙◌, List, ℕ, None, ap, subst, sym}
 use Rattle.std.specs.Option.{option_copied, option_map}
 use Rattle.std.specs.declared.option.Option.{Option}
 use Rattle.be_query.specs.Grammar.{Formula}

@@ -1,4 +1,4 @@
-use Rattle.std.proofs.Common.{◌≡◌, ◌∙◌, ◌++◌, [], List, ℕ, None, Some, false, append-nil, ap, sym, refl, rules}
+use Rattle.std.proofs.Common.{◌≡◌, ◌∙◌, ◌++◌, [], None, Some, append-nil, ap, sym, rules}
 use Rattle.std.specs.Ordering.{is_gt, is_lt}
 use Rattle.be_volume.specs.Maps.{name_cmp}
 use Rattle.be_plan.specs.Narrow.{high_of, is_above}

@@ -1,4 +1,4 @@
-use Rattle.std.proofs.Common.{◌≡◌, ◌∙◌, List, ℕ, Some, true, false, ap, sym, rules}
+use Rattle.std.proofs.Common.{◌≡◌, ◌∙◌, Some, true, false, ap, sym, rules}
 use Rattle.std.specs.Ordering.{is_gt, is_lt}
 use Rattle.be_volume.specs.Maps.{name_cmp}
 use Rattle.be_plan.specs.Narrow.{high_of, is_above}
