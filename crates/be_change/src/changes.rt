@@ -155,7 +155,9 @@ impl Change {
         ensures kind { OnOk result (self.old.checks ≡ true
             → IsOfRightKind self.old name (kind_of value)) }
         ensures err { IfErr result (λ e. (self.new ≡ self.old)
-            × (HasNoRoom self.old e ⊎ IsOfWrongKind self.old name (kind_of value) e)) }
+            × ((HasNoRoom self.old e × (self.old.checks ≡ true
+            → IsOfRightKind self.old name (kind_of value)))
+            ⊎ IsOfWrongKind self.old name (kind_of value) e)) }
     {
         self.check_kind(&name, value.kind())?;
         self.collect(Op::Set(node, name, value))

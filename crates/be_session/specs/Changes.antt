@@ -68,9 +68,10 @@ SetsWrongKind c (RmIndex name) e = ⊥
 abbrev pub Collects : Changing → Changing → Op → ℕ → Type 0
 Collects was now op node = (now ≡ with_op was op) × IsGiven was now op node × SetsRightKind was op
 
--- The reason why an operation wasn't collected.
+-- The reason why an operation wasn't collected. Its kind is checked before there is found to be no
+-- room.
 abbrev pub IsUncollected : Changing → Op → CollectError → Type 0
-IsUncollected c op e = HasNoRoom c e ⊎ SetsWrongKind c op e
+IsUncollected c op e = (HasNoRoom c e × SetsRightKind c op) ⊎ SetsWrongKind c op e
 
 -- The operation that is encoded here was collected.
 abbrev pub CollectsMeant : Changing → Changing → Operation → List ℕ → ℕ → Type 0
