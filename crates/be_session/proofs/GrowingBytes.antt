@@ -88,13 +88,11 @@ pub encoded_next : (os : List Operation) (o : Operation) (bytes all : List ℕ) 
 encoded_next os o bytes all ops op are grown within is only =
     let more : List ℕ = both_parts o all in
     let meant : AreMeant os all ops = subst (λ bs. AreMeant os bs ops) (sym grown) (are_meant_kept os bytes more ops are.0) in
-    let before : HaveOnlyParts os all ops = subst (λ bs. HaveOnlyParts os bs ops) (sym grown) (are_only_kept os bytes more ops are.0 are.1.1) in (
+    let before : HaveOnlyParts os all ops = subst (λ bs. HaveOnlyParts os bs ops) (sym grown) (are_only_kept os bytes more ops are.0 are.2) in (
       are_meant_more os o all ops op meant within is,
-      (
-        parts_more os o all
-            ∙ (ap (λ ps. ps ++ more) (ap (all_parts os) grown ∙ (parts_kept os bytes more ops are.0 ∙ are.1.0)) ∙ sym grown),
-        are_only_more os o all ops op meant before only,
-      ),
+      parts_more os o all
+          ∙ (ap (λ ps. ps ++ more) (ap (all_parts os) grown ∙ (parts_kept os bytes more ops are.0 ∙ are.1)) ∙ sym grown),
+      are_only_more os o all ops op meant before only,
     )
 
 -- One more item of a list that is encoded as operations.
