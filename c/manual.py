@@ -10,7 +10,7 @@ COMMENT = r"^/\* ((?:[^*]|\*(?!/))*)\*/\n"
 NAME = r"(?:bes|BES)_\w+"
 
 HEAD = """\
-.\\" Made from include/bestore.h, bestore_types.h, bestore_helpers.h and bestore_text.h by c/manual.py.
+.\\" Made from include/bestore.h, bestore_types.h, bestore_batch.h, bestore_helpers.h and bestore_text.h by c/manual.py.
 .Dd November 27, 2026
 .Dt BESTORE 3
 .Os
@@ -54,7 +54,8 @@ def read(*path):
 
 HEADER = read("include", "bestore.h")
 VALUES = read("include", "bestore_types.h")
-HELPERS = [("HELPERS", read("include", "bestore_helpers.h")), ("TEXTS", read("include", "bestore_text.h"))]
+HELPERS = [(title, read("include", f"bestore_{name}.h"))
+           for title, name in (("BATCHES", "batch"), ("HELPERS", "helpers"), ("TEXTS", "text"))]
 ALL = HEADER + VALUES + "".join(text for _, text in HELPERS)
 
 

@@ -1,4 +1,5 @@
-/* The handles, numbers and structs that the calls of bestore.h take and return. Include bestore.h, which includes this file. */
+/* The handles, numbers and structs that the calls of bestore.h take and return; bestore_client.h uses some of them. Include bestore.h or
+ * bestore_client.h, which include this file. */
 #ifndef BESTORE_TYPES_H
 #define BESTORE_TYPES_H
 

@@ -88,6 +88,7 @@ case $only in
         ;;
     --compile)
         run "Rust, compiled" test --workspace --features $features --no-run
+        run "the client for C, its release compiled" build --release -p bestore-client-c --lib --example costs
         run "Rust, compiled without features" test -p bestore-sys -p bestore-types -p bestore --lib --tests --no-run
         exit
         ;;
@@ -155,6 +156,15 @@ else
     else
         echo "the query window, over the server: ok, $(sed -n 's/^Ran \([0-9]* tests\) in .*/\1/p' "$work/said")"
     fi
+fi
+
+# Tests the client for C and C++ with the server that was built above.
+if ! command -v cc >/dev/null; then
+    echo "the client for C: skipped, there is no cc"
+else
+    run "the client for C, built" build -p bestore-client-c
+    run "the client for C, its release built" build --release -p bestore-client-c --lib --example costs
+    bestore-client-c/test.sh "$CARGO_TARGET_DIR"
 fi
 
 # Checks what the clients of killed servers have seen, with scripts that share no code with the server.

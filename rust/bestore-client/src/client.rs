@@ -1,6 +1,7 @@
 //! A connection to the server.
 
 use crate::options::end_of;
+use crate::patience::Patience;
 use crate::pushes::Pushes;
 use crate::wire::{self, Command, Json, Nothing, Numbers, Push, Refusal, Request};
 use crate::{os, Error, Options, Result, SocketPath};
@@ -9,7 +10,7 @@ use serde::de::DeserializeOwned;
 use serde::Deserialize;
 use std::borrow::Cow;
 use std::collections::BTreeMap;
-use std::io::{self, ErrorKind, Read, Write};
+use std::io::{self, ErrorKind};
 use std::net::Shutdown;
 use std::os::unix::io::{AsRawFd, RawFd};
 use std::os::unix::net::UnixStream;
@@ -49,6 +50,8 @@ pub struct Client {
     queries: BTreeMap<u64, String>,
     /// The features that the server's reply to `hello` listed.
     features: Vec<String>,
+    /// How long the current calls may take together.
+    pub(crate) limit: Option<Patience>,
     /// Whether a call has timed out. Anything that the server sends afterwards belongs to no call.
     is_over: bool,
 }
@@ -158,6 +161,7 @@ impl Client {
             waits: BTreeMap::new(),
             queries: BTreeMap::new(),
             features: Vec::new(),
+            limit: None,
             is_over: false,
         }
     }
@@ -167,6 +171,7 @@ impl Client {
         *self = Client {
             last: self.last,
             options: self.options,
+            limit: self.limit,
             ..other
         };
     }
@@ -214,21 +219,21 @@ impl Client {
         let request = Request { id: self.last, command };
         let mut line = serde_json::to_vec(&request).map_err(bad)?;
         line.push(b'\n');
-        match self.stream.write_all(&line) {
+        let patience = self.patience(Duration::ZERO);
+        match os::send_all(&self.stream, &line, patience.map(|it| it.until)) {
             // The server may have sent its reason for closing the connection.
             Err(error) if matches!(error.kind(), ErrorKind::BrokenPipe | ErrorKind::ConnectionReset) => Ok(self.last),
-            Err(error) => Err(self.failed(error)),
+            Err(error) if error.kind() == ErrorKind::TimedOut => Err(self.late(patience)),
+            Err(error) => Err(error.into()),
             Ok(()) => Ok(self.last),
         }
     }
 
-    /// Returns the error for a failed write. A partly sent line can't be continued, so the connection is over.
-    fn failed(&mut self, error: io::Error) -> Error {
-        let error = self.options.late_or(error);
-        if matches!(error, Error::TimedOut(_)) {
-            self.end();
-        }
-        error
+    /// Closes the connection, and returns the error for a request that took too long. A partly sent line can't be continued, and a reply
+    /// that comes later belongs to no call.
+    fn late(&mut self, patience: Option<Patience>) -> Error {
+        self.end();
+        patience.map_or(Error::Closed, |it| Error::TimedOut(it.time))
     }
 
     /// Closes the connection.
@@ -252,15 +257,11 @@ impl Client {
 
     fn receive_any<T: DeserializeOwned>(&mut self, id: u64) -> Result<T> {
         let wait = self.waits.remove(&id).unwrap_or_default();
-        let time = self.options.timeout.map(|timeout| timeout.saturating_add(wait));
-        let until = time.map(end_of);
+        let patience = self.patience(wait);
         loop {
-            let end = match (self.read_line(until)?, time) {
-                (Some(end), _) => end,
-                (None, time) => {
-                    self.end();
-                    return Err(time.map_or(Error::Closed, Error::TimedOut));
-                }
+            let end = match self.read_line(patience.map(|it| it.until))? {
+                Some(end) => end,
+                None => return Err(self.late(patience)),
             };
             let answer = self.reply(id, end);
             self.received.drain(..end);
@@ -292,8 +293,7 @@ impl Client {
 
     /// Returns the length of the first line that has been received, if its end has been received.
     fn line_end(&mut self) -> Option<usize> {
-        let unseen = &self.received[self.searched..];
-        match unseen.iter().position(|byte| *byte == b'\n') {
+        match os::newline_in(&self.received[self.searched..]) {
             Some(at) => Some(self.searched + at + 1),
             None => {
                 self.searched = self.received.len();
@@ -322,29 +322,14 @@ impl Client {
         if self.is_over {
             return Err(Error::Closed);
         }
-        let left = match until.map(|until| until.saturating_duration_since(Instant::now())) {
-            Some(left) if left.is_zero() => return Ok(false),
-            left => left,
-        };
-        if left.is_some() {
-            self.stream.set_read_timeout(left)?;
-        }
-        let mut bytes = [0; CHUNK];
-        let read = self.stream.read(&mut bytes);
-        if left.is_some() {
-            self.stream.set_read_timeout(None)?;
-        }
-        self.add_read(read, &bytes)
+        Self::has_read(os::receive(&self.stream, &mut self.received, CHUNK, until))
     }
 
-    /// Adds what was read. Returns `false` if nothing had arrived in time.
-    fn add_read(&mut self, read: io::Result<usize>, bytes: &[u8]) -> Result<bool> {
+    /// Returns `true` if something was read, and `false` if nothing had arrived in time.
+    fn has_read(read: io::Result<usize>) -> Result<bool> {
         match read {
             Ok(0) => Err(Error::Closed),
-            Ok(count) => {
-                self.received.extend_from_slice(&bytes[..count]);
-                Ok(true)
-            }
+            Ok(_) => Ok(true),
             Err(error) if matches!(error.kind(), ErrorKind::WouldBlock | ErrorKind::TimedOut) => Ok(false),
             Err(error) if error.kind() == ErrorKind::Interrupted => Ok(true),
             Err(error) if error.kind() == ErrorKind::ConnectionReset => Err(Error::Closed),
@@ -354,10 +339,8 @@ impl Client {
 
     /// Reads what has already arrived, up to the end of a line.
     fn read_arrived(&mut self) -> Result<()> {
-        let mut bytes = [0; CHUNK];
         while !self.is_over && self.searched <= LINE && self.line_end().is_none() {
-            let read = os::receive_now(&self.stream, &mut bytes);
-            if !self.add_read(read, &bytes)? {
+            if !Self::has_read(os::receive_now(&self.stream, &mut self.received, CHUNK))? {
                 break;
             }
         }
@@ -428,7 +411,16 @@ impl Client {
     /// # Errors
     /// The same as `call`.
     pub fn apply(&mut self, batch: &Batch) -> Result<Written> {
-        self.write(batch, None, None)
+        self.write(batch.clone(), None, None)
+    }
+
+    /// Writes like [`apply`](Self::apply) or, with an expected number, like [`apply_if`](Self::apply_if), and takes the batch, which then
+    /// isn't copied.
+    ///
+    /// # Errors
+    /// The same as `call`.
+    pub fn write_batch(&mut self, batch: Batch, expected: Option<u64>) -> Result<Written> {
+        self.write(batch, expected.map(Numbers::One), None)
     }
 
     /// Writes like [`apply`](Self::apply), but only if the journal has exactly `expected` entries. Otherwise the error is `Conflict`.
@@ -436,7 +428,7 @@ impl Client {
     /// # Errors
     /// The same as `call`.
     pub fn apply_if(&mut self, expected: u64, batch: &Batch) -> Result<Written> {
-        self.write(batch, Some(Numbers::One(expected)), None)
+        self.write(batch.clone(), Some(Numbers::One(expected)), None)
     }
 
     /// Writes like [`apply`](Self::apply), but to the given volume of a server that has several. By contrast, `apply` writes to the volume
@@ -446,7 +438,7 @@ impl Client {
     /// # Errors
     /// The same as `call`.
     pub fn apply_in(&mut self, volume: u32, batch: &Batch) -> Result<Written> {
-        self.write(batch, None, Some(volume))
+        self.write(batch.clone(), None, Some(volume))
     }
 
     /// Writes like [`apply_in`](Self::apply_in), but only if the volume's journal has exactly `expected` entries.
@@ -454,12 +446,12 @@ impl Client {
     /// # Errors
     /// The same as `call`.
     pub fn apply_in_if(&mut self, volume: u32, expected: u64, batch: &Batch) -> Result<Written> {
-        self.write(batch, Some(Numbers::One(expected)), Some(volume))
+        self.write(batch.clone(), Some(Numbers::One(expected)), Some(volume))
     }
 
-    fn write(&mut self, batch: &Batch, expected: Option<Numbers>, volume: Option<u32>) -> Result<Written> {
+    fn write(&mut self, batch: Batch, expected: Option<Numbers>, volume: Option<u32>) -> Result<Written> {
         let write = wire::Write {
-            operations: batch.clone().into(),
+            operations: batch.into(),
             expected,
             volume,
             ..wire::Write::default()
@@ -633,6 +625,7 @@ impl Client {
 mod tests {
     use super::*;
     use crate::ErrorName;
+    use std::io::{Read, Write};
 
     /// Returns a client of a mock server that sends these lines.
     fn client_of(lines: &str) -> (UnixStream, Client) {

@@ -29,6 +29,7 @@ mod indices;
 mod options;
 mod ordered;
 mod os;
+mod patience;
 mod pushes;
 mod repeat;
 pub mod socket;

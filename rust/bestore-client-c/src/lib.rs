@@ -1,0 +1,18 @@
+//! libbestore-client: the client for bestored, for C and C++. cbindgen generates `include/bestore_client.h` from this crate, and the
+//! comments on what is exported are the header's.
+//!
+//! Each call first takes its client for itself, and catches what panics ([`session`]). What pointers refer to is read and written in
+//! [`memory`]. Everything else is the crate `bestore-client`.
+#![warn(missing_docs, missing_debug_implementations, rust_2018_idioms)]
+#![deny(unsafe_op_in_unsafe_fn)]
+// The names are those of the header, whose comments say what callers must ensure.
+#![allow(non_camel_case_types, clippy::missing_safety_doc)]
+
+mod faults;
+mod meanings;
+mod memory;
+mod numbers;
+mod reads;
+mod session;
+mod values;
+mod writes;

@@ -1,0 +1,207 @@
+/* Tests servers that are killed or stopped in the middle of calls: each call returns an error in time, and the client says that it has to be
+ * connected again. */
+#include "tests.h"
+#include <pthread.h>
+
+/* A call's timeout, and when it is too late, in milliseconds; a short time may be long on a busy machine. */
+enum { TIMEOUT = 500, LATE = 60000 };
+
+static server own;
+
+static void stop_server(void)
+{
+    int status = 0;
+    CHECK(kill(own.process, SIGSTOP) == 0 && waitpid(own.process, &status, WUNTRACED) == own.process && WIFSTOPPED(status));
+}
+
+/* Checks that the client has lost its connection, and connects it again. */
+static void is_lost(bec_client *client)
+{
+    uint64_t number = 7;
+    const uint64_t begin = now();
+    CHECK(!bec_is_open(client));
+    GIVES(bec_find(client, "name==a", NULL, 0, &number), BEC_LOST);
+    GIVES(bec_set_text(client, 1, "name", "a"), BEC_LOST);
+    CHECK(now() - begin < LATE && number == 0);
+}
+
+static void connected_again(bec_client *client)
+{
+    uint64_t number = 0;
+    OK(bec_reconnect(client));
+    CHECK(bec_is_open(client));
+    OK(bec_find(client, "name==a", NULL, 0, &number));
+}
+
+/* A server that is stopped keeps no call waiting for longer than the timeout. */
+static void stopped(void)
+{
+    bec_client *client = connected(&own);
+    bes_attribute value;
+    uint64_t number = 0;
+    OK(bec_set_timeout(client, TIMEOUT));
+    for (int call = 0; call < 4; call++) {
+        stop_server();
+        const uint64_t begin = now();
+        switch (call) {
+        case 0: GIVES(bec_read(client, 1, "name", &value, NULL, 0), BEC_TIMED_OUT); break;
+        case 1: GIVES(bec_find(client, "name==a", NULL, 0, &number), BEC_TIMED_OUT); break;
+        case 2: GIVES(bec_set_text(client, 1, "name", "a"), BEC_TIMED_OUT); break;
+        default: GIVES(bec_reconnect(client), BEC_TIMED_OUT); break;
+        }
+        CHECK(now() - begin >= TIMEOUT && now() - begin < LATE);
+        says(client, BEC_TIMED_OUT, 0, "the server didn't reply within 500ms");
+        is_lost(client);
+        CHECK(kill(own.process, SIGCONT) == 0);
+        OK(bec_set_timeout(client, PATIENCE));
+        connected_again(client);
+        OK(bec_set_timeout(client, TIMEOUT));
+    }
+    OK(bec_close(client));
+}
+
+/* A request that the server doesn't take ends in time too. */
+static void not_taken(void)
+{
+    static bes_batch batch;
+    char text[256];
+    bec_client *clients[64];
+    const char *name = "aaaaaaaaaaaaaaaaaaaaaaaaaaaaaaaaaaaaaaaaaaaaaaaaaaaaaaaaaaaaaa";
+    memset(text, 1, 255); /* six bytes each on the line */
+    text[255] = 0;
+    bes_batch_clear(&batch);
+    for (int i = 0; i < 64; i++)
+        OK(bes_batch_set_text(&batch, 1, name, text));
+    for (int i = 0; i < 4; i++) {
+        clients[i] = connected(&own);
+        OK(bec_set_timeout(clients[i], TIMEOUT));
+    }
+    stop_server();
+    for (int i = 0; i < 4; i++) {
+        const uint64_t begin = now();
+        GIVES(bec_batch_apply(clients[i], &batch, NULL, 0, NULL), BEC_TIMED_OUT);
+        CHECK(now() - begin < LATE);
+        OK(bec_close(clients[i]));
+    }
+    CHECK(kill(own.process, SIGCONT) == 0);
+}
+
+/* Kills the server after some time, and starts it again. */
+static void *killer(void *with)
+{
+    const unsigned *microseconds = with;
+    usleep(*microseconds);
+    kill_server(&own);
+    start_again(&own);
+    return NULL;
+}
+
+/* A server that keeps its store is killed while a client writes. No write that has succeeded is lost. */
+static void killed(int rounds)
+{
+    bec_client *client = connected(&own);
+    unsigned seed = (unsigned)getpid(), late = 0;
+    int64_t written = 0;
+    for (int round = 0; round < rounds; round++) {
+        unsigned microseconds = (unsigned)rand_r(&seed) % 20000;
+        pthread_t killing;
+        bes_attribute value;
+        uint64_t begin = now();
+        uint32_t error = bec_set_int64(client, 1, "count", ++written);
+        CHECK(error == BES_OK && pthread_create(&killing, NULL, killer, &microseconds) == 0);
+        while (error == BES_OK) {
+            begin = now();
+            error = bec_set_int64(client, 1, "count", written + 1);
+            written += error == BES_OK;
+            if (error == BES_OK)
+                error = bec_read(client, 1, "count", &value, NULL, 0);
+        }
+        CHECK(error == BEC_LOST && now() - begin < LATE);
+        is_lost(client);
+        CHECK(pthread_join(killing, NULL) == 0);
+        OK(bec_reconnect(client));
+        OK(bec_read(client, 1, "count", &value, NULL, 0));
+        CHECK((int64_t)value.number == written || (int64_t)value.number == written + 1);
+        late += (int64_t)value.number > written;
+        written = (int64_t)value.number;
+    }
+    OK(bec_close(client));
+    printf("killed %d times, with %lld writes, %u of them without a reply\n", rounds, (long long)written, late);
+}
+
+/* With `repeat_ms`, a write outlives the server: it is made exactly once. */
+static void repeated(int rounds)
+{
+    bec_options options = {sizeof options, PATIENCE, PATIENCE, PATIENCE, 0, 0};
+    bec_client *client = NULL;
+    unsigned seed = (unsigned)getpid();
+    uint64_t number = 0, last = 0, node = 0;
+    OK(bec_connect(own.socket, strlen(own.socket), &options, &client));
+    OK(bec_new_node(client, &last));
+    for (int round = 0; round < rounds; round++) {
+        unsigned microseconds = (unsigned)rand_r(&seed) % 20000;
+        pthread_t killing;
+        const uint64_t first = last;
+        CHECK(pthread_create(&killing, NULL, killer, &microseconds) == 0);
+        for (int i = 0; i < 200; i++) {
+            OK(bec_new_node(client, &node));
+            CHECK(node == last + 1);
+            last = node;
+        }
+        CHECK(pthread_join(killing, NULL) == 0);
+        OK(bec_new_node(client, &node));
+        CHECK(node == first + 201);
+        last = node;
+    }
+    OK(bec_find(client, "name==a", NULL, 0, &number));
+    OK(bec_close(client));
+}
+
+/* A server that nobody starts again is reported as missing. */
+static void gone(void)
+{
+    bec_client *client = connected(&own);
+    kill_server(&own);
+    GIVES(bec_set_text(client, 1, "name", "a"), BEC_LOST);
+    is_lost(client);
+    OK(bec_set_timeout(client, 100));
+    bec_options options = {sizeof options, 100, 0, 0, 0, 0};
+    bec_client *other = NULL;
+    GIVES(bec_connect(own.socket, strlen(own.socket), &options, &other), BEC_NO_SERVER);
+    says(other, BEC_NO_SERVER, 0, "Connection refused");
+    OK(bec_close(other));
+    OK(bec_close(client));
+}
+
+int main(int argc, char **argv)
+{
+    const int rounds = argc > 1 && strcmp(argv[1], "short") == 0 ? 2 : 20;
+    char kept[80];
+    const char *options[] = {"--keep", kept, NULL};
+    bec_client *client;
+    (void)argv;
+    start(&own, NULL);
+    client = connected(&own);
+    OK(bec_make_index(client, "name", BES_STRING_TYPE));
+    OK(bec_new_node(client, NULL));
+    OK(bec_close(client));
+    stopped();
+    not_taken();
+    kill_server(&own);
+    end_all();
+    start(&own, NULL);
+    kill_server(&own);
+    snprintf(kept, sizeof kept, "%s/kept", own.folder);
+    own.words[3] = options[0];
+    own.words[4] = options[1];
+    start_again(&own);
+    client = connected(&own);
+    OK(bec_make_index(client, "name", BES_STRING_TYPE));
+    OK(bec_new_node(client, NULL));
+    OK(bec_set_int64(client, 1, "count", 0));
+    OK(bec_close(client));
+    killed(rounds);
+    repeated(rounds / 2);
+    gone();
+    return 0;
+}
