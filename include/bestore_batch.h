@@ -1,5 +1,5 @@
-/* Batches: lists of operations, which are filled here and written by another call. Include bestore.h or bestore_client.h, which include this
- * file. Nothing here calls the library, so a program can link either of the two, or both. Names that end with _ are internal to these
+/* Batches: lists of operations, which are filled here and written by another call. Include bestore.h or bestore_client.h, which include
+ * this file. Nothing here calls the library, so a program can link either of the two, or both. Names that end with _ are internal to these
  * headers. */
 #ifndef BESTORE_BATCH_H
 #define BESTORE_BATCH_H
@@ -13,8 +13,8 @@ extern "C" {
 
 /* A batch with room for any 64 operations. Initialise it with BES_BATCH_INIT, which sets all 23 KB of it to zero, or with bes_batch_clear,
  * which sets only two words. Fill it with the helpers below, apply it, and clear it before you reuse it.
- * BES_BAD_COUNT: the batch already has 64 operations. BES_NAME_LENGTH: the name has more than 63 bytes. BES_DATA_LENGTH: the value has more
- * than 255 bytes. After an error, the batch is unchanged. All other errors are reported when the batch is applied. */
+ * BES_BAD_COUNT: the batch already has 64 operations. BES_NAME_LENGTH: the name has more than 63 bytes. BES_DATA_LENGTH: the value has
+ * more than 255 bytes. After an error, the batch is unchanged. All other errors are reported when the batch is applied. */
 typedef struct bes_batch {
     size_t count;
     size_t used;

@@ -135,6 +135,45 @@ static inline uint32_t bec_count(bec_client *client, const char *query, uint64_t
     return bec_find(client, query, NULL, 0, count);
 }
 
+/* Like bec_query, but takes the items of a predicate, as bes_query_items does. After an error in an item, count is the index of the item.
+ * Returns the errors of bec_items_text and of bec_query. */
+static inline uint32_t bec_query_items(bec_client *client, const bes_item *items, size_t items_count, const uint8_t *bytes,
+                                       size_t bytes_count, uint64_t *nodes, size_t nodes_room, uint64_t *count)
+{
+    uint8_t query[4096];
+    uint64_t length = 0;
+    uint32_t error = bec_items_text(items, items_count, bytes, bytes_count, query, sizeof query, &length);
+    *count = error == BES_OK ? 0 : length;
+    if (error == BES_OK && length > sizeof query)
+        error = BES_TOO_LONG;
+    return error != BES_OK ? error : bec_query(client, query, (size_t)length, nodes, nodes_room, count);
+}
+
+/* Like bec_watch. */
+static inline uint32_t bec_watch_text(bec_client *client, const char *query, bec_update *update)
+{
+    return bec_watch(client, (const uint8_t *)query, strlen(query), update);
+}
+
+/* Like bec_check_name. */
+static inline uint32_t bec_check_name_text(const char *name, bes_name *checked)
+{
+    return bec_check_name((const uint8_t *)name, strlen(name), checked);
+}
+
+/* Escapes a string as bec_escape_bytes does.
+ * [out] out      the result and a zero byte, truncated to `room` bytes; twice the string's length plus 1 is enough
+ * Returns how many bytes the whole result has, not counting the zero byte, or 0 if the string isn't valid UTF-8. */
+static inline size_t bec_escape(const char *text, char *out, size_t room)
+{
+    uint64_t count = 0;
+    const size_t most = room > 0 ? room - 1 : 0;
+    bec_escape_bytes((const uint8_t *)text, strlen(text), (uint8_t *)out, most, &count);
+    if (room > 0)
+        out[count < most ? count : most] = 0;
+    return (size_t)count;
+}
+
 /* Like bec_get. */
 static inline uint32_t bec_read(bec_client *client, uint64_t node, const char *name, bes_attribute *attribute, uint8_t *bytes,
                                 size_t bytes_room)

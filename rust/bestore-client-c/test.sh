@@ -76,7 +76,28 @@ build() {
     cc -std=c11 "${warn[@]}" -g -I$include "$@" "tests/$test.c" "$target/debug/libbestore_client_c.a" "$library/libbestore.a" "${needed[@]}" -o "$program"
 }
 
-tests=(calls alike broken hanging)
+# Builds a mailbox with a compiler, and runs it with a server: it does what examples/c/mailbox.c does with a store of its own.
+check_mailbox() {
+    local language=$1 folder server
+    shift
+    folder=$(mktemp -d -p "$work")
+    "$@" "$target/debug/libbestore_client_c.a" "${needed[@]}" -o "$folder/mailbox"
+    "$BESTORED" --socket "$folder/socket" --pages 4096 2>/dev/null &
+    server=$!
+    for _ in {1..600}; do [ ! -S "$folder/socket" ] || break; sleep .1; done
+    BESTORE_SOCKET=$folder/socket timeout 600 "$folder/mailbox" ../../examples/c/letters.mbox 'MAIL:from=="*ann*"' \
+        'MAIL:subject=="*Seeds*" || MAIL:to=="*bob*"' 'MAIL:when>=1741046400' >"$folder/said" || stop "mailbox, $language: failed"
+    cmp "$folder/said" ../../examples/c/mailbox.stdout || stop "mailbox, $language: it prints something else"
+    kill $server
+    wait $server || true
+    if BESTORE_SOCKET=$folder/socket "$folder/mailbox" ../../examples/c/letters.mbox a==b 2>"$folder/said" ||
+        ! grep -q "no server can be reached at $folder/socket" "$folder/said"; then
+        stop "mailbox, $language: it doesn't say that there is no server"
+    fi
+    echo "the client for C, mailbox in $language: ok"
+}
+
+tests=(calls alike changes pages watches broken hanging)
 echo 'int main(void) { return 0; }' >"$work/empty.c"
 check_header
 check_headers
@@ -90,6 +111,7 @@ for test in calls alike; do
     cc -std=c11 "${warn[@]}" -I$include "tests/$test.c" -L"$work" -lbestore-client -L"$library" -lbestore -lpthread -o "$work/shared"
     run "$test, shared objects" "$work/shared"
 done
+check_mailbox C cc -std=c11 "${warn[@]}" -I$include ../../examples/c/mailbox_client.c
 if sanitizes cc address,undefined; then
     for test in "${tests[@]}"; do
         build "$test" "$work/sanitized" -O1 -fsanitize=address,undefined

@@ -125,9 +125,9 @@ pub unsafe extern "C" fn bec_last_fault(client: *mut bec_client, fault: *mut bec
     }
 }
 
-/// Returns what the error of the client's last call that failed says, with its place and details: for an error in a query, also the query
-/// with a caret under the place. The text ends with a zero byte, and is valid until the next call on the client. Without an error, and
-/// without a client, the result is the text of BES_OK or BES_CLOSED.
+/// Returns what the error of the client's last call that failed says, with its place and details: for an error in a query, also the
+/// query with a caret under the place. The text ends with a zero byte, and is valid until the next call on the client. Without an error,
+/// and without a client, the result is the text of BES_OK or BES_CLOSED.
 #[no_mangle]
 pub unsafe extern "C" fn bec_message(client: *mut bec_client) -> *const c_char {
     let mut text = text_of(sys::BES_CLOSED).as_ptr();

@@ -8,11 +8,36 @@
 // The names are those of the header, whose comments say what callers must ensure.
 #![allow(non_camel_case_types, clippy::missing_safety_doc)]
 
-mod faults;
-mod meanings;
-mod memory;
+// In the order of the header, which the blank lines keep.
 mod numbers;
-mod reads;
-mod session;
+
 mod values;
+
+mod session;
+
+mod faults;
+
+mod snapshots;
+
+mod reads;
+
 mod writes;
+
+mod changes;
+
+mod pages;
+
+mod lists;
+
+mod watches;
+
+mod items;
+
+mod texts;
+
+mod meanings;
+
+// The header has nothing of these.
+mod memory;
+mod turn;
+mod updates;

@@ -506,8 +506,8 @@ pub extern "C" fn bec_error_name(error: u32) -> *const c_char {
     terminated(name).as_ptr()
 }
 
-/// Returns what a program can do about an error: BES_CLASS_RETRY, BES_CLASS_MINE, BES_CLASS_FULL or BES_CLASS_GONE. For BES_OK it returns
-/// BES_CLASS_NONE; for an unknown number it returns BES_CLASS_MINE.
+/// Returns what a program can do about an error: BES_CLASS_RETRY, BES_CLASS_MINE, BES_CLASS_FULL or BES_CLASS_GONE. For BES_OK it
+/// returns BES_CLASS_NONE; for an unknown number it returns BES_CLASS_MINE.
 #[no_mangle]
 pub extern "C" fn bec_class(error: u32) -> u32 {
     class_of(error)

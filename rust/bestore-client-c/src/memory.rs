@@ -1,5 +1,5 @@
-//! The caller's memory: what the pointers of a call refer to. A null pointer is accepted for nothing: for no items, and for something that
-//! the caller doesn't want to know.
+//! The caller's memory: what the pointers of a call refer to. A null pointer is accepted for nothing: for no items, and for something
+//! that the caller doesn't want to know.
 
 use crate::faults::Fault;
 use bestore_types::sys;

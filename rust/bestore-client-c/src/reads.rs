@@ -41,8 +41,8 @@ pub unsafe extern "C" fn bec_get(
 /// [out] nodes    the first nodes that match the query, in ascending order; at most nodes_room
 /// [out] count    how many nodes match; if more than nodes_room match, run the query again with a larger array. With an error that has a
 ///                place in the query, the place: its byte offset
-/// BES_NOT_UTF8, BES_TOO_LONG, BES_SYNTAX, BES_BAD_PATTERN, BES_TOO_MANY, BES_TOO_DEEP, BES_NOT_COVERED (count is the offset of the first
-/// comparison whose name has no index, if the server says it).
+/// BES_NOT_UTF8, BES_TOO_LONG, BES_SYNTAX, BES_BAD_PATTERN, BES_TOO_MANY, BES_TOO_DEEP, BES_NOT_COVERED (count is the offset of the
+/// first comparison whose name has no index, if the server says it).
 /// Cost: one round trip for each 50,000 nodes. Without a pin, the nodes of each round trip come from a snapshot of their own.
 #[no_mangle]
 pub unsafe extern "C" fn bec_query(

@@ -10,15 +10,15 @@ use bestore_types::raw::{List, OPERATIONS};
 use bestore_types::sys;
 use std::str;
 
-/// Writes a batch of 1 to 64 operations as one transaction: either all of them take effect, in order, or none does. A pinned snapshot stays
-/// pinned.
+/// Writes a batch of 1 to 64 operations as one transaction: either all of them take effect, in order, or none does. A pinned snapshot
+/// stays pinned.
 /// [in] operations  an array of operations_count operations
 /// [in] bytes     the bytes that contain their names and values
 /// [out] made     for each operation, the node that it created, or 0; at most made_room entries
 /// [out] number   the commit number; after an error, the number reported with it
-/// BES_BAD_COUNT. BES_BAD_PART, BES_NO_OPERATION; then for the name BES_NOT_UTF8, BES_NAME_LENGTH, BES_HAS_NUL; then BES_NO_KIND; then for the
-/// value BES_NOT_UTF8, BES_DATA_LENGTH, BES_HAS_NUL or BES_NO_VALUE: an operation is invalid, nothing was sent, and number is the index of the
-/// first invalid operation.
+/// BES_BAD_COUNT. BES_BAD_PART, BES_NO_OPERATION; then for the name BES_NOT_UTF8, BES_NAME_LENGTH, BES_HAS_NUL; then BES_NO_KIND; then
+/// for the value BES_NOT_UTF8, BES_DATA_LENGTH, BES_HAS_NUL or BES_NO_VALUE: an operation is invalid, nothing was sent, and number is
+/// the index of the first invalid operation.
 /// BES_NO_NODE, BES_NO_ATTRIBUTE, BES_TOO_MANY_ATTRS, BES_INDEX_EXISTS, BES_NO_INDEX, BES_TOO_MANY_INDICES, BES_NOT_INDEXABLE,
 /// BES_COMMITS_SPENT, BES_NO_MEMORY, BES_BUSY, BES_FULL: as for bes_apply. The server itself retries after BES_BUSY and BES_FULL.
 /// BEC_NOT_SAVED: the write may or may not be kept. BEC_STOPPED, BEC_NOT_LEADER: nothing was written.
@@ -47,10 +47,12 @@ pub unsafe extern "C" fn bec_apply(
     }
 }
 
-/// Like bec_apply, but writes only if the journal has exactly `expected` entries. If a client that is pinned to snapshot n calls with expected
-/// = n, no other transaction can come between its snapshot and its write. bec_change does this, and starts over after BES_CONFLICT.
+/// Like bec_apply, but writes only if the journal has exactly `expected` entries. If a client that is pinned to snapshot n calls with
+/// expected = n, no other transaction can come between its snapshot and its write. bec_change does this, and starts over after
+/// BES_CONFLICT.
 /// [in] expected  how many transactions the journal must have. Commit numbers start again with each run of the server
-/// BES_CONFLICT: the journal's length differs, and number is that length. The other errors, parameters and the cost are as for bec_apply.
+/// BES_CONFLICT: the journal's length differs, and number is that length. The other errors, parameters and the cost are as for
+/// bec_apply.
 #[no_mangle]
 pub unsafe extern "C" fn bec_apply_if(
     client: *mut bec_client,
@@ -156,7 +158,7 @@ fn check(operation: &bes_operation, bytes: &[u8]) -> Result<(), u32> {
 }
 
 /// Checks a text that has as many bytes as this.
-fn check_text(text: &[u8], lengths: std::ops::RangeInclusive<usize>, other_length: u32) -> Result<(), u32> {
+pub(crate) fn check_text(text: &[u8], lengths: std::ops::RangeInclusive<usize>, other_length: u32) -> Result<(), u32> {
     match text {
         _ if str::from_utf8(text).is_err() => Err(sys::BES_NOT_UTF8),
         _ if !lengths.contains(&text.len()) => Err(other_length),

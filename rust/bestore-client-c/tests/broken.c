@@ -64,7 +64,8 @@ static void listen_at(peer *it)
     strcpy(address.sun_path, it->path);
     unlink(it->path);
     it->listener = socket(AF_UNIX, SOCK_STREAM, 0);
-    CHECK(it->listener >= 0 && bind(it->listener, (const struct sockaddr *)&address, sizeof address) == 0 && listen(it->listener, 5) == 0);
+    CHECK(it->listener >= 0 && bind(it->listener, (const struct sockaddr *)&address, sizeof address) == 0);
+    CHECK(listen(it->listener, 5) == 0);
 }
 
 /* Connects to the peer and makes a call, with this timeout. Returns the error of the first that fails, which has to come in time. */
@@ -92,7 +93,8 @@ static void gets(peer *it, uint32_t error, bool stays_open)
     CHECK(pthread_create(&serving, NULL, serve, it) == 0);
     const uint32_t given = called(it, error == BEC_TIMED_OUT ? TIMEOUT : PATIENCE, &client);
     if (given != error) {
-        fprintf(stderr, "%s, and not %s, for %.60s then %.60s: %s\n", bec_error_name(given), name, it->greeting, it->reply, bec_message(client));
+        fprintf(stderr, "%s, and not %s: %s\n", bec_error_name(given), name, bec_message(client));
+        fprintf(stderr, "for %.60s and %.60s\n", it->greeting, it->reply);
         exit(1);
     }
     CHECK(bec_is_open(client) == stays_open);
@@ -150,9 +152,14 @@ static void bad_lines(peer *it)
     for (size_t i = 0; i < sizeof lines / sizeof *lines; i++)
         gets_for(it, lines[i], BEC_BAD_LINE);
     const char *const replies[] = {
-        "{\"id\":2,\"ok\":{}}\n", "{\"id\":2,\"ok\":[1,2]}\n", "{\"id\":2,\"ok\":\"\\ud800\"}\n", "{\"id\":2,\"ok\":{\"commit\":1,\"count\":2,\"nodes\":[-1]}}\n",
-        "{\"id\":2,\"ok\":{\"commit\":1,\"count\":2,\"nodes\":[1.5]}}\n", "{\"id\":2,\"ok\":{\"commit\":1,\"count\":2,\"nodes\":[\"1\"]}}\n",
-        "{\"id\":2,\"ok\":{\"commit\":1,\"count\":2,\"nodes\":[18446744073709551616]}}\n", "{\"id\":2,\"error\":{\"message\":7}}\n",
+        "{\"id\":2,\"ok\":{}}\n",
+        "{\"id\":2,\"ok\":[1,2]}\n",
+        "{\"id\":2,\"ok\":\"\\ud800\"}\n",
+        "{\"id\":2,\"ok\":{\"commit\":1,\"count\":2,\"nodes\":[-1]}}\n",
+        "{\"id\":2,\"ok\":{\"commit\":1,\"count\":2,\"nodes\":[1.5]}}\n",
+        "{\"id\":2,\"ok\":{\"commit\":1,\"count\":2,\"nodes\":[\"1\"]}}\n",
+        "{\"id\":2,\"ok\":{\"commit\":1,\"count\":2,\"nodes\":[18446744073709551616]}}\n",
+        "{\"id\":2,\"error\":{\"message\":7}}\n",
     };
     it->greeting = hello;
     for (size_t i = 0; i < sizeof replies / sizeof *replies; i++) {
@@ -177,7 +184,10 @@ static void other_replies(peer *it)
     replies(it, "{\"id\":2,\"ok\":{\"commit\":1,\"count\":2,\"nodes\":[1,3]}}\n", BES_OK, true);
     /* More nodes than there is room for. */
     replies(it, "{\"id\":2,\"ok\":{\"commit\":1,\"count\":2,\"nodes\":[1,3,4,5,6]}}\n", BES_OK, true);
-    replies(it, "{\"watch\":7,\"commit\":2,\"more\":true}\n{\"id\":2,\"ok\":{\"commit\":1,\"count\":2,\"nodes\":[1,3],\"new\":[]}}\n", BES_OK, true);
+    replies(it,
+            "{\"watch\":7,\"commit\":2,\"more\":true}\n"
+            "{\"id\":2,\"ok\":{\"commit\":1,\"count\":2,\"nodes\":[1,3],\"new\":[]}}\n",
+            BES_OK, true);
     replies(it, "{\"id\":2,\"error\":{\"name\":\"Newer\",\"message\":\"it is new\",\"class\":\"full\"}}\n", BEC_UNEXPECTED, true);
     replies(it, "{\"id\":2,\"error\":{\"name\":\"Newer\",\"number\":250,\"message\":\"it is new\"}}\n", 250, true);
     replies(it, "{\"id\":2,\"error\":{\"name\":\"Timeout\",\"message\":\"\"}}\n", BEC_REQUEST_LATE, false);

@@ -1,5 +1,5 @@
-/* Tests servers that are killed or stopped in the middle of calls: each call returns an error in time, and the client says that it has to be
- * connected again. */
+/* Tests servers that are killed or stopped in the middle of calls: each call returns an error in time, and the client says that it has to
+ * be connected again. */
 #include "tests.h"
 #include <pthread.h>
 
@@ -187,8 +187,7 @@ int main(int argc, char **argv)
     OK(bec_close(client));
     stopped();
     not_taken();
-    kill_server(&own);
-    end_all();
+    end(&own);
     start(&own, NULL);
     kill_server(&own);
     snprintf(kept, sizeof kept, "%s/kept", own.folder);

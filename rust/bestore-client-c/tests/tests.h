@@ -40,22 +40,30 @@ typedef struct server {
     const char *words[12];
 } server;
 
-/* The folder of a server that runs, which is removed at the end; and the server. */
+/* The servers that run. */
 static server *running[8];
+
+/* Kills a server, if it runs, and removes its folder. */
+static inline void end(server *it)
+{
+    char command[128];
+    if (it->process > 0) {
+        kill(it->process, SIGKILL);
+        waitpid(it->process, NULL, 0);
+    }
+    snprintf(command, sizeof command, "rm -rf '%s'", it->folder);
+    if (system(command) != 0)
+        fprintf(stderr, "%s is left\n", it->folder);
+    for (size_t i = 0; i < sizeof running / sizeof *running; i++)
+        if (running[i] == it)
+            running[i] = NULL;
+}
 
 static void end_all(void)
 {
-    char command[128];
-    for (size_t i = 0; i < sizeof running / sizeof *running; i++) {
-        if (!running[i])
-            continue;
-        if (running[i]->process > 0)
-            kill(running[i]->process, SIGKILL);
-        snprintf(command, sizeof command, "rm -rf '%s'", running[i]->folder);
-        if (system(command) != 0)
-            fprintf(stderr, "%s is left\n", running[i]->folder);
-        running[i] = NULL;
-    }
+    for (size_t i = 0; i < sizeof running / sizeof *running; i++)
+        if (running[i])
+            end(running[i]);
 }
 
 static inline void start_again(server *it)
@@ -63,6 +71,8 @@ static inline void start_again(server *it)
     it->process = fork();
     CHECK(it->process >= 0);
     if (it->process == 0) {
+        if (!freopen("/dev/null", "w", stderr))
+            _exit(126);
         execv(it->words[0], (char *const *)it->words);
         _exit(127);
     }
@@ -71,6 +81,7 @@ static inline void start_again(server *it)
 /* Starts a server with these options, the last of which is NULL. */
 static inline void start(server *it, const char *const *options)
 {
+    static bool is_registered = false;
     const char *program = getenv("BESTORED");
     size_t count = 0, place = 0;
     CHECK(program);
@@ -85,8 +96,9 @@ static inline void start(server *it, const char *const *options)
         it->words[count++] = *options++;
     while (running[place])
         place++;
-    if (place == 0)
+    if (!is_registered)
         CHECK(atexit(end_all) == 0);
+    is_registered = true;
     running[place] = it;
     start_again(it);
 }

@@ -372,6 +372,11 @@ impl Client {
         Ok(None)
     }
 
+    /// Returns the oldest push that an earlier call has received, without receiving any more.
+    pub fn buffered_push(&mut self) -> Option<Push> {
+        self.pushes.take()
+    }
+
     /// Returns the server's versions and limits.
     ///
     /// # Errors

@@ -24,6 +24,7 @@
 mod activity;
 mod change;
 mod client;
+mod columns;
 mod error;
 mod indices;
 mod options;
@@ -39,7 +40,7 @@ pub use bestore_types::{
     all_in, caret, escape, Batch, Class, Cursor, CursorFault, Hint, Kind, Node, Operation, Operations, Order, Page,
     Value, Written,
 };
-pub use change::Change;
+pub use change::{first_mismatch, Change};
 pub use client::{Client, Query};
 pub use error::{Error, Result};
 pub use options::Options;
