@@ -164,6 +164,9 @@ if ! command -v cc >/dev/null; then
 else
     run "the client for C, built" build -p bestore-client-c
     run "the client for C, its release built" build --release -p bestore-client-c --lib --example costs
+    # A stable compiler takes this option too if it is told to. Debian's proc-macro2 is too old for a nightly one.
+    RUSTC_BOOTSTRAP=1 RUSTFLAGS="-Zsanitizer=address" CARGO_TARGET_DIR="$CARGO_TARGET_DIR/address" \
+        run "the client for C, built with AddressSanitizer" build -p bestore-client-c --target "$(rustc -vV | sed -n 's/^host: //p')"
     bestore-client-c/test.sh "$CARGO_TARGET_DIR"
 fi
 

@@ -118,6 +118,19 @@ if sanitizes cc address,undefined; then
         run "$test, address,undefined" "$work/sanitized" short
     done
 fi
+# The whole client under AddressSanitizer, with the runtime of Rust's compiler.
+host=$(rustc -vV | sed -n 's/^host: //p')
+marked=$target/address/$host/debug/libbestore_client_c.a
+runtime=$(ls "$(rustc --print sysroot)/lib/rustlib/$host/lib"/librustc*_rt.asan.a 2>/dev/null | head -1)
+if [ ! -e "$marked" ] || [ -z "$runtime" ] || ! command -v clang >/dev/null; then
+    echo "the client for C, AddressSanitizer in Rust: skipped, there is no client built with it, no runtime, or no clang"
+else
+    for test in "${tests[@]}"; do
+        clang -std=c11 "${warn[@]}" -g -O1 -fsanitize=address -fno-sanitize-link-runtime -I$include "tests/$test.c" "$marked" \
+            "$library/libbestore.a" -Wl,--whole-archive "$runtime" -Wl,--no-whole-archive "${needed[@]}" -lrt -lgcc_s -o "$work/marked"
+        run "$test, AddressSanitizer in Rust" "$work/marked" short
+    done
+fi
 for test in "${tests[@]}"; do
     run_if_there "$test, valgrind" valgrind -q --fair-sched=try --leak-check=full --child-silent-after-fork=yes --error-exitcode=9 "$work/$test" short
 done

@@ -33,7 +33,7 @@ enum Literal {
     Pattern(String),
 }
 
-/// Where a tree is in the text of another, which decides whether it needs parentheses.
+/// A tree's place in the text of another, which decides whether it needs parentheses.
 #[derive(Clone, Copy, PartialEq, Eq)]
 enum Place {
     Side,

@@ -59,7 +59,7 @@ static void queries(void)
     static const char *const texts[] = {
         "", "size", "size>", "size>=0", "size==[", "name==*", "name==a && size<5 || size>7", "(size==1", "!name==a",
         "missing==1 && size==1", "missing==1", "size==1 || missing==1", "na\\me==\"a\"", "name==[z-a]", "name==a)",
-        "(((((((((((((size==5)))))))))))))", "gr\xc3\xb6\xc3\x9f" "e==1",
+        "(((((((((((((size==5)))))))))))))", "gr\xc3\xb6\xc3\x9f==1",
     };
     char deep[200], many[8 * 300];
     uint64_t node = 0;

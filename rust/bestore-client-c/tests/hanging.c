@@ -28,6 +28,7 @@ static void is_lost(bec_client *client)
 static void connected_again(bec_client *client)
 {
     uint64_t number = 0;
+    OK(bec_set_timeout(client, PATIENCE));
     OK(bec_reconnect(client));
     CHECK(bec_is_open(client));
     OK(bec_find(client, "name==a", NULL, 0, &number));
@@ -53,7 +54,6 @@ static void stopped(void)
         says(client, BEC_TIMED_OUT, 0, "the server didn't reply within 500ms");
         is_lost(client);
         CHECK(kill(own.process, SIGCONT) == 0);
-        OK(bec_set_timeout(client, PATIENCE));
         connected_again(client);
         OK(bec_set_timeout(client, TIMEOUT));
     }
@@ -157,6 +157,85 @@ static void repeated(int rounds)
     OK(bec_close(client));
 }
 
+/* Adds one to a count. */
+static uint32_t add_one(bec_client *client, bes_batch *batch, uint64_t next, void *with)
+{
+    bes_attribute value;
+    const uint32_t error = bec_read(client, 1, "count", &value, NULL, 0);
+    (void)next, (void)with;
+    return error != BES_OK ? error : bes_batch_set_int64(batch, 1, "count", (int64_t)value.number + 1);
+}
+
+/* So does a change: its function runs again on the new connection. */
+static void changed(int rounds)
+{
+    bec_options options = {sizeof options, PATIENCE, PATIENCE, PATIENCE, 0, 0};
+    bec_client *client = NULL;
+    bes_attribute value;
+    unsigned seed = (unsigned)getpid();
+    uint64_t number = 0;
+    OK(bec_connect(own.socket, strlen(own.socket), &options, &client));
+    OK(bec_set_int64(client, 1, "count", 0));
+    for (int round = 0; round < rounds; round++) {
+        unsigned microseconds = (unsigned)rand_r(&seed) % 20000;
+        pthread_t killing;
+        CHECK(pthread_create(&killing, NULL, killer, &microseconds) == 0);
+        for (int i = 0; i < 50; i++)
+            OK(bec_change(client, 1000, add_one, NULL, &number));
+        CHECK(pthread_join(killing, NULL) == 0);
+        OK(bec_change(client, 1000, add_one, NULL, &number));
+    }
+    OK(bec_read(client, 1, "count", &value, NULL, 0));
+    CHECK((int64_t)value.number == 51 * rounds);
+    OK(bec_close(client));
+}
+
+/* Kills the server, and then reads. */
+static uint32_t kill_and_read(bec_client *client, bes_batch *batch, uint64_t next, void *with)
+{
+    (void)with;
+    kill_server(&own);
+    GIVES(add_one(client, batch, next, NULL), BEC_LOST);
+    CHECK(!bec_is_open(client));
+    GIVES(bec_next(client, &next), BEC_LOST);
+    return BEC_LOST;
+}
+
+/* A change whose function loses the server ends, and so does a wait for updates. */
+static void in_between(void)
+{
+    bec_client *client = connected(&own);
+    bec_update update;
+    uint64_t number = 0, begin = now();
+    unsigned microseconds = 100000;
+    pthread_t killing;
+    GIVES(bec_change(client, 1000, kill_and_read, NULL, &number), BEC_LOST);
+    CHECK(now() - begin < LATE);
+    is_lost(client);
+    start_again(&own);
+    connected_again(client);
+    OK(bec_watch_text(client, "name==a", &update));
+    CHECK(pthread_create(&killing, NULL, killer, &microseconds) == 0);
+    begin = now();
+    GIVES(bec_wait(client, UINT32_MAX, &update), BEC_LOST);
+    CHECK(now() - begin < LATE && update.watch == 0);
+    is_lost(client);
+    CHECK(pthread_join(killing, NULL) == 0);
+    connected_again(client);
+    GIVES(bec_refresh(client, 1, &update), BEC_NO_WATCH);
+    /* A server that is stopped has no updates, which is no error; but a call that it has to answer is late. */
+    OK(bec_set_timeout(client, TIMEOUT));
+    OK(bec_watch_text(client, "name==a", &update));
+    stop_server();
+    OK(bec_wait(client, 100, &update));
+    CHECK(update.watch == 0 && bec_is_open(client));
+    begin = now();
+    GIVES(bec_reach(client, UINT64_MAX, TIMEOUT, &number), BEC_TIMED_OUT);
+    CHECK(now() - begin >= 2 * TIMEOUT && now() - begin < LATE);
+    CHECK(kill(own.process, SIGCONT) == 0);
+    OK(bec_close(client));
+}
+
 /* A server that nobody starts again is reported as missing. */
 static void gone(void)
 {
@@ -201,6 +280,8 @@ int main(int argc, char **argv)
     OK(bec_close(client));
     killed(rounds);
     repeated(rounds / 2);
+    changed(rounds / 2);
+    in_between();
     gone();
     return 0;
 }
