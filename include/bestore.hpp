@@ -108,20 +108,6 @@ private:
     std::uint64_t size_ = 0;
 };
 
-// The return value of Pass::change if its function has a result: the commit number and the result.
-template <class T> struct Changed {
-    std::uint64_t number;
-    T value;
-};
-
-// An entry of the journal: its commit number, the pass that wrote it, and its operations. Each new_node operation contains the node that it
-// created.
-struct Entry {
-    std::uint64_t number;
-    std::uint64_t pass;
-    Batch batch;
-};
-
 // The entries of the journal, from a given index to the journal's end at the time when the loop reaches it. Once the pass is closed, begin()
 // throws BES_CLOSED. Each entry is returned once: a later loop continues with the entries written since the previous loop.
 class Entries {
@@ -154,23 +140,6 @@ private:
 
     std::shared_ptr<detail::Session> pass_;
     Entry item_;
-};
-
-// A store's usage.
-struct Status {
-    // The oldest version that any pass has published, and the lowest-numbered pass that has published it. That pass is, or soon will be,
-    // pinned to that version or a later one.
-    struct Held {
-        std::uint64_t version;
-        std::uint64_t pass_number;
-    };
-
-    std::uint64_t pages;        // the total number of pages
-    std::uint64_t free;         // pages available to writes
-    std::uint64_t retired;      // pages of older versions, kept until no pass can read them any more
-    std::uint64_t entries;      // how many transactions the journal has
-    std::uint64_t commits;      // how many it can have
-    std::optional<Held> oldest; // empty if no pass has published a version
 };
 
 // A session: one thread's handle to a store.

@@ -548,6 +548,16 @@ uint32_t bec_change(bec_client *client, uint32_t attempts, bec_changer changer, 
 uint32_t bec_change_any_kind(bec_client *client);
 
 /**
+ * Sets again every attribute of this name that the index lacks, although its value is of the index's kind: those that were set before the
+ * index was created. The work is done through changes of up to 64 nodes, so no newer value is lost.
+ * [in] name      the name, name_length bytes
+ * [out] count    how many attributes were set again; 0 after an error, although some may have been
+ * BES_NO_INDEX, BES_NOT_UTF8, BES_PINNED, BES_NESTED, and the errors of bec_change.
+ * Cost: each node that isn't in the index is read, 64 with each round trip, and each of these round trips may take timeout_ms.
+ */
+uint32_t bec_reindex(bec_client *client, const uint8_t *name, size_t name_length, uint64_t *count);
+
+/**
  * Runs a query, and returns a page of its result in the order of an index: by the value of one attribute, then by node number among
  * equal values. The order is either ascending or exactly the reverse. A page has the first nodes_room nodes after the cursor. A node
  * that has no value in this index isn't on any page.
@@ -675,6 +685,15 @@ uint32_t bec_columns(bec_client *client,
                      uint8_t *bytes,
                      size_t bytes_room,
                      uint64_t *bytes_count);
+
+/**
+ * Counts an index's entries: the nodes that have an attribute of this name that the index holds.
+ * [in] name      the name of the index, name_length bytes
+ * [out] count    how many there are
+ * BES_NO_INDEX, BES_NOT_UTF8, BEC_EXPIRED.
+ * Cost: two round trips.
+ */
+uint32_t bec_pairs(bec_client *client, const uint8_t *name, size_t name_length, uint64_t *count);
 
 /**
  * Explains a query: writes the comparisons for which the query reads an index, joined by " || ", and the query's cost.

@@ -3,6 +3,7 @@
 #define BESTORE_SNAPSHOT_HPP
 
 #include "bestore_handles.hpp"
+#include "bestore_results.hpp"
 #include "bestore_text.hpp"
 #include "bestore_values.hpp"
 
@@ -71,33 +72,6 @@ template <class Call> std::uint32_t tried(bes_pass *pass, bes_retry retry, const
     return error;
 }
 
-// Iterates once over a source's items, one at a time.
-template <class Source, class Item> class Iterator {
-public:
-    using iterator_category = std::input_iterator_tag;
-    using value_type = Item;
-    using difference_type = std::ptrdiff_t;
-    using pointer = const Item *;
-    using reference = const Item &;
-
-    // Starts at the source's current item. Without a source, starts past the last item.
-    explicit Iterator(Source *source) : source_(source) {}
-
-    reference operator*() const { return source_->item_; }
-    pointer operator->() const { return &source_->item_; }
-    Iterator &operator++()
-    {
-        *this = source_->begin();
-        return *this;
-    }
-    void operator++(int) { ++*this; }
-    bool operator==(const Iterator &other) const { return source_ == other.source_; }
-    bool operator!=(const Iterator &other) const { return !(*this == other); }
-
-private:
-    Source *source_;
-};
-
 } // namespace detail
 
 // A query that is parsed once. It isn't tied to a store, and can be run in any snapshot.
@@ -151,12 +125,6 @@ private:
 
     detail::Handle<bes_witness, bes_dismiss> handle_;
     detail::Identity store_;
-};
-
-// The nodes that a live query's result has gained, and those that it has lost, both in ascending order.
-struct Updates {
-    std::vector<Node> created;
-    std::vector<Node> removed;
 };
 
 namespace detail {

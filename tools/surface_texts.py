@@ -115,6 +115,11 @@ def cpp_kind_names(surface: Surface) -> str:
     return lines(f'    case Kind::{it.tool}:\n        return "{it.tool}";' for it in surface.kinds)
 
 
+def cpp_no_value(surface: Surface) -> str:
+    it = next(it for it in surface.faults if it.c == "NO_VALUE")
+    return f'    throw Refusal({{{it.constant}, "{it.constant}", BES_CLASS_{it.klass.upper()}}}, "{escaped(it.text)}");\n'
+
+
 def rust_constants(surface: Surface) -> str:
     def constant(name: str, value: str) -> str:
         return f"    {name} = {value};"
@@ -446,6 +451,7 @@ REGIONS: dict[tuple[str, str], Callable[[Surface], str]] = {
     ("include/bestore_text.h", "never true"): c_never_true,
     ("include/bestore_values.hpp", "kinds"): cpp_kinds,
     ("include/bestore_values.hpp", "names of kinds"): cpp_kind_names,
+    ("include/bestore_values.hpp", "error of a number"): cpp_no_value,
     ("rust/bestore-types/src/sys.rs", "constants"): rust_constants,
     ("rust/bestore-types/src/class.rs", "classes"): rust_classes,
     ("rust/bestore-types/src/class.rs", "errors"): rust_meanings,

@@ -1,7 +1,7 @@
 //! Changes: reads and writes that depend on each other.
 
 use crate::faults::Fault;
-use crate::memory::put;
+use crate::memory::{put, text};
 use crate::numbers::*;
 use crate::reads::located;
 use crate::session::{bec_client, call, in_turn, let_call, with_state, State};
@@ -87,6 +87,31 @@ pub unsafe extern "C" fn bec_change_any_kind(client: *mut bec_client) -> u32 {
                 Ok(())
             }
             false => Err(Fault::of(sys::BES_NESTED)),
+        })
+    }
+}
+
+/// Sets again every attribute of this name that the index lacks, although its value is of the index's kind: those that were set before the
+/// index was created. The work is done through changes of up to 64 nodes, so no newer value is lost.
+/// [in] name      the name, name_length bytes
+/// [out] count    how many attributes were set again; 0 after an error, although some may have been
+/// BES_NO_INDEX, BES_NOT_UTF8, BES_PINNED, BES_NESTED, and the errors of bec_change.
+/// Cost: each node that isn't in the index is read, 64 with each round trip, and each of these round trips may take timeout_ms.
+#[no_mangle]
+pub unsafe extern "C" fn bec_reindex(
+    client: *mut bec_client,
+    name: *const u8,
+    name_length: usize,
+    count: *mut u64,
+) -> u32 {
+    // SAFETY: the header says what the pointers are.
+    unsafe {
+        call(client, |state| {
+            put(count, 0);
+            state.check_not_changing()?;
+            let name = text(name, name_length)?;
+            put(count, state.client()?.reindex(name)?);
+            Ok(())
         })
     }
 }

@@ -176,6 +176,29 @@ fn cells_of(rows: Vec<Vec<Option<Value>>>) -> (Vec<bes_cell>, Vec<u8>) {
     (cells, bytes)
 }
 
+/// Counts an index's entries: the nodes that have an attribute of this name that the index holds.
+/// [in] name      the name of the index, name_length bytes
+/// [out] count    how many there are
+/// BES_NO_INDEX, BES_NOT_UTF8, BEC_EXPIRED.
+/// Cost: two round trips.
+#[no_mangle]
+pub unsafe extern "C" fn bec_pairs(
+    client: *mut bec_client,
+    name: *const u8,
+    name_length: usize,
+    count: *mut u64,
+) -> u32 {
+    // SAFETY: the header says what the pointers are.
+    unsafe {
+        call(client, |state| {
+            put(count, 0);
+            let name = text(name, name_length)?;
+            put(count, state.ask(|client| client.pairs(name))?);
+            Ok(())
+        })
+    }
+}
+
 /// Explains a query: writes the comparisons for which the query reads an index, joined by " || ", and the query's cost.
 /// [out] bytes    the first bytes of the explanation; at most bytes_room. No zero byte follows them.
 /// [out] count    how many bytes the explanation has

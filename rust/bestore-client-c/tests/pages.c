@@ -245,10 +245,38 @@ static void store(void)
     GIVES(bec_reach(client, number + 1, 300, &length), BEC_NOT_REACHED);
     CHECK(length == number && now() - late >= 300);
     GIVES(bec_flush(client), BEC_NOT_KEPT);
+    OK(bec_pairs(client, bytes_of("label"), 5, &number));
+    CHECK(number == 100);
+    GIVES(bec_pairs(client, bytes_of("missing"), 7, &number), BES_NO_INDEX);
+    CHECK(number == 0);
     OK(bec_explain(client, bytes_of("when>=5 && label==a"), 19, (uint8_t *)explained, sizeof explained, &number));
     CHECK(number == strlen("\"label\"==\"a\" score 1") && memcmp(explained, "\"label\"==\"a\" score 1", (size_t)number) == 0);
     GIVES(bec_explain(client, bytes_of("when"), 4, (uint8_t *)explained, sizeof explained, &number), BES_SYNTAX);
     CHECK(number == 4);
+}
+
+/* An index that is made late holds what was set before, once it is filled. */
+static void reindexed(void)
+{
+    uint64_t count = 0, number = 0;
+    for (int i = 0; i < 70; i++)
+        OK(i % 2 ? bec_set_text(client, made[i], "late", "a") : bec_set_int64(client, made[i], "late", i));
+    OK(bec_make_index(client, "late", BES_INT64_TYPE));
+    OK(bec_pairs(client, bytes_of("late"), 4, &count));
+    CHECK(count == 0);
+    OK(bec_reindex(client, bytes_of("late"), 4, &count));
+    CHECK(count == 35);
+    OK(bec_find(client, "late>=0", NULL, 0, &count));
+    CHECK(count == 35);
+    OK(bec_reindex(client, bytes_of("late"), 4, &count));
+    CHECK(count == 0);
+    GIVES(bec_reindex(client, bytes_of("missing"), 7, &count), BES_NO_INDEX);
+    OK(bec_set_int64(client, made[70], "later", 1));
+    OK(bec_make_index(client, "later", BES_INT64_TYPE));
+    OK(bec_pin(client, &number));
+    GIVES(bec_reindex(client, bytes_of("later"), 5, &count), BES_PINNED);
+    OK(bec_unpin(client));
+    OK(bec_remove_index(client, "late") || bec_remove_index(client, "later"));
 }
 
 /* A snapshot that is held for too long expires. */
@@ -307,6 +335,7 @@ int main(void)
     columns();
     snapshots();
     store();
+    reindexed();
     expired();
     texts();
     OK(bec_close(other));
