@@ -2,6 +2,7 @@
 
 use crate::common::files::{small, Folder};
 use crate::common::Server;
+use bestore_client::{Batch, Client};
 use std::fs;
 
 #[test]
@@ -27,6 +28,25 @@ fn a_store_that_is_full_says_what_would_help() {
     (0..450).for_each(|number| fs::remove_file(folder.path(format!("f{number}"))).unwrap());
     server.import(&folder);
     assert_eq!(server.paths("name==\"*\""), folder.paths());
+}
+
+#[test]
+fn a_store_whose_pages_an_older_snapshot_keeps_is_not_full() {
+    const PAGES: u64 = 1024;
+    let server = server!(Server::start_with(&["--pages", &PAGES.to_string()]));
+    let folder = small();
+    server.import(&folder);
+    let mut reader = Client::connect(server.socket()).unwrap();
+    reader.pin().unwrap();
+    let mut writer = Client::connect(server.socket()).unwrap();
+    let mut mark = 0_i64;
+    // One page in 64 has to be free for a new file.
+    while writer.status().unwrap().free >= PAGES / 64 {
+        mark += 1;
+        writer.apply(Batch::new().set(1, "mark", mark)).unwrap();
+    }
+    folder.file("new", "");
+    assert_eq!(server.import(&folder)[0], 1);
 }
 
 #[test]

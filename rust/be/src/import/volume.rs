@@ -54,6 +54,7 @@ pub struct Volume {
     commit: u64,
     next: u64,
     pub pages: u64,
+    /// How many pages are free. Those that older snapshots keep count too: a write that needs them gets them, after a wait.
     pub free: u64,
     pub is_full: bool,
     batches: u32,
@@ -100,7 +101,8 @@ impl Volume {
     pub fn look(&mut self) -> Result<(), Failure> {
         let status = self.client().status()?;
         let of_volume = self.number.and_then(|number| status.volumes.get(number as usize));
-        (self.pages, self.free) = of_volume.map_or((status.pages, status.free), |it| (it.pages, it.free));
+        let whole = (status.pages, status.free + status.retired);
+        (self.pages, self.free) = of_volume.map_or(whole, |it| (it.pages, it.free + it.retired));
         self.is_full = self.free * RESERVE < self.pages;
         Ok(())
     }
