@@ -80,8 +80,8 @@ for compiler in c++ g++ clang++; do
 done
 
 # The tests, and the ones among them that start threads.
-tests=(test queries columns cursors ordered changes batches closing refreshes errors threads witness helpers texts query_texts bounds racing promises huge_pages large)
-tests_cpp=(test helpers changes ordered racing lifetimes large)
+tests=(test building queries columns cursors ordered changes batches closing refreshes errors threads witness helpers texts query_texts bounds racing promises huge_pages large)
+tests_cpp=(test building helpers changes ordered racing lifetimes large)
 with_threads=(changes threads witness helpers racing promises)
 
 for test in "${tests[@]}"; do
@@ -208,68 +208,7 @@ else
     echo "C, costs: skipped, valgrind/callgrind.h is not installed"
 fi
 
-build -O2 ../examples/c/first.c -o "$work/first"
-"$work/first" | cmp - <(echo "node 1")
-build -O2 ../examples/c/unread.c -o "$work/unread"
-"$work/unread" | cmp - <(printf '%s\n' "came 1" "came 2" "went 1" "came 3")
-build -O2 ../examples/c/newest.c -o "$work/newest"
-"$work/newest" | cmp - <(printf '20 letters, Letter %s, and more\n' "98 to Letter 60" "58 to Letter 20" "100 to Letter 62")
-build -O2 ../examples/c/jobs.c -o "$work/jobs"
-"$work/jobs" | cmp - <(echo "200 jobs were claimed")
-build -O2 ../examples/c/carry.c -o "$work/carry"
-"$work/carry" | cmp - <(printf '%s\n' "3 stores" "ann 500" "bob 500" "in the first store 499")
-build -O2 ../examples/c/mailbox.c -o "$work/mailbox"
-"$work/mailbox" ../examples/c/letters.mbox 'MAIL:from=="*ann*"' 'MAIL:subject=="*Seeds*" || MAIL:to=="*bob*"' \
-    'MAIL:when>=1741046400' |
-    cmp - ../examples/c/mailbox.stdout
-build -O2 ../examples/c/counter.c -o "$work/counter"
-"$work/counter" | cmp - <(printf '%s\n' "MAIL:from==ann 1000" "MAIL:from==bob 1000" "letters==2000 1")
-
-# Headers that aren't UTF-8, are cut off inside a character, too long or repeated, contain a zero byte, or end with the file.
-{
-    printf 'From a\nFrom: B\366b\nSubject: %0254d\303\251\nDate: nonsense\n\nFrom: body\n' 0
-    printf 'From b\nFrom: \0zero\nSubject: \377\376\nTo: %09000d\n\n' 0
-    printf 'From c\r\n'; printf 'Subject: again%d\r\n' {1..99}; printf 'From: first\r\nFrom: second\r\n\r\nFrom: body\r\n'
-    printf 'From d\nSubject: no end'
-} >"$work/broken.mbox"
-"$work/mailbox" "$work/broken.mbox" 'MAIL:from=="*"' 'MAIL:subject=="?" || MAIL:subject=="??"' 'MAIL:subject=="no end"' \
-    'MAIL:subject=="0*0" && MAIL:from=="B?b"' 'MAIL:subject==again1 && MAIL:from==first' 'MAIL:from==" zero"' >"$work/said"
-sed -n '/^  /!s/.*: //p' "$work/said" | tr '\n' ' ' | cmp - <(printf '3 3 1 1 1 1 1 ')
-if "$work/mailbox" "$work/missing.mbox" 'MAIL:from=="*"' 2>"$work/warned" || ! grep -q "missing.mbox: No such file" "$work/warned"; then
-    cat "$work/warned" >&2
-    echo "mailbox: a missing file isn't reported" >&2
-    exit 1
-fi
-# When the store is full, reading stops, and the mails read so far can be found.
-awk 'BEGIN { for (i = 0; i < 6000; i++) printf "From x\nFrom: ann%d\nTo: bob%d\nSubject: Letter %d\nDate: Mon, 3 Mar 2025 09:12:00 +0000\n\nText\n", i, i, i }' \
-    >"$work/many.mbox"
-if timeout -k 10 900 "$work/mailbox" "$work/many.mbox" 'MAIL:from=="ann*"' >"$work/said" 2>"$work/warned"; then
-    echo "mailbox: more mails were read than a store takes" >&2
-    exit 1
-fi
-mails=$(sed -n 's/^the store takes no more after \(.*\) mails: no page is free;.*$/\1/p' "$work/warned")
-[ "${mails:-0}" -gt 100 ] && grep -q "^MAIL:from==\"ann\*\": $mails$" "$work/said" ||
-    { cat "$work/said" "$work/warned" >&2; echo "mailbox: a full store didn't end it" >&2; exit 1; }
-echo "examples in C: ok"
-
-if [ -n "$has_cpp" ]; then
-    build_cpp -O2 ../examples/c/first.cpp -o "$work/first-cpp"
-    "$work/first-cpp" | cmp - <(echo "node 1, from ann")
-    build_cpp -O2 ../examples/c/counter.cpp -o "$work/counter-cpp"
-    "$work/counter-cpp" | cmp - <(echo "ann 1000, bob 1000, counted 2000")
-    build_cpp -O2 ../examples/c/catalogue.cpp -o "$work/catalogue"
-    mkdir "$work/files"
-    printf 12345 >"$work/files/five.txt"
-    printf 123456789 >"$work/files/nine.c"
-    "$work/catalogue" "$work/files" 'size>5' 'kind==text' |
-        cmp - <(printf '2 files\nsize>5: 1\n  nine.c 9\nkind==text: 1\n  five.txt 5\n')
-    # File names that aren't valid UTF-8 or have a meaning in a pattern, and a comparison that is never true.
-    : >"$work/files/"$'bad\xff\xc3.txt' >"$work/files/[draft].txt"
-    "$work/catalogue" "$work/files" 'name=="bad*"' 'name==\[draft].txt' 'size>1.5' 2>"$work/warned" |
-        cmp - <(printf '4 files\nname=="bad*": 1\n  bad??.txt 0\nname==\\[draft].txt: 1\n  [draft].txt 0\nsize>1.5: 0\n')
-    grep -qx "size is a whole number in every file, and 1.5 isn't one, so the comparison is never true" "$work/warned"
-    echo "examples in C++: ok"
-fi
+../tests/examples ../examples/c -I../include libbestore.a
 
 if ! command -v python3 >/dev/null; then
     echo "Python: skipped, there is no python3"
@@ -284,7 +223,6 @@ make -s -C ../python
 export PYTHONDONTWRITEBYTECODE=1
 python=(env BESTORE_LIBRARY="$PWD/libbestore.so" PYTHONPATH=../python python3 -W error)
 run Python "${python[@]}" -m unittest discover -q -s ../python
-"${python[@]}" ../examples/python/first.py | cmp - <(echo "1 ann")
 "${python[@]}" ../bench/python.py --rounds 1 --nodes 100 --seconds 0.001 >"$work/said" 2>&1 ||
     { cat "$work/said" >&2; echo "bench/python.py: failed" >&2; exit 1; }
 "${python[@]}" ../bench/claims.py --rounds 1 --queued 500 --workers 2 >"$work/said" 2>&1 ||
@@ -303,6 +241,7 @@ else
     echo "the library and the program: skipped, crates/bestore/out/bestore isn't built"
 fi
 python3 manual.py | cmp - ../docs/bestore.3
+python3 manual.py client | cmp - ../docs/bestore_client.3
 (cd ../python && run_if_there types mypy --cache-dir="$work/mypy")
 
 run "examples in Python" "${python[@]}" -m unittest discover -q -s ../examples/python

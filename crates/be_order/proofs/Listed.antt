@@ -1,5 +1,5 @@
 -- A list of all nodes that satisfy a formula, and lookups in it.
-use Rattle.std.proofs.Common.{◌≡◌, ◌⊎◌, inl, inr, nat_cmp, ◌<◌, ◌≤◌, ◌+◌, ◌-◌, ℕ, zero, suc, Bool, true, false, List, [], refl, sym, ap, ◌∙◌, subst, arith, Some, None, Ok, Err, filter, is_ok, get_or, length, if◌then◌else◌}
+use Rattle.std.proofs.Common.{◌≡◌, ◌⊎◌, inl, inr, nat_cmp, ◌<◌, ◌≤◌, ◌+◌, ◌-◌, ℕ, zero, suc, Bool, true, false, List, [], refl, sym, ap, ◌∙◌, subst, arith, Ok, Err, filter, is_ok, get_or, length, if◌then◌else◌}
 use Rattle.std.proofs.lemmas.List.Sorted.{searched}
 use Rattle.std.proofs.lemmas.List.{get_or_default}
 use Rattle.std.specs.List.{Contains}

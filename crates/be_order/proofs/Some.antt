@@ -10,12 +10,12 @@ use Rattle.std.specs.declared.result.Result.TheVariants.{Ok}
 use Rattle.be_value.specs.declared.refusals.Refusal.{Refusal}
 use Rattle.be_order.specs.Firsts.{IsAnyOf}
 
-length_taken : (most : ℕ) (xs : List ℕ) → length (take most xs) ≡ min most (length xs)
+pub length_taken : (most : ℕ) (xs : List ℕ) → length (take most xs) ≡ min most (length xs)
 length_taken zero xs = omega arith
 length_taken (suc m) [] = omega arith
 length_taken (suc m) (x ∷ xs) = omega (arith, length_taken m xs)
 
-contains_taken : (most : ℕ) (xs : List ℕ) (n : ℕ) → Contains (take most xs) n → Contains xs n
+pub contains_taken : (most : ℕ) (xs : List ℕ) (n : ℕ) → Contains (take most xs) n → Contains xs n
 contains_taken zero xs n h = absurd (omega (arith, h.1))
 contains_taken (suc m) [] n h = h
 contains_taken (suc m) (x ∷ xs) n (zero, below, is) = (0, omega arith, is)

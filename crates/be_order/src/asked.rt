@@ -15,10 +15,11 @@ ghost use Rattle.be_order.specs.Asked.{true_after};
 ghost use Rattle.be_order.specs.Ordered.{cursor_bytes};
 
 use crate::costs::Pace;
+use crate::odds::is_true_by_odds;
 use crate::prepared::keep_first;
 use crate::{OrderedKeys, OrderedSource};
 use arrayvec::ArrayVec;
-use be_plan::{KeyRange, Source, TextTest, is_true};
+use be_plan::{KeyRange, Source, TextTest};
 use be_query::Tree;
 use be_value::{Kind, Refusal};
 use std::alloc::{AllocError, Global};
@@ -98,7 +99,7 @@ fn is_part_true<S: Source>(
             Some(test) => source.holds_tested(node, comparison, test),
             None => source.holds(node, comparison),
         },
-        _ => is_true(source, tree, node),
+        _ => is_true_by_odds(source, tree, node),
     }
 }
 
@@ -119,7 +120,7 @@ fn is_left_true<S: Source>(source: &mut S, left: Left<'_, '_, '_>, node: u64) ->
 }
 
 /// Adds the node if it satisfies the remaining condition.
-fn push_if_true<S: Source>(
+pub(crate) fn push_if_true<S: Source>(
     source: &mut S,
     left: Left<'_, '_, '_>,
     node: u64,

@@ -11,8 +11,11 @@ mod costs;
 mod firsts;
 mod keys;
 mod laws;
+mod numbers;
+mod odds;
 mod pages;
 mod prepared;
+mod sides;
 mod sources;
 mod tested;
 

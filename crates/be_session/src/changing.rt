@@ -1,9 +1,10 @@
 //! Changes made through calls of a session, which begin, collect, read and end them without a
 //! callback.
 ghost use Rattle.std.specs.Prelude.{◌≡◌, IfErr, IfOk, false, true};
-ghost use Rattle.be_session.specs.Imports.{Begins, HasRead, IsNotBegun, IsPinnedTo, OutOfMemory};
+ghost use Rattle.be_session.specs.Imports.{Begins, HasRead, IsNotBegun, OutOfMemory};
 ghost use Rattle.be_session.specs.Changes.{Abandons, Collects, CollectsMeant, EndsChange};
-ghost use Rattle.be_session.specs.Changes.{IsNotCollected, IsUncollected, IsUnwrittenChange};
+ghost use Rattle.be_session.specs.Changes.{IsNotCollected, IsOwnChange, IsUncollected};
+ghost use Rattle.be_session.specs.Changes.{IsUnwrittenChange};
 ghost use Rattle.be_session.specs.Changes.{ReadsChanged, WritesChange};
 ghost use Rattle.be_session.specs.declared.faults.Fault.TheVariants.{Refused};
 
@@ -82,7 +83,7 @@ impl Session {
     /// errors of `apply_if`, the place is the number that comes with the error. If the call fails,
     /// nothing is written. Besides the write, the call reads the version page once for each set.
     pub fn apply_change(&mut self, ops: &[Op]) -> Result<u64, ListFault>
-        ensures store { (self.new.store ≡ self.old.store) × (self.new.spare ≡ self.old.spare) }
+        ensures store { (self.new.store ≡ self.old.store) × (self.new.holds ≡ self.old.holds) }
         ensures ok { IfOk result (λ n. WritesChange self.old.knows self.new.knows ops.now n) }
         ensures err { IfErr result (λ e. IsUnwrittenChange self.old.knows self.new.knows ops.now
             e.fault e.place) }
@@ -93,7 +94,7 @@ impl Session {
         let Some(number) = self.pass.pinned() else {
             return Err(ListFault::from(Fault::NotPinned));
         };
-        let store = self.shared.store();
+        let store = self.share.store();
         check_kinds(store, &mut self.pass, ops)?;
         match store.apply_if_into(&mut self.pass, number, ops, &mut self.outcomes) {
             Ok(length) => Ok(length),
@@ -101,13 +102,13 @@ impl Session {
         }
     }
 
-    /// Returns whether the session is pinned to this snapshot.
-    fn is_pinned_to(&self, number: u64) -> bool
-        ensures yes { result ≡ true → IsPinnedTo self.now.knows number }
-        ensures no { result ≡ false → ¬ (IsPinnedTo self.now.knows number) }
+    /// Returns whether this session's pass began the change and is pinned to its snapshot.
+    fn owns(&self, change: &Change) -> bool
+        ensures yes { result ≡ true → IsOwnChange change.now self.now.knows }
+        ensures no { result ≡ false → ¬ (IsOwnChange change.now self.now.knows) }
     {
         match self.pass.pinned() {
-            Some(pinned) => pinned == number,
+            Some(pinned) => pinned == change.number() && self.pass.number() == change.by(),
             None => false,
         }
     }
@@ -117,56 +118,58 @@ impl Session {
     /// pinned or unpinned as before. Memory is allocated for the change and for a list of the
     /// snapshot's indices.
     pub fn begin_change(&mut self, alloc: Global) -> Result<Box<Change, Global>, Fault>
-        ensures store { (self.new.store ≡ self.old.store) × (self.new.spare ≡ self.old.spare) }
+        ensures store { (self.new.store ≡ self.old.store) × (self.new.holds ≡ self.old.holds) }
         ensures ok { IfOk result (λ change. Begins change.value true self.old.knows
             self.new.knows) }
         ensures err { IfErr result (λ e. (e ≡ Refused OutOfMemory)
             × IsNotBegun self.old.knows self.new.knows) }
     {
-        let store = self.shared.store();
+        let store = self.share.store();
         let change = Change::begin(alloc, store, &mut self.pass, Kinds::Checked)?;
         match Box::new(alloc, change) {
             Ok(change) => Ok(change),
             Err(AllocFailed { value }) => {
-                value.abandon(self.shared.store(), &mut self.pass);
+                value.abandon(self.share.store(), &mut self.pass);
                 Err(Fault::Refused(Refusal::OutOfMemory))
             }
         }
     }
 
     /// Returns an attribute of a node as the change's operations leave it, or `None` if the node
-    /// doesn't have it. Returns `NotPinned` if the session isn't pinned to the change's snapshot.
+    /// doesn't have it. Returns `NotPinned` if this session's pass didn't begin the change, or
+    /// isn't pinned to its snapshot.
     pub fn changed(
         &mut self,
         change: &Change,
         node: u64,
         name: &Name,
     ) -> Result<Option<Value>, Fault>
-        ensures store { (self.new.store ≡ self.old.store) × (self.new.spare ≡ self.old.spare) }
+        ensures store { (self.new.store ≡ self.old.store) × (self.new.holds ≡ self.old.holds) }
         ensures read { HasRead self.old.knows self.new.knows }
         ensures value { ReadsChanged change.now self.old.knows node name.now result }
     {
-        if !self.is_pinned_to(change.number()) {
+        if !self.owns(change) {
             return Err(Fault::NotPinned);
         }
-        Ok(change.get(self.shared.store(), &mut self.pass, node, name))
+        Ok(change.get(self.share.store(), &mut self.pass, node, name))
     }
 
     /// Writes what the change has collected as one transaction, if no other write has been made
     /// since its snapshot. Unpins the session if `begin_change` pinned it. Returns the commit
     /// number, or the snapshot's number if nothing was collected.
     ///
-    /// Returns `NotPinned` if the session isn't pinned to the change's snapshot, `Conflict` with
-    /// the journal's length if another write came first, or an error of the store. After a
-    /// `Conflict`, begin the change again. If the call fails, nothing is written.
+    /// Returns `NotPinned` if this session's pass didn't begin the change, or isn't pinned to its
+    /// snapshot; `Conflict` with the journal's length if another write came first; or an error of
+    /// the store. After a `Conflict`, begin the change again. If the call fails, nothing is
+    /// written.
     pub fn end_change(&mut self, change: Change) -> Result<u64, Fault>
-        ensures store { (self.new.store ≡ self.old.store) × (self.new.spare ≡ self.old.spare) }
+        ensures store { (self.new.store ≡ self.old.store) × (self.new.holds ≡ self.old.holds) }
         ensures ends { EndsChange change self.old.knows self.new.knows result }
     {
-        if !self.is_pinned_to(change.number()) {
+        if !self.owns(&change) {
             return Err(Fault::NotPinned);
         }
-        let store = self.shared.store();
+        let store = self.share.store();
         match change.end_once(store, &mut self.pass, &mut self.outcomes) {
             Ok(Ended::Accepted(number)) => Ok(number),
             Ok(Ended::Again(found)) => Err(Fault::Conflict(found)),
@@ -174,14 +177,15 @@ impl Session {
         }
     }
 
-    /// Ends a change without writing, and unpins the session if `begin_change` pinned it.
+    /// Ends a change without writing, and unpins the session if `begin_change` pinned it. If this
+    /// session's pass didn't begin the change, the pin of the pass that did remains.
     pub fn abandon_change(&mut self, change: Change)
-        ensures store { (self.new.store ≡ self.old.store) × (self.new.spare ≡ self.old.spare) }
+        ensures store { (self.new.store ≡ self.old.store) × (self.new.holds ≡ self.old.holds) }
         ensures abandons { Abandons change self.old.knows self.new.knows }
     {
-        if !self.is_pinned_to(change.number()) {
+        if !self.owns(&change) {
             return;
         }
-        change.abandon(self.shared.store(), &mut self.pass);
+        change.abandon(self.share.store(), &mut self.pass);
     }
 }

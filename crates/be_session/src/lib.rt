@@ -7,6 +7,7 @@
 //! is freed together with its last session.
 #![tactic(auto)]
 
+mod building;
 mod changing;
 mod cursors;
 mod encodings;
@@ -21,9 +22,13 @@ mod ordering;
 mod passes;
 mod preparing;
 mod session;
+mod share;
 mod shared;
 mod states;
+mod ways;
 
+pub use be_store_building::StoreBuilder;
+pub use building::{give_attribute, give_index};
 pub use changing::collect_operation;
 pub use cursors::Cursor;
 pub use encodings::{
@@ -37,5 +42,5 @@ pub use lists::{Operation, operations};
 pub use meanings::{encoded, name};
 pub use ordering::HeldOrder;
 pub use preparing::{Prepared, prepare, prepare_items};
-pub use session::{Session, may_move, query_of, sent};
+pub use session::{Closed, Session, may_move, query_of, sent};
 pub use states::StatePlace;

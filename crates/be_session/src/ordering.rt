@@ -49,7 +49,7 @@ impl Session {
         nodes: &mut Vec<u64>,
     ) -> Result<bool, Fault>
         requires pinned { (n : ℕ) × IsPinnedTo self.old.knows n }
-        ensures store { (self.new.store ≡ self.old.store) × (self.new.spare ≡ self.old.spare) }
+        ensures store { (self.new.store ≡ self.old.store) × (self.new.holds ≡ self.old.holds) }
         ensures read { HasRead self.old.knows self.new.knows }
         ensures same { live.new ≡ live.old }
         ensures page { IfOk result (λ more. page (volume_pinned self.old.knows) live.old.query
@@ -60,7 +60,7 @@ impl Session {
             order.entry.most)) }
         ensures kept { OnErr result (nodes.new.items ≡ []) }
     {
-        let more = match live.ordered(self.shared.store(), &mut self.pass, order, key, nodes) {
+        let more = match live.ordered(self.share.store(), &mut self.pass, order, key, nodes) {
             Ok(more) => more,
             Err(refusal) => {
                 nodes.clear();
@@ -84,7 +84,7 @@ impl Session {
         requires wanted { 1 ≤ order.most }
         requires kind { index_kind (volume_pinned self.old.knows) order.by.now ≡ Some kind }
         requires empty { nodes.old.items ≡ [] }
-        ensures store { (self.new.store ≡ self.old.store) × (self.new.spare ≡ self.old.spare) }
+        ensures store { (self.new.store ≡ self.old.store) × (self.new.holds ≡ self.old.holds) }
         ensures read { HasRead self.old.knows self.new.knows }
         ensures same { live.new ≡ live.old }
         ensures page { IfOk result (IsPageRead (volume_pinned self.old.knows) live.old.query
@@ -114,7 +114,7 @@ impl Session {
         cursor: &mut Cursor,
         nodes: &mut Vec<u64>,
     ) -> Result<bool, Fault>
-        ensures store { (self.new.store ≡ self.old.store) × (self.new.spare ≡ self.old.spare) }
+        ensures store { (self.new.store ≡ self.old.store) × (self.new.holds ≡ self.old.holds) }
         ensures read { HasRead self.old.knows self.new.knows }
         ensures same { live.new ≡ live.old }
         ensures pin { IfOk result (λ more. (n : ℕ) × IsPinnedTo self.old.knows n) }
@@ -134,7 +134,7 @@ impl Session {
             return Err(Fault::NoRoom);
         }
         let by = index_name(order.by)?;
-        let Some(kind) = self.shared.store().index_kind(&mut self.pass, &by) else {
+        let Some(kind) = self.share.store().index_kind(&mut self.pass, &by) else {
             return Err(Fault::Refused(Refusal::NoSuchIndex));
         };
         let wanted = Order {
@@ -155,7 +155,7 @@ impl Session {
         most: usize,
         nodes: &mut Vec<u64>,
     ) -> Result<(), Fault>
-        ensures store { (self.new.store ≡ self.old.store) × (self.new.spare ≡ self.old.spare) }
+        ensures store { (self.new.store ≡ self.old.store) × (self.new.holds ≡ self.old.holds) }
         ensures read { HasRead self.old.knows self.new.knows }
         ensures same { live.new ≡ live.old }
         ensures pin { OnOk result ((n : ℕ) × IsPinnedTo self.old.knows n) }
@@ -174,7 +174,7 @@ impl Session {
         if most == 0 {
             return Err(Fault::NoRoom);
         }
-        match live.first(self.shared.store(), &mut self.pass, first, most, nodes) {
+        match live.first(self.share.store(), &mut self.pass, first, most, nodes) {
             Ok(()) => Ok(()),
             Err(refusal) => {
                 nodes.clear();
@@ -187,7 +187,7 @@ impl Session {
     /// duplicates: `most` nodes, or all if the answer has fewer. Returns `NotPinned`, `NoRoom` if
     /// no node is wanted, or an error of the query. After an error, the list is empty.
     pub fn any(&mut self, live: &mut Live, most: usize, nodes: &mut Vec<u64>) -> Result<(), Fault>
-        ensures store { (self.new.store ≡ self.old.store) × (self.new.spare ≡ self.old.spare) }
+        ensures store { (self.new.store ≡ self.old.store) × (self.new.holds ≡ self.old.holds) }
         ensures read { HasRead self.old.knows self.new.knows }
         ensures same { live.new ≡ live.old }
         ensures pin { OnOk result ((n : ℕ) × IsPinnedTo self.old.knows n) }
@@ -205,7 +205,7 @@ impl Session {
         if most == 0 {
             return Err(Fault::NoRoom);
         }
-        match live.any(self.shared.store(), &mut self.pass, most, nodes) {
+        match live.any(self.share.store(), &mut self.pass, most, nodes) {
             Ok(()) => Ok(()),
             Err(refusal) => {
                 nodes.clear();
@@ -222,7 +222,7 @@ impl Session {
     /// store.
     pub fn refresh_changed(&mut self, live: &mut Live) -> Result<Updates, Fault>
         requires own { IsLiveOf self.old.store live.old }
-        ensures store { (self.new.store ≡ self.old.store) × (self.new.spare ≡ self.old.spare) }
+        ensures store { (self.new.store ≡ self.old.store) × (self.new.holds ≡ self.old.holds) }
         ensures learns { Learns self.old.knows self.new.knows }
         ensures moves { LocksAtMostOnce self.old.knows self.new.knows }
         ensures volume { volume_pinned self.new.knows ≡ volume_pinned self.old.knows }
@@ -233,6 +233,6 @@ impl Session {
         let Some(_) = self.pass.pinned() else {
             return Err(Fault::NotPinned);
         };
-        Ok(live.refresh_changed(self.shared.store(), &mut self.pass)?)
+        Ok(live.refresh_changed(self.share.store(), &mut self.pass)?)
     }
 }

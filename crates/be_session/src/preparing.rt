@@ -53,7 +53,7 @@ impl Prepared {
     #[tactic(auto, using(crate::proofs::Same::same_but_found))]
     pub fn find(&mut self, session: &mut Session) -> Result<(), Fault>
         ensures store { (session.new.store ≡ session.old.store)
-            × (session.new.spare ≡ session.old.spare) }
+            × (session.new.holds ≡ session.old.holds) }
         ensures read { HasRead session.old.knows session.new.knows }
         ensures nodes { OnOk result (scan (volume_pinned session.old.knows) self.old.live.query
             ≡ Ok self.new.found) }
@@ -78,7 +78,7 @@ impl Prepared {
         cursor: &mut Cursor,
     ) -> Result<bool, Fault>
         ensures store { (session.new.store ≡ session.old.store)
-            × (session.new.spare ≡ session.old.spare) }
+            × (session.new.holds ≡ session.old.holds) }
         ensures read { HasRead session.old.knows session.new.knows }
         ensures pin { IfOk result (λ more. (n : ℕ) × IsPinnedTo session.old.knows n) }
         ensures page { IfOk result (IsPageRead (volume_pinned session.old.knows)
@@ -103,7 +103,7 @@ impl Prepared {
         most: usize,
     ) -> Result<(), Fault>
         ensures store { (session.new.store ≡ session.old.store)
-            × (session.new.spare ≡ session.old.spare) }
+            × (session.new.holds ≡ session.old.holds) }
         ensures read { HasRead session.old.knows session.new.knows }
         ensures pin { OnOk result ((n : ℕ) × IsPinnedTo session.old.knows n) }
         ensures wanted { OnOk result (1 ≤ most) }
@@ -123,7 +123,7 @@ impl Prepared {
     #[tactic(auto, using(crate::proofs::Same::same_but_found))]
     pub fn find_any(&mut self, session: &mut Session, most: usize) -> Result<(), Fault>
         ensures store { (session.new.store ≡ session.old.store)
-            × (session.new.spare ≡ session.old.spare) }
+            × (session.new.holds ≡ session.old.holds) }
         ensures read { HasRead session.old.knows session.new.knows }
         ensures pin { OnOk result ((n : ℕ) × IsPinnedTo session.old.knows n) }
         ensures wanted { OnOk result (1 ≤ most) }
@@ -151,7 +151,7 @@ impl Prepared {
     #[tactic(auto, using(crate::proofs::Same::same_prepared))]
     pub fn refresh(&mut self, session: &mut Session) -> Result<(), Fault>
         ensures store { (session.new.store ≡ session.old.store)
-            × (session.new.spare ≡ session.old.spare) }
+            × (session.new.holds ≡ session.old.holds) }
         ensures read { HasRead session.old.knows session.new.knows }
         ensures own { OnOk result (IsLiveOf session.old.store self.new.live) }
         ensures ok { OnOk result (RefreshesAtPin session.old.knows self.old.live self.new.live
@@ -175,7 +175,7 @@ impl Prepared {
     pub fn refresh_changed(&mut self, session: &mut Session) -> Result<(), Fault>
         requires own { IsLiveOf session.old.store self.old.live }
         ensures store { (session.new.store ≡ session.old.store)
-            × (session.new.spare ≡ session.old.spare) }
+            × (session.new.holds ≡ session.old.holds) }
         ensures learns { Learns session.old.knows session.new.knows }
         ensures moves { LocksAtMostOnce session.old.knows session.new.knows }
         ensures volume { volume_pinned session.new.knows ≡ volume_pinned session.old.knows }

@@ -2,21 +2,24 @@
 ghost use Rattle.std.specs.Prelude.{◌≡◌, ◌⊎◌, ◌≤◌, ◌<◌, ◌+◌, ◌*◌, ◌^◌, ℕ, [], None, Ok, IsOk, IfOk};
 ghost use Rattle.std.specs.Prelude.{IfErr, OnErr, OnOk, false, is_some, length, map as each};
 ghost use Rattle.std.specs.Prelude.{string_bytes, true, vec_len};
-ghost use Rattle.be_session.specs.Imports.{attribute, attributes_at, entries, entries_from};
-ghost use Rattle.be_session.specs.Imports.{index_kinds, name_in, newcomer, nodes_from, one_step_on};
-ghost use Rattle.be_session.specs.Imports.{pinned_number, scan, text_seen, volume_pinned, Accepts};
-ghost use Rattle.be_session.specs.Imports.{AcceptsAt, AnyRefusal, AreNew, FoundHeld, HasRead};
-ghost use Rattle.be_session.specs.Imports.{IsLargeRefused, IsLegal, IsLiveOf, IsPass, IsPassOf};
-ghost use Rattle.be_session.specs.Imports.{IsPinnedTo, IsPossible, IsReadInto, IsTextOf};
-ghost use Rattle.be_session.specs.Imports.{IsUnreported};
+ghost use Rattle.be_session.specs.Imports.{attribute, attributes_at, entries};
+ghost use Rattle.be_session.specs.Imports.{entries_from, index_kinds, is_held, name_in};
+ghost use Rattle.be_session.specs.Imports.{nodes_from, one_step_on, pinned_number, scan};
+ghost use Rattle.be_session.specs.Imports.{text_seen, volume_pinned, Accepts, AcceptsAt};
+ghost use Rattle.be_session.specs.Imports.{AnyRefusal, AreNew, FoundHeld, HasRead};
+ghost use Rattle.be_session.specs.Imports.{IsLargeRefused, IsLegalFrom, IsLiveOf, IsPass};
+ghost use Rattle.be_session.specs.Imports.{IsPassOf, IsPinnedTo, IsReadInto};
+ghost use Rattle.be_session.specs.Imports.{IsTextOf, IsUnreported};
 ghost use Rattle.be_session.specs.Imports.{IsWitnessOf, Learns, LocksAndUnlocks, OutOfMemory, Pins};
 ghost use Rattle.be_session.specs.Imports.{ReportsColumns, ReportsStatus, Unpins};
 ghost use Rattle.be_session.specs.Explained.{explanation_in};
 ghost use Rattle.be_session.specs.Finishing.{IsFinished, IsNotLast, IsUnfinished};
 ghost use Rattle.be_session.specs.Prepared.{ReturnsRefresh, StaysUnrefreshed};
-ghost use Rattle.be_session.specs.Sitting.{AtPin, HasMet, IsHandedOut, IsPinned, IsTakenFrom};
-ghost use Rattle.be_session.specs.Sitting.{IsUnwritten, IsUnwrittenIf, IsNoQuery, IsOpened};
-ghost use Rattle.be_session.specs.Sitting.{IsUnpinnedAt, IsUnrefreshed, Joins, ReadAnswers};
+ghost use Rattle.be_session.specs.Sitting.{having_searched, AtPin, HasMet, IsHandedOut, IsPinned};
+ghost use Rattle.be_session.specs.Sitting.{IsNotHandedOut, IsTakenFrom};
+ghost use Rattle.be_session.specs.Sitting.{IsFirst, IsNoQuery, IsOpened, IsUnwritten};
+ghost use Rattle.be_session.specs.Sitting.{IsUnwrittenIf};
+ghost use Rattle.be_session.specs.Sitting.{IsUnrefreshed, Joins, ReadAnswers};
 ghost use Rattle.be_session.specs.States.{unreported, waiting};
 ghost use Rattle.be_session.specs.declared.faults.Fault.TheVariants.{AlreadyPinned, BadCount};
 ghost use Rattle.be_session.specs.declared.faults.Fault.TheVariants.{NoPass, NotPinned, Refused};
@@ -24,7 +27,7 @@ ghost use Rattle.be_session.specs.declared.faults.Fault.TheVariants.{NoPass, Not
 use crate::explaining::cover_text;
 use crate::held::are_few;
 use crate::passes::{put_last, take_last};
-use crate::shared::Shared;
+use crate::share::Share;
 use crate::{Fault, StatePlace, Unfinished};
 use be_store::laws::seen_is_legal;
 use be_store::{
@@ -33,12 +36,11 @@ use be_store::{
 };
 use std::alloc::{AllocFailed, Global};
 use std::marker::Model;
-use std::sync::Arc;
 
 /// A pass, together with its store and the unused passes that wait for sessions of their own.
 #[derive(Drop)]
 pub struct Session {
-    pub(crate) shared: Arc<Shared, Global>,
+    pub(crate) share: Share,
     pub(crate) pass: Pass,
     spare: Vec<Pass>,
     /// A reusable list for the outcomes of a change. Clearing a new list for each change would take
@@ -52,43 +54,55 @@ impl Model for Session {
     ghost Value = { Sitting };
 
     ghost use Rattle.std.specs.Prelude.{vec_len};
-    ghost use Rattle.be_session.specs.Imports.{AreNew, IsPassOf};
+    ghost use Rattle.std.specs.Coded.{codes};
+    ghost use Rattle.be_session.specs.Imports.{coded_setting, AreNew, IsPassOf};
+
+    ghost coded = { Prim.hlevel (codes, coded_setting) };
 
     ghost view = { λ s. record {
-      store = s.shared.value;
+      store = s.share.shared.value;
       knows = s.pass.knows;
-      spare = vec_len s.spare;
+      holds = record {
+        spare = vec_len s.spare;
+        given = s.share.given;
+        vain = s.share.vain;
+        began = s.share.began;
+      };
     } };
 
-    ghost invariant = { λ s. IsPassOf s.shared.value s.pass
-        × AreNew s.shared.value 0 s.spare.items };
+    ghost invariant = { λ s. IsPassOf s.share.shared.value s.pass
+        × AreNew s.share.shared.value 0 s.spare.items };
 }
 
-/// Creates the first session of a new store, which also holds the other passes of the store.
-fn seated(
+/// What is left of a session that was closed: its witness, and its share of the store.
+#[derive(Drop)]
+pub struct Closed {
+    pub witness: Witness,
+    pub(crate) share: Share,
+}
+
+/// Creates the first session of a new store, which also holds the other passes of the store. The
+/// only error is `OutOfMemory`.
+pub(crate) fn first_session(
     alloc: Global,
-    limits: Limits,
-    shared: Shared,
-    pass: Pass,
-    spare: Vec<Pass>,
+    store: Store,
+    mut passes: Vec<Pass>,
 ) -> Result<Session, Fault>
-    requires limits { (shared.limits ≡ limits) × IsPossible limits }
-    requires pass { IsPassOf shared pass
-        × (pass.knows ≡ newcomer limits (vec_len spare + 1) (vec_len spare)) }
-    requires spare { AreNew shared 0 spare.items × (vec_len spare + 1 ≡ limits.passes) }
-    ensures ok { IfOk result (λ s. IsOpened limits s) }
-    ensures err { IfErr result (λ e. (why : AnyRefusal) × (e ≡ Refused why)
-        × IsLargeRefused limits why) }
+    requires passes { AreNew store 0 passes.items }
+    requires count { (vec_len passes ≡ store.limits.passes) × (1 ≤ vec_len passes) }
+    ensures ok { IfOk result (IsFirst store.limits) }
+    ensures err { IfErr result (λ e. e ≡ Refused OutOfMemory) }
 {
-    match Arc::new(alloc, shared) {
-        Ok(shared) => Ok(Session {
-            shared,
-            pass,
-            spare,
-            outcomes: ArrayVec::new(),
-        }),
-        Err(_) => Err(Fault::Refused(Refusal::OutOfMemory)),
-    }
+    let share = Share::first(alloc, store, passes.as_slice())?;
+    let Some(pass) = take_last(share.store(), &mut passes) else {
+        unreachable!()
+    };
+    Ok(Session {
+        share,
+        pass,
+        spare: passes,
+        outcomes: ArrayVec::new(),
+    })
 }
 
 /// Takes the pass out of a session. The session's share of the store and its waiting passes are
@@ -98,7 +112,7 @@ fn pass_of(session: Session) -> Pass
     ensures knows { result.knows ≡ session.knows }
 {
     let Session {
-        shared: _shared,
+        share: _share,
         pass,
         spare: _spare,
         outcomes: _outcomes,
@@ -108,18 +122,20 @@ fn pass_of(session: Session) -> Pass
 
 /// Creates a boxed session for a pass, with no waiting passes. If memory runs out, the session is
 /// returned as the error.
-fn in_box(
-    alloc: Global,
-    shared: Arc<Shared, Global>,
-    pass: Pass,
-) -> Result<Box<Session, Global>, Session>
-    requires { IsPassOf shared.value pass }
-    ensures session { IfOk result (λ s. (s.value.store ≡ shared.value) × (s.value.spare ≡ 0)) }
+fn in_box(alloc: Global, share: Share, pass: Pass) -> Result<Box<Session, Global>, Session>
+    requires { IsPassOf share.shared.value pass }
+    ensures session { IfOk result (λ s. s.value.store ≡ share.shared.value) }
+    ensures holds { IfOk result (λ s. s.value.holds ≡ record {
+      spare = 0;
+      given = share.given;
+      vain = share.vain;
+      began = share.began;
+    }) }
     ensures knows { IfOk result (λ s. s.value.knows ≡ pass.knows) }
-    ensures back { IfErr result (λ s. (s.store ≡ shared.value) × (s.knows ≡ pass.knows)) }
+    ensures back { IfErr result (λ s. (s.store ≡ share.shared.value) × (s.knows ≡ pass.knows)) }
 {
     let session = Session {
-        shared,
+        share,
         pass,
         spare: Vec::new(alloc),
         outcomes: ArrayVec::new(),
@@ -130,39 +146,25 @@ fn in_box(
     }
 }
 
-/// Creates a boxed session for a pass that was given back. Returns `NoPass` if there is none, or
-/// `OutOfMemory`, in which case the pass is given back again.
-fn of_returned(alloc: Global, shared: Arc<Shared, Global>) -> Result<Box<Session, Global>, Fault>
-    ensures session { IfOk result (λ s. (s.value.store ≡ shared.value) × (s.value.spare ≡ 0)) }
-    ensures pass { IfOk result (λ s. IsUnpinnedAt shared.value s.value.knows) }
-    ensures err { IfErr result (λ e. (e ≡ NoPass) ⊎ (e ≡ Refused OutOfMemory)) }
-{
-    let Some(pass) = shared.take_returned() else {
-        return Err(Fault::NoPass);
-    };
-    match in_box(alloc, shared, pass) {
-        Ok(session) => Ok(session),
-        Err(session) => {
-            drop(session.close());
-            Err(Fault::Refused(Refusal::OutOfMemory))
-        }
-    }
-}
-
 /// Puts a session back together from its parts, and returns it with the reason why it can't close
 /// its store.
-fn kept(shared: Arc<Shared, Global>, pass: Pass, spare: Vec<Pass>, fault: Fault) -> Unfinished
-    requires pass { IsPassOf shared.value pass }
-    requires spare { AreNew shared.value 0 spare.items }
+fn kept(share: Share, pass: Pass, spare: Vec<Pass>, fault: Fault) -> Unfinished
+    requires pass { IsPassOf share.shared.value pass }
+    requires spare { AreNew share.shared.value 0 spare.items }
     requires fault { IsNotLast fault }
     ensures { IsUnfinished (record {
-      store = shared.value;
+      store = share.shared.value;
       knows = pass.knows;
-      spare = vec_len spare;
+      holds = record {
+        spare = vec_len spare;
+        given = share.given;
+        vain = share.vain;
+        began = share.began;
+      };
     }) result }
 {
     let session = Session {
-        shared,
+        share,
         pass,
         spare,
         outcomes: ArrayVec::new(),
@@ -190,17 +192,10 @@ impl Session {
         ensures err { IfErr result (λ e. (why : AnyRefusal) × (e ≡ Refused why)
             × IsLargeRefused limits why) }
     {
-        let (store, mut passes) = match Store::open_large(alloc, limits) {
-            Ok(opened) => opened,
-            Err(refusal) => return Err(Fault::Refused(refusal)),
-        };
-        let Ok(shared) = Shared::new(alloc, store, passes.as_slice()) else {
-            return Err(Fault::Refused(Refusal::OutOfMemory));
-        };
-        let Some(pass) = take_last(shared.store(), &mut passes) else {
-            unreachable!()
-        };
-        seated(alloc, limits, shared, pass, passes)
+        match Store::open_large(alloc, limits) {
+            Ok((store, passes)) => first_session(alloc, store, passes),
+            Err(refusal) => Err(Fault::Refused(refusal)),
+        }
     }
 
     /// Creates another session of the same store, in a box. The new session gets the last pass that
@@ -214,36 +209,68 @@ impl Session {
     /// number. Apart from allocating the box, the call takes three steps.
     pub fn another(&mut self, alloc: Global) -> Result<Box<Session, Global>, Fault>
         ensures same { self.new.store ≡ self.old.store }
-        ensures session { IfOk result (λ s. (s.value.store ≡ self.old.store)
-            × (s.value.spare ≡ 0)) }
-        ensures pass { IfOk result (λ s. IsHandedOut self.old self.new s.value.knows) }
-        ensures err { IfErr result (λ e. (self.new ≡ self.old)
-            × ((e ≡ Refused OutOfMemory) ⊎ ((e ≡ NoPass) × (self.old.spare ≡ 0)))) }
+        ensures session { IfOk result (λ s. s.value.store ≡ self.old.store) }
+        ensures pass { IfOk result (λ s. IsHandedOut self.old self.new s.value) }
+        ensures err { IfErr result (IsNotHandedOut self.old self.new) }
     {
         let mut session = self.take_another(alloc)?;
-        self.shared.store().meet(&mut self.pass, &mut session.pass);
+        self.share.store().meet(&mut self.pass, &mut session.pass);
         Ok(session)
     }
 
     /// Creates another session of the same store, in a box, without letting its pass meet this one.
     fn take_another(&mut self, alloc: Global) -> Result<Box<Session, Global>, Fault>
         ensures same { (self.new.store ≡ self.old.store) × (self.new.knows ≡ self.old.knows) }
-        ensures session { IfOk result (λ s. (s.value.store ≡ self.old.store)
-            × (s.value.spare ≡ 0)) }
-        ensures pass { IfOk result (λ s. IsTakenFrom self.old self.new s.value.knows) }
-        ensures err { IfErr result (λ e. (self.new ≡ self.old)
-            × ((e ≡ Refused OutOfMemory) ⊎ ((e ≡ NoPass) × (self.old.spare ≡ 0)))) }
+        ensures session { IfOk result (λ s. s.value.store ≡ self.old.store) }
+        ensures pass { IfOk result (λ s. IsTakenFrom self.old self.new s.value.knows
+            s.value.holds) }
+        ensures err { IfErr result (IsNotHandedOut self.old self.new) }
     {
-        let Ok(shared) = Arc::try_clone(&self.shared) else {
+        if self.spare.is_empty() {
+            self.with_returned(alloc)
+        } else {
+            self.with_unused(alloc)
+        }
+    }
+
+    /// Creates another session with the last pass that waits here.
+    fn with_unused(&mut self, alloc: Global) -> Result<Box<Session, Global>, Fault>
+        requires some { 0 < self.old.holds.spare }
+        ensures same { (self.new.store ≡ self.old.store) × (self.new.knows ≡ self.old.knows) }
+        ensures session { IfOk result (λ s. s.value.store ≡ self.old.store) }
+        ensures pass { IfOk result (λ s. IsTakenFrom self.old self.new s.value.knows
+            s.value.holds) }
+        ensures err { IfErr result (IsNotHandedOut self.old self.new) }
+    {
+        let Some(share) = self.share.give() else {
             return Err(Fault::Refused(Refusal::OutOfMemory));
         };
-        let Some(pass) = take_last(self.shared.store(), &mut self.spare) else {
-            return of_returned(alloc, shared);
+        let Some(pass) = take_last(self.share.store(), &mut self.spare) else {
+            unreachable!()
         };
-        match in_box(alloc, shared, pass) {
+        match in_box(alloc, share, pass) {
             Ok(session) => Ok(session),
             Err(session) => {
-                put_last(self.shared.store(), &mut self.spare, pass_of(session));
+                put_last(self.share.store(), &mut self.spare, pass_of(session));
+                Err(Fault::Refused(Refusal::OutOfMemory))
+            }
+        }
+    }
+
+    /// Creates another session with a pass that was given back.
+    fn with_returned(&mut self, alloc: Global) -> Result<Box<Session, Global>, Fault>
+        requires none { self.old.holds.spare ≡ 0 }
+        ensures same { (self.new.store ≡ self.old.store) × (self.new.knows ≡ self.old.knows) }
+        ensures session { IfOk result (λ s. s.value.store ≡ self.old.store) }
+        ensures pass { IfOk result (λ s. IsTakenFrom self.old self.new s.value.knows
+            s.value.holds) }
+        ensures err { IfErr result (IsNotHandedOut self.old self.new) }
+    {
+        let (share, pass) = self.share.give_with_pass()?;
+        match in_box(alloc, share, pass) {
+            Ok(session) => Ok(session),
+            Err(session) => {
+                drop(session.close());
                 Err(Fault::Refused(Refusal::OutOfMemory))
             }
         }
@@ -255,20 +282,23 @@ impl Session {
     ///
     /// Returns a witness of everything that the pass has seen of the journal, including its own
     /// writes. If the session that calls `finish` has joined the witness, these writes are in the
-    /// journal that `finish` returns.
-    pub fn close(self) -> Witness
-        ensures witness { IsWitnessOf self.store result × (result.seen ≡ self.knows.seen) }
+    /// journal that `finish` returns. The session's share of the store comes with the witness, and
+    /// is given up when it is dropped.
+    pub fn close(self) -> Closed
+        ensures witness { IsWitnessOf self.store result.witness
+            × (result.witness.seen ≡ self.knows.seen) }
+        ensures share { (result.share.shared.value ≡ self.store)
+            × (result.share.given ≡ self.holds.given) × (result.share.vain ≡ self.holds.vain) }
     {
         let Session {
-            shared,
-            mut pass,
+            share,
+            pass,
             spare,
             outcomes: _outcomes,
         } = self;
-        let witness = shared.store().witness(&mut pass);
-        drop(shared.give_back(pass));
-        shared.give_back_all(spare);
-        witness
+        let witness = share.give_back(pass);
+        share.give_back_all(spare);
+        Closed { witness, share }
     }
 
     /// Checks whether `finish` can be called. Returns `InUse` if another session of the store is
@@ -278,10 +308,10 @@ impl Session {
         ensures same { self.new ≡ self.old }
         ensures err { IfErr result IsNotLast }
     {
-        if Arc::strong_count(&self.shared) != 1 {
+        if !self.share.is_only() {
             return Err(Fault::InUse);
         }
-        self.spare.reserve(self.shared.passes() + 1)?;
+        self.spare.reserve(self.share.passes() + 1)?;
         Ok(())
     }
 
@@ -297,20 +327,20 @@ impl Session {
         ensures err { IfErr result (IsUnfinished self) }
     {
         let Session {
-            shared,
+            share,
             pass,
             mut spare,
             outcomes: _outcomes,
         } = self;
-        if spare.reserve(shared.passes() + 1).is_err() {
-            return Err(kept(shared, pass, spare, Fault::Refused(Refusal::OutOfMemory)));
+        if spare.reserve(share.passes() + 1).is_err() {
+            return Err(kept(share, pass, spare, Fault::Refused(Refusal::OutOfMemory)));
         }
-        match Arc::try_unwrap(shared) {
+        match share.into_shared() {
             Ok(shared) => match shared.finish(pass, spare) {
                 Some(journal) => Ok(journal),
                 None => Err(Unfinished::PassLost),
             },
-            Err(shared) => Err(kept(shared, pass, spare, Fault::InUse)),
+            Err(share) => Err(kept(share, pass, spare, Fault::InUse)),
         }
     }
 
@@ -320,28 +350,27 @@ impl Session {
     ///
     /// If two sessions meet such a pass in turn, it carries what the first has seen to the second.
     pub fn meet(&mut self) -> Result<u64, Fault>
-        ensures store { (self.new.store ≡ self.old.store) × (self.new.spare ≡ self.old.spare) }
-        ensures ok { IfOk result (λ n. HasMet self.old.store self.old.knows self.new.knows n) }
-        ensures err { IfErr result (λ e. (self.new ≡ self.old) × (e ≡ NoPass)) }
+        ensures store { self.new.store ≡ self.old.store }
+        ensures ok { IfOk result (λ n. (self.new.holds ≡ self.old.holds)
+            × HasMet self.old.store self.old.knows self.new.knows n) }
+        ensures err { IfErr result (λ e. (e ≡ NoPass) × (self.new ≡ having_searched self.old)) }
     {
-        let Some(mut other) = self.shared.take_returned() else {
-            return Err(Fault::NoPass);
-        };
-        let length = self.shared.store().meet(&mut self.pass, &mut other);
-        drop(self.shared.give_back(other));
-        Ok(length)
+        match self.share.meet(&mut self.pass) {
+            Some(length) => Ok(length),
+            None => Err(Fault::NoPass),
+        }
     }
 
     /// Returns a witness of everything that the pass has seen of the journal. Send it to another
     /// thread over any channel. A session that joins the witness there has then seen at least as
     /// much. The witness has no share of the store. Takes one step and allocates no memory.
     pub fn witness(&mut self) -> Witness
-        ensures store { (self.new.store ≡ self.old.store) × (self.new.spare ≡ self.old.spare) }
+        ensures store { (self.new.store ≡ self.old.store) × (self.new.holds ≡ self.old.holds) }
         ensures knows { self.new.knows ≡ one_step_on self.old.knows }
         ensures witness { IsWitnessOf self.old.store result
             × (result.seen ≡ self.old.knows.seen) }
     {
-        self.shared.store().witness(&mut self.pass)
+        self.share.store().witness(&mut self.pass)
     }
 
     /// Shows the session what the witness has seen, and the witness what the session has seen.
@@ -353,17 +382,17 @@ impl Session {
     /// One requirement of this call is not checked at run time: the witness must be of this store.
     pub fn join(&mut self, witness: &mut Witness) -> u64
         requires witness { IsWitnessOf self.old.store witness.old }
-        ensures store { (self.new.store ≡ self.old.store) × (self.new.spare ≡ self.old.spare) }
+        ensures store { (self.new.store ≡ self.old.store) × (self.new.holds ≡ self.old.holds) }
         ensures witness { IsWitnessOf self.old.store witness.new }
         ensures joins { Joins self.old.knows witness.old.seen self.new.knows witness.new.seen
             result }
     {
-        self.shared.store().join(&mut self.pass, witness)
+        self.share.store().join(&mut self.pass, witness)
     }
 
     /// Pins the current version, and returns its number, which is how many writes it includes.
     pub fn pin(&mut self) -> Result<u64, Fault>
-        ensures store { (self.new.store ≡ self.old.store) × (self.new.spare ≡ self.old.spare) }
+        ensures store { (self.new.store ≡ self.old.store) × (self.new.holds ≡ self.old.holds) }
         ensures ok { IfOk result (λ n. Pins self.old.knows self.new.knows n) }
         ensures err { IfErr result (λ e. (self.new ≡ self.old) × (e ≡ AlreadyPinned)
             × IsPinned self.old.knows) }
@@ -372,7 +401,7 @@ impl Session {
             return Err(Fault::AlreadyPinned);
         }
         let mut pass = self.pass.move_out();
-        let number = self.shared.store().pin(&mut pass);
+        let number = self.share.store().pin(&mut pass);
         self.pass = pass;
         Ok(number)
     }
@@ -386,7 +415,7 @@ impl Session {
 
     /// Releases the pin.
     pub fn unpin(&mut self) -> Result<(), Fault>
-        ensures store { (self.new.store ≡ self.old.store) × (self.new.spare ≡ self.old.spare) }
+        ensures store { (self.new.store ≡ self.old.store) × (self.new.holds ≡ self.old.holds) }
         ensures ok { OnOk result (Unpins self.old.knows self.new.knows) }
         ensures err { IfErr result (λ e. (self.new ≡ self.old) × (e ≡ NotPinned)
             × (pinned_number self.old.knows.phase ≡ None)) }
@@ -394,7 +423,7 @@ impl Session {
         let Some(_) = self.pass.pinned() else {
             return Err(Fault::NotPinned);
         };
-        self.shared.store().unpin(&mut self.pass);
+        self.share.store().unpin(&mut self.pass);
         Ok(())
     }
 
@@ -403,7 +432,7 @@ impl Session {
     /// number of operations, returns `BadCount` without doing anything. Otherwise does what the
     /// store's `apply_into` does.
     pub fn apply(&mut self, ops: &[Op], dones: &mut ArrayVec<Done, 64>) -> Result<u64, Fault>
-        ensures store { (self.new.store ≡ self.old.store) × (self.new.spare ≡ self.old.spare) }
+        ensures store { (self.new.store ≡ self.old.store) × (self.new.holds ≡ self.old.holds) }
         ensures ok { IfOk result (λ n. Accepts self.old.knows self.new.knows ops.now n
             dones.new.items) }
         ensures count { OnOk result ((1 ≤ length ops.now) × (length ops.now ≤ 64)) }
@@ -414,7 +443,7 @@ impl Session {
             dones.clear();
             return Err(Fault::BadCount);
         }
-        Ok(self.shared.store().apply_into(&mut self.pass, ops, dones)?)
+        Ok(self.share.store().apply_into(&mut self.pass, ops, dones)?)
     }
 
     /// Does what `apply` does if the journal has exactly `number` entries, and otherwise writes
@@ -426,7 +455,7 @@ impl Session {
         ops: &[Op],
         dones: &mut ArrayVec<Done, 64>,
     ) -> Result<u64, Fault>
-        ensures store { (self.new.store ≡ self.old.store) × (self.new.spare ≡ self.old.spare) }
+        ensures store { (self.new.store ≡ self.old.store) × (self.new.holds ≡ self.old.holds) }
         ensures ok { IfOk result (λ n. AcceptsAt self.old.knows self.new.knows number ops.now n
             dones.new.items) }
         ensures count { OnOk result ((1 ≤ length ops.now) × (length ops.now ≤ 64)) }
@@ -437,7 +466,7 @@ impl Session {
             dones.clear();
             return Err(Fault::BadCount);
         }
-        let store = self.shared.store();
+        let store = self.share.store();
         Ok(store.apply_if_into(&mut self.pass, number, ops, dones)?)
     }
 
@@ -463,7 +492,7 @@ impl Session {
         from: u64,
         most: usize,
     ) -> Result<Vec<Entry>, Fault>
-        ensures store { (self.new.store ≡ self.old.store) × (self.new.spare ≡ self.old.spare) }
+        ensures store { (self.new.store ≡ self.old.store) × (self.new.holds ≡ self.old.holds) }
         ensures learns { Learns self.old.knows self.new.knows }
         ensures list { IfOk result (λ list. list.items
             ≡ entries_from (entries self.new.knows.seen) from most) }
@@ -471,13 +500,13 @@ impl Session {
             × IsUnreported self.old.knows self.new.knows why) }
         ensures moves { OnOk result (LocksAndUnlocks self.old.knows self.new.knows) }
     {
-        let store = self.shared.store();
+        let store = self.share.store();
         Ok(store.journal_from(alloc, &mut self.pass, from, most)?)
     }
 
     /// Returns the number that the next new node would get in the pinned version.
     pub fn next(&mut self) -> Result<u64, Fault>
-        ensures store { (self.new.store ≡ self.old.store) × (self.new.spare ≡ self.old.spare) }
+        ensures store { (self.new.store ≡ self.old.store) × (self.new.holds ≡ self.old.holds) }
         ensures read { HasRead self.old.knows self.new.knows }
         ensures next { AtPin (pinned_number self.old.knows.phase) result
             (result ≡ Ok (volume_pinned self.old.knows).next) }
@@ -485,41 +514,43 @@ impl Session {
         let Some(_) = self.pass.pinned() else {
             return Err(Fault::NotPinned);
         };
-        Ok(self.shared.store().next(&mut self.pass))
+        Ok(self.share.store().next(&mut self.pass))
     }
 
-    /// Returns the journal's text so far, as the store's `journal_text` does. The journal is legal.
-    /// Needs no pin.
+    /// Returns the journal's text so far, as the store's `journal_text` does. The journal is legal
+    /// from the store's first volume on. Needs no pin.
     pub fn journal_text(&mut self) -> Result<String, Fault>
-        ensures store { (self.new.store ≡ self.old.store) × (self.new.spare ≡ self.old.spare) }
+        ensures store { (self.new.store ≡ self.old.store) × (self.new.holds ≡ self.old.holds) }
         ensures learns { Learns self.old.knows self.new.knows }
-        ensures legal { IsLegal (entries self.new.knows.seen) }
+        ensures legal { IsLegalFrom self.new.store.limits.volume
+            (entries self.new.knows.seen) }
         ensures text { IfOk result (λ text. string_bytes text ≡ text_seen self.new.knows) }
         ensures err { IfErr result (λ e. (why : AnyRefusal) × (e ≡ Refused why)
             × IsUnreported self.old.knows self.new.knows why) }
         ensures moves { OnOk result (LocksAndUnlocks self.old.knows self.new.knows) }
     {
-        let answer = self.shared.store().journal_text(&mut self.pass);
-        seen_is_legal(self.shared.store(), &self.pass);
+        let store = self.share.store();
+        let answer = store.journal_text(&mut self.pass);
+        seen_is_legal(store, &self.pass);
         Ok(answer?)
     }
 
     /// Reports how full the store is and the oldest version in a reader slot, as the store's
     /// `status` does. Needs no pin.
     pub fn status(&mut self) -> Result<Status, Fault>
-        ensures store { (self.new.store ≡ self.old.store) × (self.new.spare ≡ self.old.spare) }
+        ensures store { (self.new.store ≡ self.old.store) × (self.new.holds ≡ self.old.holds) }
         ensures learns { Learns self.old.knows self.new.knows }
         ensures reported { IfOk result (λ s. ReportsStatus self.old.knows self.new.knows s) }
         ensures err { IfErr result (λ e. (why : AnyRefusal) × (e ≡ Refused why)
             × FoundHeld why self.old.knows self.new.knows) }
     {
-        let reported = self.shared.store().status(&mut self.pass);
+        let reported = self.share.store().status(&mut self.pass);
         Ok(reported?)
     }
 
     /// Returns the nodes that match the query in the pinned version, in ascending order.
     pub fn query(&mut self, alloc: Global, query: &Query) -> Result<Vec<u64>, Fault>
-        ensures store { (self.new.store ≡ self.old.store) × (self.new.spare ≡ self.old.spare) }
+        ensures store { (self.new.store ≡ self.old.store) × (self.new.holds ≡ self.old.holds) }
         ensures read { HasRead self.old.knows self.new.knows }
         ensures nodes { AtPin (pinned_number self.old.knows.phase) result
             (ReadAnswers (λ nodes. nodes.items) result
@@ -528,7 +559,7 @@ impl Session {
         let Some(_) = self.pass.pinned() else {
             return Err(Fault::NotPinned);
         };
-        let store = self.shared.store();
+        let store = self.share.store();
         Ok(store.query(alloc, &mut self.pass, query)?.nodes)
     }
 
@@ -536,7 +567,7 @@ impl Session {
     /// version, in ascending order. If the list has room for them, no memory is allocated. After an
     /// error, the list is empty. The answer of the last refresh is unchanged.
     pub fn query_into(&mut self, live: &mut Live, nodes: &mut Vec<u64>) -> Result<(), Fault>
-        ensures store { (self.new.store ≡ self.old.store) × (self.new.spare ≡ self.old.spare) }
+        ensures store { (self.new.store ≡ self.old.store) × (self.new.holds ≡ self.old.holds) }
         ensures read { HasRead self.old.knows self.new.knows }
         ensures nodes { OnOk result (scan (volume_pinned self.old.knows) live.old.query
             ≡ Ok nodes.new.items) }
@@ -550,7 +581,7 @@ impl Session {
             nodes.clear();
             return Err(Fault::NotPinned);
         };
-        match live.query_into(self.shared.store(), &mut self.pass, nodes) {
+        match live.query_into(self.share.store(), &mut self.pass, nodes) {
             Ok(_) => Ok(()),
             Err(refusal) => {
                 nodes.clear();
@@ -562,7 +593,7 @@ impl Session {
     /// Runs a live query in the pinned version, and returns which nodes were added and removed
     /// since its last refresh. An error leaves the live query unchanged.
     pub fn refresh(&mut self, live: &mut Live) -> Result<Updates, Fault>
-        ensures store { (self.new.store ≡ self.old.store) × (self.new.spare ≡ self.old.spare) }
+        ensures store { (self.new.store ≡ self.old.store) × (self.new.holds ≡ self.old.holds) }
         ensures read { HasRead self.old.knows self.new.knows }
         ensures own { IfOk result (λ u. IsLiveOf self.old.store live.new) }
         ensures ok { IfOk result (ReturnsRefresh self.old.knows live.old live.new) }
@@ -571,14 +602,14 @@ impl Session {
         let Some(_) = self.pass.pinned() else {
             return Err(Fault::NotPinned);
         };
-        Ok(live.refresh(self.shared.store(), &mut self.pass)?)
+        Ok(live.refresh(self.share.store(), &mut self.pass)?)
     }
 
     /// Returns the index cover from which a query would be answered in the pinned version: the
     /// chosen comparisons in canonical form, joined by ` || `, and the score. Returns `NotCovered`
     /// if no index of that version covers the query, or `OutOfMemory`.
     pub fn explain(&mut self, alloc: Global, query: &Query) -> Result<String, Fault>
-        ensures store { (self.new.store ≡ self.old.store) × (self.new.spare ≡ self.old.spare) }
+        ensures store { (self.new.store ≡ self.old.store) × (self.new.holds ≡ self.old.holds) }
         ensures read { HasRead self.old.knows self.new.knows }
         ensures text { AtPin (pinned_number self.old.knows.phase) result
             (ReadAnswers string_bytes result
@@ -587,7 +618,7 @@ impl Session {
         let Some(_) = self.pass.pinned() else {
             return Err(Fault::NotPinned);
         };
-        let cover = self.shared.store().explain(alloc, &mut self.pass, query)?;
+        let cover = self.share.store().explain(alloc, &mut self.pass, query)?;
         Ok(cover_text(alloc, query, &cover)?)
     }
 
@@ -595,7 +626,7 @@ impl Session {
     /// `from`. A list with fewer nodes is the last one. To continue, call it again with the number
     /// after the last node.
     pub fn nodes(&mut self, alloc: Global, from: u64, most: usize) -> Result<Vec<u64>, Fault>
-        ensures store { (self.new.store ≡ self.old.store) × (self.new.spare ≡ self.old.spare) }
+        ensures store { (self.new.store ≡ self.old.store) × (self.new.holds ≡ self.old.holds) }
         ensures read { HasRead self.old.knows self.new.knows }
         ensures nodes { AtPin (pinned_number self.old.knows.phase) result
             (ReadAnswers (λ nodes. nodes.items) result
@@ -604,13 +635,13 @@ impl Session {
         let Some(_) = self.pass.pinned() else {
             return Err(Fault::NotPinned);
         };
-        let store = self.shared.store();
+        let store = self.share.store();
         Ok(store.nodes(alloc, &mut self.pass, from, most)?)
     }
 
     /// Returns an attribute of a node in the pinned version, or `None` if the node doesn't have it.
     pub fn get(&mut self, node: u64, name: &Name) -> Result<Option<Value>, Fault>
-        ensures store { (self.new.store ≡ self.old.store) × (self.new.spare ≡ self.old.spare) }
+        ensures store { (self.new.store ≡ self.old.store) × (self.new.holds ≡ self.old.holds) }
         ensures read { HasRead self.old.knows self.new.knows }
         ensures value { AtPin (pinned_number self.old.knows.phase) result
             (result ≡ Ok (attribute (volume_pinned self.old.knows) node name.now)) }
@@ -618,7 +649,21 @@ impl Session {
         let Some(_) = self.pass.pinned() else {
             return Err(Fault::NotPinned);
         };
-        Ok(self.shared.store().get(&mut self.pass, node, name))
+        Ok(self.share.store().get(&mut self.pass, node, name))
+    }
+
+    /// Returns whether the index with this name has the node's attribute in the pinned version.
+    pub fn is_held(&mut self, alloc: Global, node: u64, name: &Name) -> Result<bool, Fault>
+        ensures store { (self.new.store ≡ self.old.store) × (self.new.holds ≡ self.old.holds) }
+        ensures read { HasRead self.old.knows self.new.knows }
+        ensures held { AtPin (pinned_number self.old.knows.phase) result
+            (result ≡ Ok (is_held (volume_pinned self.old.knows) node name.now)) }
+    {
+        let Some(_) = self.pass.pinned() else {
+            return Err(Fault::NotPinned);
+        };
+        let store = self.share.store();
+        Ok(store.is_held(alloc, &mut self.pass, node, name))
     }
 
     /// Returns an attribute of a node in the pinned version as a cell, or `None` if the node
@@ -630,7 +675,7 @@ impl Session {
         name: &HeldName,
         bytes: &mut [u8],
     ) -> Result<Option<Cell>, Fault>
-        ensures store { (self.new.store ≡ self.old.store) × (self.new.spare ≡ self.old.spare) }
+        ensures store { (self.new.store ≡ self.old.store) × (self.new.holds ≡ self.old.holds) }
         ensures read { HasRead self.old.knows self.new.knows }
         ensures value { AtPin (pinned_number self.old.knows.phase) result (IsOk result
             × IfOk result (λ cell. IsReadInto
@@ -641,7 +686,7 @@ impl Session {
         let Some(_) = self.pass.pinned() else {
             return Err(Fault::NotPinned);
         };
-        let store = self.shared.store();
+        let store = self.share.store();
         Ok(store.get_into(&mut self.pass, node, name, bytes))
     }
 
@@ -655,7 +700,7 @@ impl Session {
         cells: &mut [Cell],
         bytes: &mut [u8],
     ) -> Result<u64, Fault>
-        ensures store { (self.new.store ≡ self.old.store) × (self.new.spare ≡ self.old.spare) }
+        ensures store { (self.new.store ≡ self.old.store) × (self.new.holds ≡ self.old.holds) }
         ensures read { HasRead self.old.knows self.new.knows }
         ensures reported { AtPin (pinned_number self.old.knows.phase) result
             (IfOk result (λ needed. ReportsColumns (volume_pinned self.old.knows) nodes.now
@@ -669,14 +714,14 @@ impl Session {
         if !are_few(nodes.len(), names.len()) {
             return Err(Fault::BadCount);
         }
-        let store = self.shared.store();
+        let store = self.share.store();
         Ok(store.columns(&mut self.pass, nodes, names, cells, bytes))
     }
 
     /// Returns the attributes of a node in the pinned version, sorted by the bytes of their names.
     /// `OutOfMemory` is returned only for nodes that exist.
     pub fn attrs(&mut self, alloc: Global, node: u64) -> Result<Vec<(Name, Value)>, Fault>
-        ensures store { (self.new.store ≡ self.old.store) × (self.new.spare ≡ self.old.spare) }
+        ensures store { (self.new.store ≡ self.old.store) × (self.new.holds ≡ self.old.holds) }
         ensures read { HasRead self.old.knows self.new.knows }
         ensures list { AtPin (pinned_number self.old.knows.phase) result
             (ReadAnswers (λ list. list.items) result
@@ -687,13 +732,13 @@ impl Session {
         let Some(_) = self.pass.pinned() else {
             return Err(Fault::NotPinned);
         };
-        Ok(self.shared.store().attrs(alloc, &mut self.pass, node)?)
+        Ok(self.share.store().attrs(alloc, &mut self.pass, node)?)
     }
 
     /// Returns the names and kinds of the pinned version's indices, sorted by the bytes of the
     /// names.
     pub fn indices(&mut self, alloc: Global) -> Result<Vec<(Name, Kind)>, Fault>
-        ensures store { (self.new.store ≡ self.old.store) × (self.new.spare ≡ self.old.spare) }
+        ensures store { (self.new.store ≡ self.old.store) × (self.new.holds ≡ self.old.holds) }
         ensures read { HasRead self.old.knows self.new.knows }
         ensures list { AtPin (pinned_number self.old.knows.phase) result
             (ReadAnswers (λ list. list.items) result
@@ -702,7 +747,7 @@ impl Session {
         let Some(_) = self.pass.pinned() else {
             return Err(Fault::NotPinned);
         };
-        Ok(self.shared.store().indices(alloc, &mut self.pass)?)
+        Ok(self.share.store().indices(alloc, &mut self.pass)?)
     }
 
     /// Reads the next operations that rebuild the pinned version in an empty store, up to 64 of
@@ -712,7 +757,7 @@ impl Session {
     /// A place belongs to one pin. At another pin, it continues after the same steps of that
     /// version, but any operations that are ready are still those of the first pin.
     pub fn state(&mut self, alloc: Global, place: &mut StatePlace) -> Result<(), Fault>
-        ensures store { (self.new.store ≡ self.old.store) × (self.new.spare ≡ self.old.spare) }
+        ensures store { (self.new.store ≡ self.old.store) × (self.new.holds ≡ self.old.holds) }
         ensures read { HasRead self.old.knows self.new.knows }
         ensures same { unreported (volume_pinned self.old.knows) place.new
             ≡ unreported (volume_pinned self.old.knows) place.old }
@@ -728,7 +773,7 @@ impl Session {
         if !place.ready.is_empty() {
             return Ok(());
         }
-        let store = self.shared.store();
+        let store = self.share.store();
         match store.state(alloc, &mut self.pass, &mut place.place)? {
             Some(ops) => {
                 place.ready = ops;

@@ -1,14 +1,16 @@
 //! What a store's sessions share: the store, and the passes that were given back.
 ghost use Rattle.std.specs.Prelude.{◌≡◌, ◌≤◌, ◌<◌, ◌+◌, ◌^◌, ℕ, IfOk, IfSome, length, map, true};
 ghost use Rattle.std.specs.Prelude.{vec_capacity, vec_len};
-ghost use Rattle.be_session.specs.Imports.{knows_of, AllAt, AreNew, Has, IsPassOf, StartsWith};
+ghost use Rattle.be_session.specs.Imports.{knows_of, AllAt, AreNew, Has, IsPassOf, IsWitnessOf};
+ghost use Rattle.be_session.specs.Imports.{StartsWith};
 ghost use Rattle.be_session.specs.Finishing.{IsFinishedBy};
 ghost use Rattle.be_session.specs.Sitting.{AreAllSeats, IsUnpinnedOf, MayWaitAt};
 
 use crate::passes::take_last;
+use crate::share::returned::Returned;
 use be_store::laws::seen_is_legal;
-use be_store::{Journal, Pass, Store};
-use counted_slot::{Counted, Fits, TAKEN};
+use be_store::{Journal, Pass, Store, Witness};
+use counted_slot::{Counted, TAKEN};
 use std::alloc::{AllocError, Global};
 use std::marker::Model;
 
@@ -18,75 +20,48 @@ const EMPTY: u64 = 0;
 /// The word of a slot in which a pass waits.
 const FULL: u64 = 0x1_0000_0000;
 
-/// A pass that was given back.
-#[derive(Drop)]
-pub(crate) struct Returned {
-    pass: Pass,
-}
-
-impl Fits for Returned {
-    type Tag = Pass;
-
-    ghost fits = { λ seat returned. MayWaitAt seat returned.pass };
-}
-
 /// Puts a pass into its seat's slot. Returns the pass if another pass waits there or if another
 /// thread is using the slot.
-fn put(slot: &Counted<Option<Returned>>, pass: Pass) -> Option<Pass>
-    requires { MayWaitAt slot.now pass }
-    ensures { IfSome result (λ p. p ≡ pass) }
+fn put(slot: &Counted<Option<Returned>>, returned: Returned) -> Option<Returned>
+    requires { MayWaitAt slot.now returned.pass }
+    ensures { IfSome result (λ r. r ≡ returned) }
 {
     let (found, claim) = slot.turn(EMPTY, TAKEN);
     if found != EMPTY {
         claim.done();
-        return Some(pass);
+        return Some(returned);
     }
-    drop(claim.put(Some(Returned { pass }), FULL));
+    drop(claim.put(Some(returned), FULL));
     None
 }
 
 /// Takes the pass that waits in a slot, if there is one.
-fn take(slot: &Counted<Option<Returned>>) -> Option<Pass>
-    ensures { IfSome result (λ p. MayWaitAt slot.now p) }
+fn take(slot: &Counted<Option<Returned>>) -> Option<Returned>
+    ensures { IfSome result (λ r. MayWaitAt slot.now r.pass) }
 {
     let (found, claim) = slot.turn(FULL, TAKEN);
     if found != FULL {
         claim.done();
         return None;
     }
-    match claim.put(None, EMPTY) {
-        Some(returned) => Some(returned.pass),
-        None => None,
-    }
-}
-
-/// Returns the pass, after releasing its pin if it has one.
-fn unpinned(store: &Store, mut pass: Pass) -> Pass
-    requires { IsPassOf store.now pass }
-    ensures pass { IsUnpinnedOf store.now result }
-    ensures number { result.knows.number ≡ pass.knows.number }
-{
-    if pass.pinned().is_none() {
-        return pass;
-    }
-    store.unpin(&mut pass);
-    pass
+    claim.put(None, EMPTY)
 }
 
 /// Appends pass number k from its slot. Returns `false` if the pass isn't there. If k is `own`,
 /// that pass is already in the list.
 fn collect(
-    _store: &Store,
+    store: &mut Store,
     slots: &[Counted<Option<Returned>>],
     own: u64,
     k: usize,
     passes: &mut Vec<Pass>,
 ) -> bool
-    requires seats { AreAllSeats _store.now slots.now × (k < length slots.now) }
-    requires here { AllAt _store.now.id passes.old.items }
+    requires seats { AreAllSeats store.old slots.now × (k < length slots.now) }
+    requires here { AllAt store.old.id passes.old.items }
     requires own { Has (map knows_of passes.old.items) own }
     requires room { vec_len passes.old < vec_capacity passes.old }
-    ensures here { AllAt _store.now.id passes.new.items }
+    ensures store { store.new ≡ store.old }
+    ensures here { AllAt store.old.id passes.new.items }
     ensures more { StartsWith passes.new.items passes.old.items }
     ensures has { result ≡ true → Has (map knows_of passes.new.items) k }
     ensures room { (vec_capacity passes.new ≡ vec_capacity passes.old)
@@ -96,8 +71,8 @@ fn collect(
         return true;
     }
     match take(&slots[k]) {
-        Some(pass) => {
-            passes.push_reserved(pass);
+        Some(returned) => {
+            passes.push_reserved(returned.into_pass(store));
             true
         }
         None => false,
@@ -107,20 +82,21 @@ fn collect(
 /// Appends the passes from their slots, starting at the number `first` and skipping `own`. Returns
 /// `false` if one of them isn't there.
 fn collect_all(
-    store: &Store,
+    store: &mut Store,
     slots: &[Counted<Option<Returned>>],
     own: u64,
     first: usize,
     passes: &mut Vec<Pass>,
 ) -> bool
-    requires seats { AreAllSeats store.now slots.now }
-    requires here { AllAt store.now.id passes.old.items }
+    requires seats { AreAllSeats store.old slots.now }
+    requires here { AllAt store.old.id passes.old.items }
     requires own { Has (map knows_of passes.old.items) own }
     requires first { (k : ℕ) → k < first → Has (map knows_of passes.old.items) k }
     requires room { vec_len passes.old + length slots.now ≤ vec_capacity passes.old }
-    ensures here { AllAt store.now.id passes.new.items }
+    ensures store { store.new ≡ store.old }
+    ensures here { AllAt store.old.id passes.new.items }
     ensures more { StartsWith passes.new.items passes.old.items }
-    ensures all { result ≡ true → (k : ℕ) → k < store.now.limits.passes
+    ensures all { result ≡ true → (k : ℕ) → k < store.old.limits.passes
         → Has (map knows_of passes.new.items) k }
 {
     for k in first..slots.len() {
@@ -139,10 +115,12 @@ pub(crate) struct Shared {
 }
 
 impl Model for Shared {
-    ghost use Rattle.be_session.specs.Imports.{Opened};
+    ghost use Rattle.be_session.specs.Imports.{coded_opened, Opened};
     ghost use Rattle.be_session.specs.Sitting.{AreAllSeats};
 
     ghost Value = { Opened };
+
+    ghost coded = { coded_opened };
 
     ghost view = { λ s. s.store };
 
@@ -184,25 +162,27 @@ impl Shared {
         requires room { vec_len passes + self.limits.passes < vec_capacity passes }
         ensures { IfSome result (IsFinishedBy self.limits pass.knows) }
     {
-        let Shared { store, slots } = self;
+        let Shared { mut store, slots } = self;
         let (own, first) = (pass.number(), passes.len());
         passes.push_reserved(pass);
-        if !collect_all(&store, slots.as_slice(), own, first, &mut passes) {
+        if !collect_all(&mut store, slots.as_slice(), own, first, &mut passes) {
             return None;
         }
         Some(store.close(passes))
     }
 
-    /// Releases the pin of a pass and gives the pass back. Each pass has its own slot, which is
-    /// empty while the pass is in use, so the pass goes into that slot and the result is `None`.
-    pub(crate) fn give_back(&self, pass: Pass) -> Option<Pass>
+    /// Gives a pass back, after releasing its pin, and returns a witness of what it has seen. Each
+    /// pass has its own slot, which is empty while the pass is in use, so the pass goes into that
+    /// slot.
+    pub(crate) fn give_back(&self, pass: Pass) -> Witness
         requires { IsPassOf self.now pass }
-        ensures { IfSome result (λ p. IsUnpinnedOf self.now p
-            × (p.knows.number ≡ pass.knows.number)) }
+        ensures { IsWitnessOf self.now result × (result.seen ≡ pass.knows.seen) }
     {
         seen_is_legal(&self.store, &pass);
         let slot = &self.slots[pass.number() as usize];
-        put(slot, unpinned(&self.store, pass))
+        let (returned, witness) = Returned::of(&self.store, pass);
+        drop(put(slot, returned));
+        witness
     }
 
     /// Gives back passes that have never been used.
@@ -217,14 +197,22 @@ impl Shared {
     }
 
     /// Takes a pass that was given back out of its slot. Looks at each slot once.
-    pub(crate) fn take_returned(&self) -> Option<Pass>
-        ensures { IfSome result (λ p. IsUnpinnedOf self.now p) }
+    pub(crate) fn take_returned(&self) -> Option<Returned>
+        ensures { IfSome result (λ r. IsUnpinnedOf self.now r.pass) }
     {
         for slot in &self.slots {
-            if let Some(pass) = take(slot) {
-                return Some(pass);
+            if let Some(returned) = take(slot) {
+                return Some(returned);
             }
         }
         None
+    }
+
+    /// Puts a pass that was taken out of its slot back into it.
+    pub(crate) fn put_back(&self, returned: Returned)
+        requires { IsUnpinnedOf self.now returned.pass }
+    {
+        let slot = &self.slots[returned.number(&self.store) as usize];
+        drop(put(slot, returned));
     }
 }

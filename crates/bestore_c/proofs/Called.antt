@@ -18,7 +18,7 @@ unasked (Some s) live closed does full shut all = (refl, refl, all full s)
 
 -- The call leaves another session of the same store.
 pub called : (p q : Option Sitting) (s t : Sitting) (closed : Type 0) (does : Sitting → Sitting → Type 0) → p ≡ Some s → q ≡ Some t → t.store ≡ s.store
-    → t.spare ≡ s.spare
+    → t.holds ≡ s.holds
     → does s t → Calls p q closed does
-called p q s t closed does was is store spare done =
-    subst (λ r. Calls r q closed does) (sym was) (subst (λ r. Calls (Some s) r closed does) (sym is) (store, spare, done))
+called p q s t closed does was is store holds done =
+    subst (λ r. Calls r q closed does) (sym was) (subst (λ r. Calls (Some s) r closed does) (sym is) (store, holds, done))

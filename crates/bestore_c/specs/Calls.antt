@@ -1,9 +1,9 @@
 -- What calls do to handles, and what they return.
 use Rattle.std.specs.Prelude.{◌≡◌, ◌⊎◌, ◌<◌, ℕ, ◌*◌, ◌^◌, IsUtf8, List, [], drop, length, map}
-use Rattle.std.specs.Prelude.{slice_get, Option, None, Some, Ok, Err}
+use Rattle.std.specs.Prelude.{slice_get, Bool, Option, None, Some, Ok, Err, if◌then◌else◌}
 use Rattle.std.specs.declared.result.Result.{Result}
 use Rattle.be_journal.specs.declared.entries.Entry.{Entry}
-use Rattle.be_journal.specs.Journal.{IsLegal}
+use Rattle.be_journal.specs.Journal.{IsLegalFrom}
 use Rattle.be_paged_reading.specs.Cells.{ReportsColumns, name_in}
 use Rattle.be_paged_reading.specs.declared.cells.Cell.{Cell}
 use Rattle.be_paged_reading.specs.declared.cells.HeldName.{HeldName}
@@ -15,10 +15,11 @@ use Rattle.be_session.specs.Meaning.{HasNoMore, IsNoName, IsValueMeant}
 use Rattle.be_session.specs.Operations.{AreMeant, AreEncoded, IsInvalid, IsWriteCount, ReportNodes}
 use Rattle.be_session.specs.Explained.{explanation_in}
 use Rattle.be_session.specs.Prepared.{IsUnasked, PreparedQuery, RefreshesAtPin, with_found}
-use Rattle.be_session.specs.Sitting.{IsHandedOut, IsNoQuery, IsOpened, IsUnrefreshed, IsUnwritten}
-use Rattle.be_session.specs.Sitting.{IsUnwrittenIf, Sitting}
+use Rattle.be_session.specs.Sitting.{HasMet, IsHandedOut, IsNoQuery, IsNotHandedOut, IsOpened}
+use Rattle.be_session.specs.Sitting.{IsUnrefreshed, IsUnwritten, IsUnwrittenIf, Sitting}
+use Rattle.be_session.specs.Sitting.{having_searched}
 use Rattle.be_session.specs.declared.faults.Fault.{Fault}
-use Rattle.be_session.specs.declared.faults.Fault.TheVariants.{BadCount, NotPinned, Refused}
+use Rattle.be_session.specs.declared.faults.Fault.TheVariants.{BadCount, NoPass, NotPinned, Refused}
 use Rattle.be_session.specs.declared.items.PredicateItem.{PredicateItem}
 use Rattle.be_session.specs.declared.lists.Operation.{Operation}
 use Rattle.be_store.specs.Conditional.{AcceptsAt}
@@ -38,23 +39,25 @@ use Rattle.be_volume.specs.Reading.{attribute}
 use Rattle.be_volume.specs.Volume.{State}
 use Rattle.be_volume.specs.declared.ops.Done.{Done}
 use Rattle.be_volume.specs.declared.ops.Op.{Op}
+use Rattle.be_volume_state.specs.Rebuilding.{is_held}
 use Rattle.bestore_c.specs.Places.{node_of, over}
 use Rattle.bestore_c.specs.declared.handle.Attribute.{Attribute}
 use Rattle.bestore_c.specs.declared.handle.Counts.{Counts}
 use Rattle.bestore_c.specs.declared.handle.UpdateCounts.{UpdateCounts}
 
 -- A call on a closed handle leaves it closed and returns the code for a closed handle. A call on an
--- open handle leaves it open, with a session of the same store and with the same number of waiting
--- passes. `does` says what the call does to the session.
+-- open handle leaves it open, with a session of the same store. The call has given away no share of
+-- the store, so it has made no other session, and has written nothing by a waiting pass. `does`
+-- says what the call does to the session.
 abbrev pub Calls : Option Sitting → Option Sitting → Type 0 → (Sitting → Sitting → Type 0) → Type 0
 Calls None None closed does = closed
 Calls None (Some t) closed does = ⊥
 Calls (Some s) None closed does = ⊥
-Calls (Some s) (Some t) closed does = (t.store ≡ s.store) × (t.spare ≡ s.spare) × does s t
+Calls (Some s) (Some t) closed does = (t.store ≡ s.store) × (t.holds ≡ s.holds) × does s t
 
--- The session only read. Its store and the number of its waiting passes are unchanged.
+-- The session only read. Its store and what it holds are unchanged.
 abbrev pub HasOnlyRead : Sitting → Sitting → Type 0
-HasOnlyRead s t = (t.store ≡ s.store) × (t.spare ≡ s.spare) × HasRead s.knows t.knows
+HasOnlyRead s t = (t.store ≡ s.store) × (t.holds ≡ s.holds) × HasRead s.knows t.knows
 
 -- A call on a closed handle returns the code 64 and the number 0.
 abbrev pub IsClosed : ℕ → ℕ → Type 0
@@ -70,8 +73,9 @@ AnswersWhetherOpen None code = code ≡ 64
 AnswersWhetherOpen (Some s) code = code ≡ 0
 
 -- Opening a store. If the handle is open, it is unchanged, and the call returns 65. A closed handle
--- gets a session that has just opened a store with these limits. It stays closed if the store
--- refuses the limits or if memory runs out, in which case the call returns the number of the error.
+-- gets a session that has just opened an empty store with these limits. It stays closed if the
+-- store refuses the limits or if memory runs out, in which case the call returns the number of the
+-- error.
 abbrev pub Opens : Limits → Option Sitting → Option Sitting → ℕ → Type 0
 Opens limits (Some s) (Some t) code = (code ≡ 65) × (t ≡ s)
 Opens limits (Some s) None code = ⊥
@@ -80,15 +84,13 @@ Opens limits None None code = ((code ≡ 10) × IsPossible limits)
     ⊎ ((why : Refusal) × (code ≡ refusal_number why) × IsLargeRefused limits why)
 
 -- Making a second handle. If that handle is open, it is unchanged, and the call returns 65. A
--- closed handle gets a session of the same store, with no waiting passes, whose pass was handed out
--- and has met the pass of the first handle. The call returns 68 if no pass waits, and 10 if memory
--- runs out.
+-- closed handle gets a session of the same store, whose pass was handed out and has met the pass of
+-- the first handle. The call returns 68 if no pass waits, and 10 if memory runs out.
 abbrev pub OpensSecond : Sitting → Sitting → Option Sitting → Option Sitting → ℕ → Type 0
 OpensSecond s t (Some o) (Some p) code = (code ≡ 65) × (p ≡ o) × (t ≡ s)
 OpensSecond s t (Some o) None code = ⊥
-OpensSecond s t None (Some p) code = (code ≡ 0) × (p.store ≡ s.store) × (p.spare ≡ 0)
-    × IsHandedOut s t p.knows
-OpensSecond s t None None code = (t ≡ s) × ((code ≡ 10) ⊎ ((code ≡ 68) × (s.spare ≡ 0)))
+OpensSecond s t None (Some p) code = (code ≡ 0) × (p.store ≡ s.store) × IsHandedOut s t p
+OpensSecond s t None None code = (e : Fault) × (code ≡ fault_code e) × IsNotHandedOut s t e
 
 -- Making a second handle when the first one may be closed. In that case both are unchanged, and the
 -- call returns 64.
@@ -98,6 +100,16 @@ GivesAnother None None o p code = (code ≡ 64) × (p ≡ o)
 GivesAnother None (Some t) o p code = ⊥
 GivesAnother (Some s) None o p code = ⊥
 GivesAnother (Some s) (Some t) o p code = (t.store ≡ s.store) × OpensSecond s t o p code
+
+-- Meeting a waiting pass. The call returns how many journal entries both passes have then seen. If
+-- no pass was found, it returns 68, and the session has searched the slots.
+abbrev pub MeetsWaiting : Option Sitting → Option Sitting → ℕ → ℕ → Type 0
+MeetsWaiting None None seen code = IsClosed seen code
+MeetsWaiting None (Some t) seen code = ⊥
+MeetsWaiting (Some s) None seen code = ⊥
+MeetsWaiting (Some s) (Some t) seen code = (t.store ≡ s.store)
+    × (((code ≡ 0) × (t.holds ≡ s.holds) × HasMet s.store s.knows t.knows seen)
+    ⊎ (Refuses NoPass seen code × (t ≡ having_searched s)))
 
 -- Moving a handle. Its content goes to a closed handle, and it is closed itself. The call returns
 -- 65 if the other handle is open, and 64 if this one is closed.
@@ -184,6 +196,21 @@ ShowsValue value reported places filled =
     (bytes : List ℕ) × IsValueMeant reported.code reported.number bytes value
     × HasNoMore reported.number bytes value
     × (reported.length ≡ length bytes) × (filled ≡ over bytes places)
+
+-- Whether an index has an attribute in the pinned version, as 1 or 0. The call returns 66 if there
+-- is no pin.
+abbrev pub ShowsHeld : Option ℕ → Bool → ℕ → ℕ → Type 0
+ShowsHeld None is_held shown code = code ≡ 66
+ShowsHeld (Some n) is_held shown code = (code ≡ 0) × (shown ≡ (if is_held then 1 else 0))
+
+-- Looking up a node in the index with a name that is given by its bytes. If they aren't a valid
+-- name, nothing happens.
+abbrev pub ReportsHeld : Sitting → Sitting → ℕ → List ℕ → ℕ → ℕ → Type 0
+ReportsHeld s t node name shown code =
+    ((e : Fault) × (code ≡ fault_code e) × IsNoName name e × (t ≡ s))
+    ⊎ (IsUtf8 name × (name_from name ≡ Ok name) × HasRead s.knows t.knows
+    × ShowsHeld (pinned_number s.knows.phase) (is_held (volume_pinned s.knows) node name) shown
+    code)
 
 -- The attribute in the pinned version. The call returns 66 if there is no pin, and 3 if there is no
 -- such attribute.
@@ -352,12 +379,12 @@ ReportsEntry s t from by counts places filled byte_places bytes number code =
     bytes)
     ⊎ ((why : Refusal) × Refuses (Refused why) number code × IsUnreported s.knows t.knows why))
 
--- The journal, as far as the pass has seen it after the call, is legal. The call returns the length
--- of its text, and as many of the bytes as fit. The call's moves are a lock and an unlock. If an
--- error occurs, the call returns it with what it carries.
+-- The journal, as far as the pass has seen it after the call, is legal from the store's first
+-- volume on. The call returns the length of its text, and as many of the bytes as fit. The call's
+-- moves are a lock and an unlock. If an error occurs, the call returns it with what it carries.
 abbrev pub ReportsJournal : Sitting → Sitting → List ℕ → List ℕ → ℕ → ℕ → Type 0
 ReportsJournal s t places filled count code =
-    Learns s.knows t.knows × IsLegal (entries t.knows.seen)
+    Learns s.knows t.knows × IsLegalFrom t.store.limits.volume (entries t.knows.seen)
     × (((code ≡ 0) × LocksAndUnlocks s.knows t.knows × (count ≡ length (text_seen t.knows))
     × (filled ≡ over (text_seen t.knows) places))
     ⊎ ((why : Refusal) × Refuses (Refused why) count code × IsUnreported s.knows t.knows why))

@@ -8,17 +8,19 @@ use Rattle.be_session.specs.Sitting.{Sitting}
 use Rattle.be_session.specs.declared.faults.Fault.{Fault}
 use Rattle.be_session.specs.declared.faults.Fault.TheVariants.{InUse, Refused}
 use Rattle.be_store.specs.History.{IsUnreported, Learns, LocksAndUnlocks, text_seen}
-use Rattle.be_table.specs.declared.limits.Limits.{Limits}
+use Rattle.be_table.specs.Rule.{entries}
+use Rattle.be_table.specs.Setting.{Setting}
 use Rattle.be_table.specs.declared.pass.Knowledge.{Knowledge}
 use Rattle.be_value.specs.declared.refusals.Refusal.{Refusal}
 use Rattle.bestore_c.specs.Calls.{IsClosed, Refuses}
 use Rattle.bestore_c.specs.Places.{over}
 
 -- The store was closed by a pass that knew this, and there is room for the whole text of its
--- journal. The call returns the text and its length. Otherwise it returns InUse.
-abbrev pub IsEnd : Limits → Knowledge → List ℕ → List ℕ → ℕ → ℕ → Type 0
+-- journal, which is what the pass had seen, so that closing appended nothing. The call returns the
+-- text and its length. Otherwise it returns InUse.
+abbrev pub IsEnd : Setting → Knowledge → List ℕ → List ℕ → ℕ → ℕ → Type 0
 IsEnd limits a places filled count code =
-    ((code ≡ 0) × (log : Log) × IsFinishedBy limits a log
+    ((code ≡ 0) × (log : Log) × IsFinishedBy limits a log × (log.entries ≡ entries a.seen)
     × (count ≡ length (lines_from 1 log.entries)) × (count ≤ length places)
     × (filled ≡ over (lines_from 1 log.entries) places))
     ⊎ Refuses InUse count code
@@ -43,5 +45,5 @@ Finishes None (Some t) places filled count code = ⊥
 Finishes (Some s) None places filled count code =
     (a : Knowledge) × Learns s.knows a × LocksAndUnlocks s.knows a
     × IsEnd s.store.limits a places filled count code
-Finishes (Some s) (Some t) places filled count code = (t.store ≡ s.store) × (t.spare ≡ s.spare)
+Finishes (Some s) (Some t) places filled count code = (t.store ≡ s.store) × (t.holds ≡ s.holds)
     × (filled ≡ places) × IsNoEnd s t (length places) count code

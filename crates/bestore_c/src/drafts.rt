@@ -40,7 +40,7 @@ pub(crate) fn read_changed(
     bytes: &mut [u8],
 ) -> u32
     ensures store { (session.new.store ≡ session.old.store)
-        × (session.new.spare ≡ session.old.spare) }
+        × (session.new.holds ≡ session.old.holds) }
     ensures read { HasRead session.old.knows session.new.knows }
     ensures shown { ShowsChanged change.now session.old.knows node name.now reported.new bytes.old
         bytes.new result }

@@ -52,7 +52,7 @@ pub(crate) fn report_entry(
     bytes: &mut [u8],
 ) -> Result<u64, Fault>
     ensures store { (session.new.store ≡ session.old.store)
-        × (session.new.spare ≡ session.old.spare) }
+        × (session.new.holds ≡ session.old.holds) }
     ensures learns { Learns session.old.knows session.new.knows }
     ensures length { IfOk result (λ n. n ≡ length session.new.knows.seen) }
     ensures reported { OnOk result (IsEntryPutOut (slice_get (entries session.new.knows.seen) from)

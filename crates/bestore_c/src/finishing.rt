@@ -12,7 +12,7 @@ use be_session::{Fault, Session, Unfinished};
 /// length of the text, or the number that the error carries.
 pub(crate) fn last_text(session: &mut Session, room: usize, count: &mut u64) -> Result<String, u32>
     ensures store { (session.new.store ≡ session.old.store)
-        × (session.new.spare ≡ session.old.spare) }
+        × (session.new.holds ≡ session.old.holds) }
     ensures seen { IfOk result (λ text. Learns session.old.knows session.new.knows
         × LocksAndUnlocks session.old.knows session.new.knows
         × (string_bytes text ≡ text_seen session.new.knows)) }

@@ -146,7 +146,7 @@ pub(crate) fn refresh_changed(
 ) -> u32
     requires own { IsLiveOf session.old.store prepared.old.live }
     ensures store { (session.new.store ≡ session.old.store)
-        × (session.new.spare ≡ session.old.spare) }
+        × (session.new.holds ≡ session.old.holds) }
     ensures refreshed { RefreshedByWrites session.old session.new prepared.old prepared.new
         counts.new result }
     ensures kept { (result ≡ 0) ⊎ ((counts.new ≡ counts.old) × (prepared.new ≡ prepared.old)) }

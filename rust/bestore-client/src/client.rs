@@ -1,15 +1,16 @@
 //! A connection to the server.
 
 use crate::options::end_of;
+use crate::patience::Patience;
 use crate::pushes::Pushes;
-use crate::wire::{self, Command, Json, Nothing, Numbers, Push, Refusal, Request};
+use crate::wire::{self, Command, Json, Nothing, Object, Push, Refusal, Request};
 use crate::{os, Error, Options, Result, SocketPath};
-use bestore_types::{Batch, Value, Written};
+use bestore_types::{Batch, Operation, Value, Written};
 use serde::de::DeserializeOwned;
 use serde::Deserialize;
 use std::borrow::Cow;
 use std::collections::BTreeMap;
-use std::io::{self, ErrorKind, Read, Write};
+use std::io::{self, ErrorKind};
 use std::net::Shutdown;
 use std::os::unix::io::{AsRawFd, RawFd};
 use std::os::unix::net::UnixStream;
@@ -30,13 +31,11 @@ pub struct Client {
     stream: UnixStream,
     /// The server's socket, for reconnecting.
     pub(crate) socket: Option<SocketPath>,
-    /// The server's run, once the server has sent it.
-    pub(crate) run: Option<String>,
-    /// The number of the server's volumes, or 0 until the server has sent it.
-    pub(crate) volumes: u32,
-    /// Whether a snapshot is pinned, and whether there were live queries. A new connection starts without either.
+    /// What the server has said about itself, once it has.
+    pub(crate) server: Option<wire::Hello>,
+    /// Whether a snapshot is pinned, and how many live queries there are. A new connection starts without either.
     pub(crate) is_pinned: bool,
-    pub(crate) has_watches: bool,
+    pub(crate) watches: usize,
     pub(crate) options: Options,
     last: u64,
     received: Vec<u8>,
@@ -47,9 +46,11 @@ pub struct Client {
     waits: BTreeMap<u64, Duration>,
     /// The query texts of requests that are still waiting for a reply.
     queries: BTreeMap<u64, String>,
-    /// The features that the server's reply to `hello` listed.
-    features: Vec<String>,
-    /// Whether a call has timed out. Anything that the server sends afterwards belongs to no call.
+    /// Whether the last write may have taken effect if it has failed.
+    pub(crate) may_be_made: bool,
+    /// How long the current calls may take together.
+    pub(crate) limit: Option<Patience>,
+    /// Whether a call has timed out or was interrupted. Anything that the server sends afterwards belongs to no call.
     is_over: bool,
 }
 
@@ -64,8 +65,7 @@ pub struct Query<'a> {
     pub limit: Option<u64>,
     /// The lowest node number to return.
     pub from: u64,
-    /// Whether the reply may leave out `count`, which can only be computed from the whole answer. A server that can't leave it out sends it
-    /// anyway.
+    /// Whether the reply may leave out `count`, which can only be computed from the whole answer.
     pub uncounted: bool,
 }
 
@@ -96,7 +96,9 @@ fn wait_of(command: &Command<'_>) -> Option<Duration> {
 fn query_of<'a>(command: &'a Command<'_>) -> Option<&'a str> {
     match command {
         Command::Query(wire::Query { query, .. }) => Some(query),
-        Command::Explain(wire::QueryText { query }) | Command::Text(wire::QueryText { query }) => Some(query),
+        Command::Explain(wire::QueryText { query })
+        | Command::Ways(wire::QueryText { query })
+        | Command::Text(wire::QueryText { query }) => Some(query),
         Command::Watch(watch) => watch.query.as_deref(),
         _ => None,
     }
@@ -116,7 +118,7 @@ impl AsRawFd for Client {
 
 /// Decodes a line that isn't the reply to a request: a push, or the server's reason for closing the connection.
 fn pushed(line: &[u8]) -> Result<Push> {
-    let read: Line<'_> = serde_json::from_slice(line).map_err(bad)?;
+    let Object(read): Object<Line<'_>> = serde_json::from_slice(line).map_err(bad)?;
     match (read.watch, read.id, read.error) {
         (None, None, Some(refusal)) => Err(Error::Refused(refusal)),
         (Some(_), ..) => serde_json::from_slice(line).map_err(bad),
@@ -146,10 +148,9 @@ impl Client {
         Self {
             stream,
             socket: None,
-            run: None,
-            volumes: 0,
+            server: None,
             is_pinned: false,
-            has_watches: false,
+            watches: 0,
             options,
             last: 0,
             received: Vec::new(),
@@ -157,7 +158,8 @@ impl Client {
             pushes: Pushes::new(options.most_pushed),
             waits: BTreeMap::new(),
             queries: BTreeMap::new(),
-            features: Vec::new(),
+            may_be_made: false,
+            limit: None,
             is_over: false,
         }
     }
@@ -167,6 +169,8 @@ impl Client {
         *self = Client {
             last: self.last,
             options: self.options,
+            may_be_made: self.may_be_made,
+            limit: self.limit,
             ..other
         };
     }
@@ -182,10 +186,10 @@ impl Client {
 
     /// Calls a command that pins a snapshot or begins a live query. If the server refuses it, a new connection would lose nothing.
     fn begin<T: DeserializeOwned>(&mut self, command: Command<'_>) -> Result<T> {
-        let before = (self.is_pinned, self.has_watches);
+        let before = (self.is_pinned, self.watches);
         let begun = self.call(command);
         if let Err(Error::Refused(_)) = &begun {
-            (self.is_pinned, self.has_watches) = before;
+            (self.is_pinned, self.watches) = before;
         }
         begun
     }
@@ -202,7 +206,7 @@ impl Client {
         match command {
             Command::Pin(_) => self.is_pinned = true,
             Command::Unpin(_) => self.is_pinned = false,
-            Command::Watch(_) => self.has_watches = true,
+            Command::Watch(_) => self.watches += 1,
             _ => {}
         }
         if let Some(wait) = wait_of(&command) {
@@ -211,31 +215,57 @@ impl Client {
         if let Some(query) = query_of(&command) {
             self.queries.insert(self.last, query.into());
         }
+        let is_write = matches!(command, Command::Batch(_));
         let request = Request { id: self.last, command };
         let mut line = serde_json::to_vec(&request).map_err(bad)?;
         line.push(b'\n');
-        match self.stream.write_all(&line) {
+        let patience = self.patience(Duration::ZERO);
+        match os::send_all(
+            &self.stream,
+            &line,
+            self.options.wait_until(patience.map(|it| it.until)),
+        ) {
             // The server may have sent its reason for closing the connection.
             Err(error) if matches!(error.kind(), ErrorKind::BrokenPipe | ErrorKind::ConnectionReset) => Ok(self.last),
-            Err(error) => Err(self.failed(error)),
-            Ok(()) => Ok(self.last),
+            Err(error) if error.kind() == ErrorKind::TimedOut => Err(self.late(patience)),
+            Err(error) if error.kind() == ErrorKind::Interrupted => Err(self.ended(Error::Interrupted)),
+            Err(error) => Err(error.into()),
+            Ok(()) => {
+                self.may_be_made |= is_write;
+                Ok(self.last)
+            }
         }
     }
 
-    /// Returns the error for a failed write. A partly sent line can't be continued, so the connection is over.
-    fn failed(&mut self, error: io::Error) -> Error {
-        let error = self.options.late_or(error);
-        if matches!(error, Error::TimedOut(_)) {
-            self.end();
-        }
-        error
+    /// Closes the connection, and returns the error for a request that took too long. A partly sent line can't be continued, and a reply
+    /// that comes later belongs to no call.
+    fn late(&mut self, patience: Option<Patience>) -> Error {
+        self.ended(patience.map_or(Error::Closed, |it| Error::TimedOut(it.time)))
     }
 
-    /// Closes the connection.
-    fn end(&mut self) {
+    /// Closes the connection because of this error.
+    fn ended(&mut self, error: Error) -> Error {
         self.is_over = true;
         // If the server has already closed the connection, this fails, and there is nothing left to close.
         let _ = self.stream.shutdown(Shutdown::Both);
+        error
+    }
+
+    /// Returns whether the last write or [`change`](Self::change), which has failed with this error, may have taken effect all the same. If
+    /// the server had closed the connection before, nothing was written.
+    #[must_use]
+    pub fn may_be_made(&self, error: &Error) -> bool {
+        match error {
+            Error::Refused(refusal) => refusal.name == wire::ErrorName::NotSaved,
+            Error::OtherUser { .. } | Error::KindMismatch { .. } | Error::Other(_) => false,
+            _ => self.may_be_made,
+        }
+    }
+
+    /// Returns whether the client hasn't closed the connection itself, after a call that timed out or was interrupted.
+    #[must_use]
+    pub fn is_open(&self) -> bool {
+        !self.is_over
     }
 
     /// Receives the reply to the request with this number. If replies to earlier requests haven't been received, they are lost.
@@ -252,15 +282,13 @@ impl Client {
 
     fn receive_any<T: DeserializeOwned>(&mut self, id: u64) -> Result<T> {
         let wait = self.waits.remove(&id).unwrap_or_default();
-        let time = self.options.timeout.map(|timeout| timeout.saturating_add(wait));
-        let until = time.map(end_of);
+        let patience = self.patience(wait);
         loop {
-            let end = match (self.read_line(until)?, time) {
-                (Some(end), _) => end,
-                (None, time) => {
-                    self.end();
-                    return Err(time.map_or(Error::Closed, Error::TimedOut));
-                }
+            let end = match self.read_line(patience.map(|it| it.until)) {
+                Ok(Some(end)) => end,
+                Ok(None) => return Err(self.late(patience)),
+                Err(Error::Interrupted) => return Err(self.ended(Error::Interrupted)),
+                Err(error) => return Err(error),
             };
             let answer = self.reply(id, end);
             self.received.drain(..end);
@@ -272,9 +300,9 @@ impl Client {
 
     /// Decodes a received line. Returns `None` if it was a push, or the reply to an earlier request, for which no call waits any more.
     fn reply<T: DeserializeOwned>(&mut self, id: u64, end: usize) -> Result<Option<Result<T>>> {
-        let line: Line<'_> = serde_json::from_slice(&self.received[..end]).map_err(bad)?;
+        let Object(line): Object<Line<'_>> = serde_json::from_slice(&self.received[..end]).map_err(bad)?;
         if line.watch.is_some() {
-            let push = serde_json::from_slice(&self.received[..end]).map_err(bad)?;
+            let push = self.noted(serde_json::from_slice(&self.received[..end]).map_err(bad)?);
             self.pushes.add(end, push);
             return Ok(None);
         }
@@ -285,15 +313,25 @@ impl Client {
         }
         match (line.ok, line.error) {
             (_, Some(refusal)) => Ok(Some(Err(Error::Refused(refusal)))),
-            (Some(ok), None) if line.id == Some(id) => Ok(Some(Ok(serde_json::from_str(ok.get()).map_err(bad)?))),
+            (Some(ok), None) if line.id == Some(id) => {
+                let Object(reply) = serde_json::from_str(ok.get()).map_err(bad)?;
+                Ok(Some(Ok(reply)))
+            }
             _ => Err(bad("the reply belongs to another request")),
         }
     }
 
+    /// Counts a live query that has ended.
+    fn noted(&mut self, push: Push) -> Push {
+        if push.error.is_some() {
+            self.watches = self.watches.saturating_sub(1);
+        }
+        push
+    }
+
     /// Returns the length of the first line that has been received, if its end has been received.
     fn line_end(&mut self) -> Option<usize> {
-        let unseen = &self.received[self.searched..];
-        match unseen.iter().position(|byte| *byte == b'\n') {
+        match os::newline_in(&self.received[self.searched..]) {
             Some(at) => Some(self.searched + at + 1),
             None => {
                 self.searched = self.received.len();
@@ -322,31 +360,17 @@ impl Client {
         if self.is_over {
             return Err(Error::Closed);
         }
-        let left = match until.map(|until| until.saturating_duration_since(Instant::now())) {
-            Some(left) if left.is_zero() => return Ok(false),
-            left => left,
-        };
-        if left.is_some() {
-            self.stream.set_read_timeout(left)?;
-        }
-        let mut bytes = [0; CHUNK];
-        let read = self.stream.read(&mut bytes);
-        if left.is_some() {
-            self.stream.set_read_timeout(None)?;
-        }
-        self.add_read(read, &bytes)
+        let wait = self.options.wait_until(until);
+        Self::has_read(os::receive(&self.stream, &mut self.received, CHUNK, wait))
     }
 
-    /// Adds what was read. Returns `false` if nothing had arrived in time.
-    fn add_read(&mut self, read: io::Result<usize>, bytes: &[u8]) -> Result<bool> {
+    /// Returns `true` if something was read, and `false` if nothing had arrived in time.
+    fn has_read(read: io::Result<usize>) -> Result<bool> {
         match read {
             Ok(0) => Err(Error::Closed),
-            Ok(count) => {
-                self.received.extend_from_slice(&bytes[..count]);
-                Ok(true)
-            }
+            Ok(_) => Ok(true),
             Err(error) if matches!(error.kind(), ErrorKind::WouldBlock | ErrorKind::TimedOut) => Ok(false),
-            Err(error) if error.kind() == ErrorKind::Interrupted => Ok(true),
+            Err(error) if error.kind() == ErrorKind::Interrupted => Err(Error::Interrupted),
             Err(error) if error.kind() == ErrorKind::ConnectionReset => Err(Error::Closed),
             Err(error) => Err(error.into()),
         }
@@ -354,10 +378,8 @@ impl Client {
 
     /// Reads what has already arrived, up to the end of a line.
     fn read_arrived(&mut self) -> Result<()> {
-        let mut bytes = [0; CHUNK];
         while !self.is_over && self.searched <= LINE && self.line_end().is_none() {
-            let read = os::receive_now(&self.stream, &mut bytes);
-            if !self.add_read(read, &bytes)? {
+            if !Self::has_read(os::receive_now(&self.stream, &mut self.received, CHUNK))? {
                 break;
             }
         }
@@ -370,6 +392,7 @@ impl Client {
     ///
     /// # Errors
     /// [`Error::Refused`] with the server's reason if it closed the connection. [`Error::Io`], [`Error::Closed`], [`Error::BadLine`].
+    /// [`Error::Interrupted`], after which the connection stays open.
     pub fn next_push(&mut self, within: Duration) -> Result<Option<Push>> {
         if let Some(push) = self.pushes.take() {
             return Ok(Some(push));
@@ -379,7 +402,7 @@ impl Client {
         }
         let until = end_of(within);
         while let Some(end) = self.read_line(Some(until))? {
-            let push = pushed(&self.received[..end]);
+            let push = pushed(&self.received[..end]).map(|push| self.noted(push));
             self.received.drain(..end);
             match push {
                 Ok(push) if self.pushes.is_lost(&push) => {}
@@ -389,12 +412,24 @@ impl Client {
         Ok(None)
     }
 
+    /// Returns the oldest push that an earlier call has received, without receiving any more.
+    pub fn buffered_push(&mut self) -> Option<Push> {
+        self.pushes.take()
+    }
+
     /// Returns the server's versions and limits.
     ///
     /// # Errors
     /// The same as [`call`](Self::call), like all calls below.
     pub fn hello(&mut self) -> Result<wire::Hello> {
         self.greet(false)
+    }
+
+    /// Returns what the server said to the last [`hello`](Self::hello). A client that repeats writes or wants confirmed reads says hello
+    /// whenever it connects.
+    #[must_use]
+    pub fn server(&self) -> Option<&wire::Hello> {
+        self.server.as_ref()
     }
 
     /// Like [`hello`](Self::hello), but for a client that only sends a few requests and then leaves. If it is the first request, the server
@@ -413,14 +448,8 @@ impl Client {
             visit,
             confirmed: self.options.confirmed,
         }))?;
-        self.features = hello.features.clone();
-        Ok(self.greeted(hello))
-    }
-
-    /// Returns whether the server's reply to [`hello`](Self::hello) lists this feature, such as `by` for pages in an order.
-    #[must_use]
-    pub fn has(&self, feature: &str) -> bool {
-        self.features.iter().any(|it| it == feature)
+        self.server = Some(hello.clone());
+        Ok(hello)
     }
 
     /// Writes the batch atomically: all of its operations or none.
@@ -428,7 +457,32 @@ impl Client {
     /// # Errors
     /// The same as `call`.
     pub fn apply(&mut self, batch: &Batch) -> Result<Written> {
-        self.write(batch, None, None)
+        self.write_batch(batch.clone(), None)
+    }
+
+    /// Writes like [`apply`](Self::apply) or, with an expected number, like [`apply_if`](Self::apply_if), and takes the batch, which then
+    /// isn't copied.
+    ///
+    /// # Errors
+    /// The same as `call`.
+    pub fn write_batch(&mut self, batch: Batch, expected: Option<u64>) -> Result<Written> {
+        let write = wire::Write {
+            operations: batch.into(),
+            expected,
+            ..wire::Write::default()
+        };
+        // A new connection wouldn't have the pinned snapshot.
+        let until = self.repeats_until().filter(|_| !self.is_pinned);
+        let made = write.operations.batch.operations();
+        let made = made.filter(|it| matches!(it, Operation::NewNode { .. })).count();
+        let written = self.write_until(write, until)?;
+        if written.nodes.len() != made {
+            return Err(bad("it doesn't have the nodes that the batch creates"));
+        }
+        Ok(Written {
+            number: written.commit,
+            nodes: written.nodes,
+        })
     }
 
     /// Writes like [`apply`](Self::apply), but only if the journal has exactly `expected` entries. Otherwise the error is `Conflict`.
@@ -436,41 +490,7 @@ impl Client {
     /// # Errors
     /// The same as `call`.
     pub fn apply_if(&mut self, expected: u64, batch: &Batch) -> Result<Written> {
-        self.write(batch, Some(Numbers::One(expected)), None)
-    }
-
-    /// Writes like [`apply`](Self::apply), but to the given volume of a server that has several. By contrast, `apply` writes to the volume
-    /// of the nodes that the batch names or, if it names none, to the volume with the most free pages. The returned commit number is the
-    /// volume's.
-    ///
-    /// # Errors
-    /// The same as `call`.
-    pub fn apply_in(&mut self, volume: u32, batch: &Batch) -> Result<Written> {
-        self.write(batch, None, Some(volume))
-    }
-
-    /// Writes like [`apply_in`](Self::apply_in), but only if the volume's journal has exactly `expected` entries.
-    ///
-    /// # Errors
-    /// The same as `call`.
-    pub fn apply_in_if(&mut self, volume: u32, expected: u64, batch: &Batch) -> Result<Written> {
-        self.write(batch, Some(Numbers::One(expected)), Some(volume))
-    }
-
-    fn write(&mut self, batch: &Batch, expected: Option<Numbers>, volume: Option<u32>) -> Result<Written> {
-        let write = wire::Write {
-            operations: batch.clone().into(),
-            expected,
-            volume,
-            ..wire::Write::default()
-        };
-        // A new connection wouldn't have the pinned snapshot.
-        let until = self.repeats_until().filter(|_| !self.is_pinned);
-        let written = self.write_until(write, until)?;
-        Ok(Written {
-            number: written.commit,
-            nodes: written.nodes,
-        })
+        self.write_batch(batch.clone(), Some(expected))
     }
 
     /// Pins the current snapshot: all reads see it until [`unpin`](Self::unpin).
@@ -558,7 +578,7 @@ impl Client {
             columns: (!columns.is_empty()).then_some(wire::Columns(columns)),
             limit: query.limit,
             from: query.from,
-            uncounted: query.uncounted && self.has("uncounted"),
+            uncounted: query.uncounted,
             ..wire::Query::default()
         }))
     }
@@ -602,7 +622,9 @@ impl Client {
     /// The same as `call`.
     pub fn unwatch(&mut self, watch: u64) -> Result<()> {
         let command = Command::Unwatch(wire::Watching { watch });
-        self.call::<Nothing>(command).map(drop)
+        self.call::<Nothing>(command)?;
+        self.watches = self.watches.saturating_sub(1);
+        Ok(())
     }
 
     /// Returns one page of the journal, starting at the entry with this index.
@@ -615,24 +637,13 @@ impl Client {
             ..wire::JournalFrom::default()
         }))
     }
-
-    /// Like [`journal_from`](Self::journal_from), for the given volume. If the server has several volumes, you must use this one.
-    ///
-    /// # Errors
-    /// The same as `call`.
-    pub fn journal_of(&mut self, volume: u32, from: u64) -> Result<wire::Journal> {
-        self.call(Command::Journal(wire::JournalFrom {
-            from,
-            volume: Some(volume),
-            ..wire::JournalFrom::default()
-        }))
-    }
 }
 
 #[cfg(test)]
 mod tests {
     use super::*;
     use crate::ErrorName;
+    use std::io::{Read, Write};
 
     /// Returns a client of a mock server that sends these lines.
     fn client_of(lines: &str) -> (UnixStream, Client) {
@@ -656,6 +667,12 @@ mod tests {
         server.write_all(b"{\"id\":1,\"ok\":{}}\n").unwrap_err();
         assert!(matches!(client.unpin(), Err(Error::Closed)));
         assert!(matches!(client.next_push(Duration::ZERO), Err(Error::Closed)));
+    }
+
+    #[test]
+    fn a_list_is_no_reply() {
+        let (_server, mut client) = client_of("{\"id\":1,\"ok\":[1,2]}\n");
+        assert!(matches!(client.count("name==a"), Err(Error::BadLine(_))));
     }
 
     #[test]
@@ -689,7 +706,7 @@ mod tests {
             server.write_all(b"{\"id\":1,\"ok\":{\"commit\":5}}\n").unwrap();
             server
         });
-        assert_eq!(client.reach(&[5], Duration::from_secs(30)).unwrap().commit, 5);
+        assert_eq!(client.reach(5, Duration::from_secs(30)).unwrap().commit, 5);
         drop(answering.join().unwrap());
     }
 

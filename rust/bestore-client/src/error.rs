@@ -28,6 +28,11 @@ pub enum Error {
     /// The server didn't reply within this time, and the connection was closed. A write may or may not have taken effect.
     #[error("the server didn't reply within {0:?}; a write may or may not have been made")]
     TimedOut(Duration),
+    /// The program has ended the wait for the server: a function that it set with [`Options::interrupted`](crate::Options::interrupted) has
+    /// returned `true`. A write may or may not have taken effect. The connection was closed, except by
+    /// [`next_push`](crate::Client::next_push).
+    #[error("the wait for the server was interrupted; a write may or may not have been made")]
+    Interrupted,
     /// The server at the default path runs as another user. Nothing was sent to it.
     #[error(
         "the server at {socket} runs as user {server}, and has to run as user {user} or as root; BESTORE_SOCKET or an \
@@ -51,6 +56,9 @@ pub enum Error {
         /// The kind of the value.
         value: Kind,
     },
+    /// The program's own error, made with [`Error::other`] in a change's closure.
+    #[error("{0}")]
+    Other(Box<dyn std::error::Error + Send + Sync>),
 }
 
 /// Returns the library's error for a value whose kind its index doesn't accept.
@@ -60,6 +68,11 @@ fn mismatch(name: &str, index: Kind, value: Kind) -> bestore_types::Error {
 }
 
 impl Error {
+    /// Makes an error of the program's own. A closure passed to [`change`](crate::Client::change) returns it to abandon the change.
+    pub fn other(error: impl Into<Box<dyn std::error::Error + Send + Sync>>) -> Self {
+        Error::Other(error.into())
+    }
+
     /// Returns the server's refusal if this error is one.
     #[must_use]
     pub fn refusal(&self) -> Option<&Refusal> {
@@ -86,8 +99,8 @@ impl Error {
     pub fn class(&self) -> Class {
         match self {
             Error::Refused(refusal) => refusal.class(),
-            Error::Io(_) | Error::Closed | Error::BadLine(_) | Error::TimedOut(_) => Class::Gone,
-            Error::OtherUser { .. } | Error::KindMismatch { .. } => Class::Mine,
+            Error::Io(_) | Error::Closed | Error::BadLine(_) | Error::TimedOut(_) | Error::Interrupted => Class::Gone,
+            Error::OtherUser { .. } | Error::KindMismatch { .. } | Error::Other(_) => Class::Mine,
         }
     }
 }

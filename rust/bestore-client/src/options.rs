@@ -1,6 +1,7 @@
 //! Options for connecting to a server.
 
-use crate::{os, Client, Error, Result, SocketPath};
+use crate::os::{self, Interrupted};
+use crate::{Client, Error, Result, SocketPath};
 use std::io::{self, ErrorKind};
 use std::thread;
 use std::time::{Duration, Instant};
@@ -40,6 +41,7 @@ pub struct Options {
     pub(crate) most_pushed: usize,
     pub(crate) repeat: Option<Duration>,
     pub(crate) confirmed: bool,
+    pub(crate) interrupted: Option<Interrupted>,
     wait: Duration,
 }
 
@@ -50,6 +52,7 @@ impl Default for Options {
             most_pushed: PUSHED,
             repeat: None,
             confirmed: false,
+            interrupted: None,
             wait: Duration::ZERO,
         }
     }
@@ -88,17 +91,23 @@ impl Options {
     /// necessary, if its reply doesn't arrive or the server can't keep writes for now. A token identifies the write, so it takes effect
     /// only once and returns its first outcome. [`Client::change`] runs its closure again.
     ///
-    /// A write isn't retried while a snapshot is pinned (except by `change`), or if there were live queries, because a new connection would
-    /// have neither. A batch that creates or removes indices in several volumes isn't retried either, because it can't have a token. The
-    /// number that you pass to [`Client::apply_if`] belongs to the run that [`Client::run`] returns.
+    /// A write isn't retried while a snapshot is pinned (except by `change`) or there are live queries, because a new connection would have
+    /// neither. The number that you pass to [`Client::apply_if`] belongs to the run that [`Client::run`] returns.
     pub fn repeat(&mut self, time: Duration) -> &mut Self {
         self.repeat = Some(time);
         self
     }
 
+    /// Sets a function that ends waits for the server by returning `true`. It is called whenever a signal has interrupted a wait, and before
+    /// each further attempt to connect or to write. The call that waits then fails with [`Error::Interrupted`], or, between two attempts to
+    /// write, with the error of the first. By default, signals end no call. The function is `extern "C"`, like a signal handler, with which it usually shares a flag.
+    pub fn interrupted(&mut self, interrupted: Option<Interrupted>) -> &mut Self {
+        self.interrupted = interrupted;
+        self
+    }
+
     /// Makes reads wait until what they show is in the server's file or log, like replies to writes. Otherwise, a read may show a write
-    /// that is lost when the server is killed or another server takes over its log. An earlier server, whose `hello` doesn't list the
-    /// feature `confirmed`, refuses the connection with the error `BadRequest`.
+    /// that is lost when the server is killed or another server takes over its log.
     pub fn confirmed(&mut self, confirmed: bool) -> &mut Self {
         self.confirmed = confirmed;
         self
@@ -115,16 +124,30 @@ impl Options {
         let until = end_of(self.wait);
         loop {
             match self.connect_once(&socket) {
-                Err(Error::Io(error)) if may_start(&error) && Instant::now() < until => thread::sleep(AGAIN),
+                Err(Error::Io(error)) if may_start(&error) && Instant::now() < until => self.pause(AGAIN)?,
                 // The server stopped before it could send its run.
-                Err(Error::Closed) if self.repeat.is_some() && Instant::now() < until => thread::sleep(AGAIN),
+                Err(Error::Closed) if self.repeat.is_some() && Instant::now() < until => self.pause(AGAIN)?,
                 answer => return answer,
             }
         }
     }
 
+    /// Waits before another attempt, unless the program ends the wait.
+    pub(crate) fn pause(&self, time: Duration) -> Result<()> {
+        thread::sleep(time);
+        self.wait_until(None).check().map_err(|error| self.late_or(error))
+    }
+
+    /// Returns what ends a wait for the server.
+    pub(crate) fn wait_until(&self, until: Option<Instant>) -> os::Wait {
+        os::Wait {
+            until,
+            interrupted: self.interrupted,
+        }
+    }
+
     fn connect_once(&self, socket: &SocketPath) -> Result<Client> {
-        let stream = os::connect(socket.path(), self.timeout).map_err(|error| self.late_or(error))?;
+        let stream = os::connect(socket.path(), self.timeout, self.interrupted).map_err(|error| self.late_or(error))?;
         socket.check_server(&stream)?;
         let mut client = Client::over(stream, *self);
         client.socket = Some(socket.clone());
@@ -132,9 +155,10 @@ impl Options {
         Ok(client)
     }
 
-    /// Returns `TimedOut` if the system ended the call because the time was up, and the connection's error otherwise.
+    /// Returns `TimedOut` if the time was up, `Interrupted` if the program has ended the wait, and the connection's error otherwise.
     pub(crate) fn late_or(&self, error: io::Error) -> Error {
         match (error.kind(), self.timeout) {
+            (ErrorKind::Interrupted, _) => Error::Interrupted,
             (ErrorKind::WouldBlock | ErrorKind::TimedOut, Some(time)) => Error::TimedOut(time),
             _ => Error::Io(error),
         }

@@ -9,7 +9,7 @@ use std::os::unix::io::{AsRawFd, FromRawFd};
 use std::os::unix::net::UnixStream;
 use std::path::Path;
 use std::ptr;
-use std::time::Duration;
+use std::time::{Duration, Instant};
 
 fn check(answer: libc::c_int) -> io::Result<libc::c_int> {
     if answer < 0 {
@@ -57,18 +57,129 @@ fn credentials(stream: &UnixStream) -> io::Result<libc::ucred> {
     Ok(credentials)
 }
 
-/// Receives bytes that have already arrived, without waiting for any.
-pub fn receive_now(stream: &UnixStream, bytes: &mut [u8]) -> io::Result<usize> {
-    // SAFETY: the pointer and the length are those of the slice.
-    let received = unsafe {
-        let flags = libc::MSG_DONTWAIT;
-        libc::recv(stream.as_raw_fd(), bytes.as_mut_ptr().cast(), bytes.len(), flags)
-    };
-    usize::try_from(received).map_err(|_| io::Error::last_os_error())
+/// Says whether a wait is to end; [`Options::interrupted`](crate::Options::interrupted) says when it is asked.
+pub type Interrupted = extern "C" fn() -> bool;
+
+/// What ends a wait.
+#[derive(Clone, Copy, Debug, Default)]
+pub struct Wait {
+    /// When the time is up.
+    pub until: Option<Instant>,
+    /// Whether the wait goes on after a signal.
+    pub interrupted: Option<Interrupted>,
 }
 
-/// Connects to a socket. Connecting, and each later write, fails with `WouldBlock` if it takes longer than `within`.
-pub fn connect(path: &Path, within: Option<Duration>) -> io::Result<UnixStream> {
+impl Wait {
+    /// Fails with the kind `Interrupted` if the program ends the wait.
+    pub fn check(&self) -> io::Result<()> {
+        match self.interrupted {
+            Some(interrupted) if interrupted() => Err(ErrorKind::Interrupted.into()),
+            _ => Ok(()),
+        }
+    }
+
+    /// Returns whether a system call is to be made again after this error, which a signal may have caused.
+    fn continues(&self, error: io::Error) -> io::Result<()> {
+        match error.kind() {
+            ErrorKind::Interrupted => self.check(),
+            _ => Err(error),
+        }
+    }
+}
+
+/// Waits until the socket is ready for this event or has failed, but no longer than until this time. Returns `false` if the time is up.
+fn wait_for(stream: &UnixStream, event: libc::c_short, wait: Wait) -> io::Result<bool> {
+    loop {
+        let left = wait.until.map(|until| until.saturating_duration_since(Instant::now()));
+        if left.map_or(false, |left| left.is_zero()) {
+            return Ok(false);
+        }
+        // Rounded up, so that the wait isn't shorter.
+        let milliseconds = left.map_or(-1, |left| {
+            let rounded = left.saturating_add(Duration::from_nanos(999_999)).as_millis();
+            libc::c_int::try_from(rounded).unwrap_or(libc::c_int::MAX)
+        });
+        let mut polled = libc::pollfd {
+            fd: stream.as_raw_fd(),
+            events: event,
+            revents: 0,
+        };
+        // SAFETY: the pointer is that of one `pollfd`.
+        match check(unsafe { libc::poll(&mut polled, 1, milliseconds) }) {
+            Ok(0) => {}
+            Ok(_) => return Ok(true),
+            Err(error) => wait.continues(error)?,
+        }
+    }
+}
+
+/// Sends all of the bytes. If the time is up before the other end has taken them, the error has the kind `TimedOut`, and if the program
+/// has ended the wait, `Interrupted`. If the other end has closed the connection, no signal is raised, whatever the program does about
+/// SIGPIPE.
+pub fn send_all(stream: &UnixStream, mut bytes: &[u8], wait: Wait) -> io::Result<()> {
+    while !bytes.is_empty() {
+        // SAFETY: the pointer and the length are those of the slice.
+        let sent = unsafe {
+            let flags = libc::MSG_DONTWAIT | libc::MSG_NOSIGNAL;
+            libc::send(stream.as_raw_fd(), bytes.as_ptr().cast(), bytes.len(), flags)
+        };
+        match usize::try_from(sent).map_err(|_| io::Error::last_os_error()) {
+            Ok(count) => bytes = &bytes[count..],
+            Err(error) if error.kind() == ErrorKind::WouldBlock => {
+                if !wait_for(stream, libc::POLLOUT, wait)? {
+                    return Err(ErrorKind::TimedOut.into());
+                }
+            }
+            Err(error) => wait.continues(error)?,
+        }
+    }
+    Ok(())
+}
+
+/// Waits until bytes arrive, but no longer than until this time, and appends up to `most` of them. Returns how many arrived; 0 means that
+/// the other end has closed the connection. If the time is up, the error has the kind `TimedOut`, and if the program has ended the wait,
+/// `Interrupted`.
+pub fn receive(stream: &UnixStream, bytes: &mut Vec<u8>, most: usize, wait: Wait) -> io::Result<usize> {
+    if !wait_for(stream, libc::POLLIN, wait)? {
+        return Err(ErrorKind::TimedOut.into());
+    }
+    receive_now(stream, bytes, most)
+}
+
+/// Appends up to `most` bytes that have already arrived, without waiting for any.
+pub fn receive_now(stream: &UnixStream, bytes: &mut Vec<u8>, most: usize) -> io::Result<usize> {
+    bytes.reserve(most);
+    let spare = bytes.spare_capacity_mut();
+    // SAFETY: the pointer and the length are those of memory that the vector has reserved.
+    let received = unsafe {
+        let flags = libc::MSG_DONTWAIT;
+        libc::recv(
+            stream.as_raw_fd(),
+            spare.as_mut_ptr().cast(),
+            most.min(spare.len()),
+            flags,
+        )
+    };
+    let count = usize::try_from(received).map_err(|_| io::Error::last_os_error())?;
+    // SAFETY: the system has written this many bytes after the vector's last one.
+    unsafe { bytes.set_len(bytes.len() + count) };
+    Ok(count)
+}
+
+/// Returns the index of the first newline.
+pub fn newline_in(bytes: &[u8]) -> Option<usize> {
+    // SAFETY: the pointer and the length are those of the slice.
+    let found = unsafe { libc::memchr(bytes.as_ptr().cast(), libc::c_int::from(b'\n'), bytes.len()) };
+    (!found.is_null()).then(|| found as usize - bytes.as_ptr() as usize)
+}
+
+/// Connects to a socket. Connecting fails with `WouldBlock` if it takes longer than `within`, and with `Interrupted` if the program ends the
+/// wait.
+pub fn connect(path: &Path, within: Option<Duration>, interrupted: Option<Interrupted>) -> io::Result<UnixStream> {
+    let wait = Wait {
+        until: None,
+        interrupted,
+    };
     let address = address(path)?;
     // SAFETY: the call takes only numbers, and nothing else owns the new descriptor.
     let stream = unsafe {
@@ -80,8 +191,8 @@ pub fn connect(path: &Path, within: Option<Duration>) -> io::Result<UnixStream> 
     loop {
         // SAFETY: `length` is the length of the address.
         match check(unsafe { libc::connect(stream.as_raw_fd(), ptr::addr_of!(address).cast(), length) }) {
-            Err(error) if error.kind() == ErrorKind::Interrupted => {}
-            answer => return answer.map(|_| stream),
+            Ok(_) => return Ok(stream),
+            Err(error) => wait.continues(error)?,
         }
     }
 }
@@ -115,6 +226,7 @@ pub fn check_path(path: &Path) -> io::Result<()> {
 mod tests {
     use super::*;
     use std::os::unix::net::UnixListener;
+    use std::sync::atomic::{AtomicBool, Ordering};
 
     #[test]
     fn connecting_to_a_server_that_accepts_nobody_ends() {
@@ -123,22 +235,82 @@ mod tests {
         // SAFETY: the call takes only numbers. From now on, only one connection can be pending.
         check(unsafe { libc::listen(listener.as_raw_fd(), 0) }).unwrap();
         let time = Some(Duration::from_millis(20));
-        let waiting = connect(&path, time).unwrap();
-        assert_eq!(connect(&path, time).unwrap_err().kind(), ErrorKind::WouldBlock);
+        let waiting = connect(&path, time, None).unwrap();
+        assert_eq!(connect(&path, time, None).unwrap_err().kind(), ErrorKind::WouldBlock);
         drop((listener, waiting));
-        assert_eq!(connect(&path, time).unwrap_err().kind(), ErrorKind::ConnectionRefused);
+        assert_eq!(
+            connect(&path, time, None).unwrap_err().kind(),
+            ErrorKind::ConnectionRefused
+        );
         std::fs::remove_file(&path).unwrap();
-        assert_eq!(connect(&path, time).unwrap_err().kind(), ErrorKind::NotFound);
+        assert_eq!(connect(&path, time, None).unwrap_err().kind(), ErrorKind::NotFound);
+    }
+
+    #[test]
+    fn the_first_newline_is_found() {
+        assert_eq!(newline_in(b""), None);
+        assert_eq!(newline_in(&b"a\n"[..1]), None);
+        assert_eq!(newline_in(b"\n\n"), Some(0));
+        assert_eq!(newline_in(b"ab\0\n\n"), Some(3));
     }
 
     #[test]
     fn paths_that_are_too_long_or_empty_are_refused() {
         for path in ["", &"a".repeat(108)] {
-            let error = connect(Path::new(path), None).unwrap_err();
+            let error = connect(Path::new(path), None, None).unwrap_err();
             assert_eq!(
                 error.to_string(),
                 "the path of a socket has 1 to 107 bytes and no zero byte"
             );
         }
+    }
+
+    static IS_OVER: AtomicBool = AtomicBool::new(false);
+
+    extern "C" fn note(_: libc::c_int) {
+        IS_OVER.store(true, Ordering::SeqCst);
+    }
+
+    extern "C" fn is_over() -> bool {
+        IS_OVER.load(Ordering::SeqCst)
+    }
+
+    extern "C" fn never() -> bool {
+        false
+    }
+
+    /// Sends this thread a signal again and again while it waits.
+    fn with_signals<T>(waiting: impl FnOnce() -> T) -> T {
+        // SAFETY: the handler only sets a flag, and the thread exists while the scope runs.
+        unsafe { libc::signal(libc::SIGUSR1, note as extern "C" fn(libc::c_int) as libc::sighandler_t) };
+        let thread = unsafe { libc::pthread_self() };
+        let ended = AtomicBool::new(false);
+        std::thread::scope(|scope| {
+            scope.spawn(|| {
+                while !ended.load(Ordering::SeqCst) {
+                    std::thread::sleep(Duration::from_millis(5));
+                    unsafe { libc::pthread_kill(thread, libc::SIGUSR1) };
+                }
+            });
+            let value = waiting();
+            ended.store(true, Ordering::SeqCst);
+            value
+        })
+    }
+
+    #[test]
+    fn a_signal_ends_a_wait_only_if_the_program_says_so() {
+        let (stream, _other) = UnixStream::pair().unwrap();
+        let mut bytes = Vec::new();
+        let mut wait = |interrupted, time| {
+            IS_OVER.store(false, Ordering::SeqCst);
+            let until = Some(Instant::now() + Duration::from_millis(time));
+            with_signals(|| receive(&stream, &mut bytes, 9, Wait { until, interrupted }))
+                .unwrap_err()
+                .kind()
+        };
+        assert_eq!(wait(None, 50), ErrorKind::TimedOut);
+        assert_eq!(wait(Some(never), 50), ErrorKind::TimedOut);
+        assert_eq!(wait(Some(is_over), 60_000), ErrorKind::Interrupted);
     }
 }

@@ -1,11 +1,10 @@
 //! Retries writes, on a new connection if necessary, until the server answers.
 
 use crate::options::end_of;
-use crate::wire::{self, Command, ErrorName, Hello, Token};
+use crate::wire::{self, Command, ErrorName, Token};
 use crate::{Client, Error, Result};
 use std::process;
 use std::sync::atomic::{AtomicU64, Ordering};
-use std::thread;
 use std::time::{Duration, Instant, SystemTime};
 
 /// The interval at which a write that the server can't keep now is sent again.
@@ -29,17 +28,12 @@ fn is_passing(error: &Error) -> bool {
     }
 }
 
-/// Returns whether a write may have taken effect although it failed with this error, after which it may be sent again.
-fn may_be_made(error: &Error) -> bool {
-    !error.is(ErrorName::Stopped) && !error.is(ErrorName::NoPass)
-}
-
 impl Client {
     /// Returns the run of the server that the client last connected to, provided that [`hello`](Self::hello) was called. Commit numbers
     /// start over with each run.
     #[must_use]
     pub fn run(&self) -> Option<&str> {
-        self.run.as_deref()
+        self.server.as_ref().map(|server| server.run.as_str())
     }
 
     /// Returns the time at which to give up on a write that begins now, or `None` if writes aren't retried.
@@ -47,14 +41,17 @@ impl Client {
         self.options.repeat.map(end_of)
     }
 
-    /// Returns whether to make the call again after this error and before that time. If a new connection is needed, makes it first. A
-    /// client with live queries keeps its connection, because the live queries would be lost with it.
+    /// Returns whether to make the call again after this error and before that time, unless the program ends the wait. If a new connection
+    /// is needed, makes it first. A client with live queries keeps its connection, because the live queries would be lost with it.
     pub(crate) fn may_repeat(&mut self, error: &Error, until: Option<Instant>) -> bool {
         let until = match until {
-            Some(until) if is_passing(error) && !self.has_watches && Instant::now() < until => until,
+            Some(until) if is_passing(error) && self.watches == 0 && Instant::now() < until => until,
             _ => return false,
         };
-        thread::sleep(AGAIN.min(until.saturating_duration_since(Instant::now())));
+        let pause = AGAIN.min(until.saturating_duration_since(Instant::now()));
+        if self.options.pause(pause).is_err() {
+            return false;
+        }
         error.refusal().is_some() && !error.is(ErrorName::NoPass) || self.connect_again(until)
     }
 
@@ -72,7 +69,7 @@ impl Client {
                     self.continue_as(client);
                     return true;
                 }
-                Err(error) if is_passing(&error) => thread::sleep(AGAIN),
+                Err(error) if is_passing(&error) && self.options.pause(AGAIN).is_ok() => {}
                 Err(_) => return false,
             }
         }
@@ -87,20 +84,15 @@ impl Client {
         }
     }
 
-    pub(crate) fn greeted(&mut self, hello: Hello) -> Hello {
-        self.run = Some(hello.run.clone());
-        self.volumes = hello.volumes;
-        hello
-    }
-
     /// Makes a write, and retries it until that time if there is one. A write that may be retried gets a token, so that it takes effect
-    /// only once. A batch for all volumes can't have a token.
+    /// only once.
     pub(crate) fn write_until(&mut self, mut write: wire::Write, until: Option<Instant>) -> Result<wire::Written> {
-        if until.is_none() || write.is_for_all(self.volumes as usize) {
+        self.may_be_made = false;
+        if until.is_none() {
             return self.call(Command::Batch(write));
         }
         write.token = new_token();
-        write.run = write.expected.as_ref().and(self.run.clone());
+        write.run = write.expected.and(self.run()).map(String::from);
         // An error after which the write may have taken effect. A later attempt's error doesn't replace it by saying that nothing was
         // written.
         let mut uncertain = None;
@@ -109,15 +101,18 @@ impl Client {
                 Err(error) if is_passing(&error) => error,
                 answer => return answer,
             };
+            let may_be_made = self.may_be_made(&error);
             let may_repeat = self.may_repeat(&error, until);
-            let error = match uncertain.take() {
-                Some(earlier) if !may_be_made(&error) => earlier,
-                _ => error,
+            let (error, may_be_made) = match uncertain.take() {
+                Some(earlier) if !may_be_made => (earlier, true),
+                _ => (error, may_be_made),
             };
+            self.may_be_made = may_be_made;
             if !may_repeat {
                 return Err(error);
             }
-            uncertain = Some(error).filter(may_be_made);
+            uncertain = Some(error).filter(|_| may_be_made);
+            self.may_be_made = false;
         }
     }
 }
@@ -145,8 +140,29 @@ mod tests {
         let mut client = Client::over(stream, options);
         let mut batch = Batch::new();
         batch.new_node();
-        assert!(client.apply(&batch).unwrap_err().is(ErrorName::NotSaved));
+        let error = client.apply(&batch).unwrap_err();
+        assert!(error.is(ErrorName::NotSaved) && client.may_be_made(&error));
         // Nothing of this write can have been made.
-        assert!(client.apply(&batch).unwrap_err().is(ErrorName::Stopped));
+        let error = client.apply(&batch).unwrap_err();
+        assert!(error.is(ErrorName::Stopped) && !client.may_be_made(&error));
+    }
+
+    #[test]
+    fn nothing_is_made_by_a_write_that_is_not_sent() {
+        let mut batch = Batch::new();
+        batch.new_node();
+        let (stream, server) = UnixStream::pair().unwrap();
+        let mut client = Client::over(stream, Options::new());
+        client.set_timeout(Some(AGAIN));
+        let error = client.apply(&batch).unwrap_err();
+        assert!(matches!(error, Error::TimedOut(_)) && client.may_be_made(&error));
+        let error = client.apply(&batch).unwrap_err();
+        assert!(matches!(error, Error::Closed) && !client.may_be_made(&error));
+        drop(server);
+        let (stream, server) = UnixStream::pair().unwrap();
+        let mut client = Client::over(stream, Options::new());
+        drop(server);
+        let error = client.apply(&batch).unwrap_err();
+        assert!(matches!(error, Error::Closed) && !client.may_be_made(&error));
     }
 }

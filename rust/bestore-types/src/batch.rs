@@ -165,17 +165,12 @@ impl Batch {
         self
     }
 
-    /// Returns each node to which an operation refers, with the operation's index. An operation that creates a node refers to it only in a
-    /// batch from the journal.
-    pub(crate) fn named_nodes(&mut self) -> impl Iterator<Item = (usize, &mut u64)> {
-        let operations = self.list.operations.iter_mut().enumerate();
-        operations.filter_map(|(index, operation)| match operation.kind {
-            sys::BES_NEW_NODE if operation.node == 0 => None,
-            sys::BES_NEW_NODE | sys::BES_REMOVE_NODE | sys::BES_SET | sys::BES_UNSET => {
-                Some((index, &mut operation.node))
-            }
-            _ => None,
-        })
+    /// Returns `true` if the operations that create nodes have exactly these numbers, in this order.
+    #[must_use]
+    pub fn has_nodes(&self, nodes: &[u64]) -> bool {
+        let made = self.list.operations.iter();
+        let made = made.filter(|operation| operation.kind == sys::BES_NEW_NODE);
+        made.map(|operation| &operation.node).eq(nodes)
     }
 
     pub(crate) fn add(&mut self, kind: u32, node: u64, name: &str, code: u32, number: u64, value: &[u8]) -> &mut Self {

@@ -1,12 +1,11 @@
 //! Clients that write until their server is gone, and that keep track of their writes.
 
 use super::wait_until;
-use bestore::{Batch, Limits, Snapshot, Store};
+use bestore::{Batch, Builder, Limits, Snapshot, Store};
 use bestore_client::wire::{self, Command};
-use bestore_client::{Client, Error, Result};
-use std::convert::Infallible;
+use bestore_client::{Client, Error, ErrorName, Result};
 use std::path::Path;
-use std::sync::atomic::{AtomicU64, Ordering::Relaxed};
+use std::sync::atomic::{AtomicBool, AtomicU64, Ordering::Relaxed};
 use std::thread;
 
 /// How many clients write at the same time.
@@ -22,11 +21,11 @@ struct Known {
 }
 
 impl Known {
-    /// Writes until a write gets no reply or is refused. Each write creates a node, removes the previous one, and increments a
-    /// counter in the writer's own node.
-    fn write(&self, socket: &Path, own: u64) -> Result<Infallible> {
+    /// Writes until a write gets no reply or is refused, or the test has failed. Each write creates a node, removes the previous one,
+    /// and increments a counter in the writer's own node.
+    fn write(&self, socket: &Path, own: u64, has_failed: &AtomicBool) -> Result<()> {
         let mut client = Client::connect(socket)?;
-        loop {
+        while !has_failed.load(Relaxed) {
             let count = self.answered.load(Relaxed) + 1;
             let mut batch = Batch::new();
             batch.new_node().set(own, "count", count);
@@ -39,6 +38,16 @@ impl Known {
             self.last_made.store(written.nodes[0], Relaxed);
             self.answered.store(count, Relaxed);
         }
+        Ok(())
+    }
+}
+
+/// Sets a flag if it is dropped by a panic.
+struct SetsIfFailed<'a>(&'a AtomicBool);
+
+impl Drop for SetsIfFailed<'_> {
+    fn drop(&mut self) {
+        self.0.store(thread::panicking(), Relaxed);
     }
 }
 
@@ -67,15 +76,18 @@ impl Writers {
         self.first.store(first, Relaxed);
     }
 
-    /// Lets all writers write until each gets an error, and returns these errors.
+    /// Lets all writers write until each gets an error, and returns these errors. If `meanwhile` panics, the writers end too.
     pub fn write(&self, socket: &Path, meanwhile: impl FnOnce()) -> Vec<Error> {
+        let has_failed = &AtomicBool::new(false);
         thread::scope(|scope| {
+            let _sets = SetsIfFailed(has_failed);
             let own = (1..).zip(&self.known);
             let writing: Vec<_> = own
-                .map(|(own, known)| scope.spawn(move || known.write(socket, own).unwrap_err()))
+                .map(|(own, known)| scope.spawn(move || known.write(socket, own, has_failed)))
                 .collect();
             meanwhile();
-            writing.into_iter().map(|writer| writer.join().unwrap()).collect()
+            let ended = writing.into_iter().map(|writer| writer.join().unwrap());
+            ended.map(Result::unwrap_err).collect()
         })
     }
 
@@ -136,51 +148,78 @@ impl Writers {
     }
 }
 
-/// Pins a snapshot, and replays the server's journal up to it in a store in this process. The replay must create the same nodes
-/// and reach the same state.
-pub fn check_history(client: &mut Client) {
-    let commit = client.pin().unwrap().commit;
+/// What a store contains: the number of its next node, and the batches that list its contents.
+pub type Contents = (u64, Vec<Vec<u8>>);
+
+/// Returns what a new store contains.
+pub fn nothing() -> Contents {
+    (1, Vec::new())
+}
+
+/// Pins a snapshot, and replays the server's journal up to it in a store in this process that begins with these contents. The replay must
+/// create the same nodes and reach the same state.
+pub fn check_history(client: &mut Client, begin: &Contents) {
+    let (entries, state) = loop {
+        match read_history(client) {
+            Err(error) if error.is(ErrorName::Expired) => {} // on a busy machine, the writers needed its pages before all was read
+            read => break read.unwrap(),
+        }
+    };
+    let mut repeated = open(begin).pass().unwrap();
+    for (commit, batch) in (1..).zip(&entries) {
+        let written = repeated.apply(batch).unwrap();
+        assert!(batch.has_nodes(&written.nodes), "entry {commit}");
+    }
+    let snapshot = repeated.pin().unwrap();
+    assert_eq!(state, contents_of(&snapshot));
+}
+
+/// Pins a snapshot, and returns the batches of the server's journal up to it, and what it contains.
+fn read_history(client: &mut Client) -> Result<(Vec<Batch>, Contents)> {
+    let commit = client.pin()?.commit as usize;
+    let mut entries = Vec::new();
+    while entries.len() < commit {
+        for entry in client.journal_from(entries.len() as u64)?.entries {
+            entries.push(entry.operations.batch);
+            assert_eq!(entry.commit, entries.len() as u64);
+        }
+    }
+    entries.truncate(commit);
+    let state = read_state(client)?;
+    client.unpin()?;
+    Ok((entries, state))
+}
+
+fn open(contents: &Contents) -> Store {
     let limits = Limits {
         pages: 512,
         ..Limits::default()
     };
-    let mut repeated = Store::open(limits).unwrap().pass().unwrap();
-    let mut index = 0;
-    while index < commit {
-        let page = client.journal_from(index).unwrap();
-        for entry in page.entries.iter().take((commit - index) as usize) {
-            index += 1;
-            assert_eq!(entry.commit, index);
-            let written = repeated.apply(&entry.operations.batch).unwrap();
-            let mut batch = entry.operations.batch.clone();
-            batch.set_nodes(&written.nodes);
-            assert_eq!(batch, entry.operations.batch, "entry {index}");
-        }
+    let mut builder = Builder::new(limits).unwrap();
+    for batch in &contents.1 {
+        builder.batch(batch).unwrap();
     }
-    let snapshot = repeated.pin().unwrap();
-    assert_eq!(state_of(client), batches_of(&snapshot));
-    client.unpin().unwrap();
+    builder.finish(contents.0).unwrap()
 }
 
-fn batches_of(snapshot: &Snapshot<'_>) -> (u64, Vec<Batch>) {
-    let batches = snapshot.state().collect::<bestore::Result<_>>().unwrap();
+fn contents_of(snapshot: &Snapshot<'_>) -> Contents {
+    let batches = snapshot.listing().collect::<bestore::Result<_>>().unwrap();
     (snapshot.next_node().unwrap(), batches)
 }
 
-/// Returns the next node number and the batches of the snapshot that the client has pinned.
-pub fn state_of(client: &mut Client) -> (u64, Vec<Batch>) {
+/// Returns the contents of the snapshot that the client has pinned.
+pub fn state_of(client: &mut Client) -> Contents {
+    read_state(client).unwrap()
+}
+
+fn read_state(client: &mut Client) -> Result<Contents> {
     let mut batches = Vec::new();
     let mut from = Some(0);
     let mut next = 0;
     while let Some(index) = from {
-        let page: wire::State = client
-            .call(Command::State(wire::From {
-                from: index,
-                volume: None,
-            }))
-            .unwrap();
-        batches.extend(page.batches.into_iter().map(|operations| operations.batch));
+        let page: wire::State = client.call(Command::State(wire::From { from: index }))?;
+        batches.extend(page.batches);
         (from, next) = (page.more, page.next);
     }
-    (next, batches)
+    Ok((next, batches))
 }

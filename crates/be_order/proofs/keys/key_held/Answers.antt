@@ -1,7 +1,5 @@
-use Rattle.std.proofs.Common.{◌≡◌, ◌∙◌, IsTrue, None, Some, ap, sym, subst}
-use Rattle.std.specs.Option.{option_map}
+use Rattle.std.proofs.Common.{◌∙◌, IsTrue, sym, subst}
 use Rattle.std.proofs.lemmas.Option.{same_Some}
-use Rattle.be_value.specs.Key.{key}
 use Rattle.be_value.specs.Value.{is_indexable, kind_of}
 use Rattle.be_value.specs.declared.values.Value.{Value}
 use Rattle.be_order.proofs.Walked.{held_value}

@@ -1,4 +1,4 @@
-use Rattle.std.proofs.Common.{◌≡◌, Bool, IfSome, List, ℕ, Some, subst, sym}
+use Rattle.std.proofs.Common.{Bool, IfSome, List, ℕ, subst, sym}
 use Rattle.std.specs.Option.{option_copied}
 use Rattle.std.specs.declared.option.Option.{Option}
 use Rattle.be_query.specs.Grammar.{Formula}

@@ -1,4 +1,4 @@
-use Rattle.std.proofs.Common.{◌≡◌, ℕ, Bool, true}
+use Rattle.std.proofs.Common.{Bool}
 use Rattle.std.specs.Cmp.{both_ways}
 use Rattle.std.specs.Option.{option_copied}
 use Rattle.be_query.specs.Grammar.{Formula}

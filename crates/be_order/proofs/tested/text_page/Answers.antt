@@ -4,8 +4,7 @@ use Rattle.be_query.specs.Grammar.{Formula, Leaf, Literal}
 use Rattle.be_query.specs.View.{formula}
 use Rattle.be_query.specs.declared.tree.Cmp.{Cmp}
 use Rattle.be_volume.specs.Query.{sat}
-use Rattle.be_plan.specs.declared.keytests.KeyTest.TheVariants.{Text}
-use Rattle.be_order.specs.Asked.{IsPageOfRest, IsTestFor}
+use Rattle.be_order.specs.Asked.{IsPageOfRest}
 use Rattle.be_order.specs.Ordered.{cursor_bytes}
 use Rattle.be_order.proofs.Tests.{page_follows}
 use Rattle.be_order.proofs.tested.text_page.Goals as goal

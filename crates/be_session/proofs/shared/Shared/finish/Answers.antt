@@ -1,4 +1,4 @@
-use Rattle.std.proofs.Common.{List, ◌<◌, [], ◌∷◌, arith, length, map, refl, subst, sym}
+use Rattle.std.proofs.Common.{ℕ, List, ◌<◌, [], ◌∷◌, ◌∙◌, arith, length, map, refl, subst, sym}
 use Rattle.be_table.specs.Place.{Opened, SeatFacts}
 use Rattle.be_table.specs.Steps.{Has}
 use Rattle.be_table.specs.Works.{AllAt, knows_of}
@@ -28,8 +28,9 @@ returns c =
     let all = c.collect_all.new.passes.items in
     let rest = c.collect_all.ensures.more.0 in
     let known = known_with c.args.passes.items c.args.pass c.push_reserved.new.self.items rest all c.push_reserved.ensures.items c.collect_all.ensures.more.1 in
-    let closed : IsClosedWith c.self.inside.store.limits (map knows_of all) c.close.result = record {
-      all = c.if-not-collect_all.ensures.all refl;
+    let closed : IsClosedWith c.collect_all.new.store.limits (map knows_of all) c.close.result = record {
+      all = subst (λ (o : Opened). (k : ℕ) → k < o.limits.passes → Has (map knows_of all) k) (sym c.collect_all.ensures.store)
+          (c.if-not-collect_all.ensures.all refl);
       legal = c.close.ensures.legal;
       by = c.close.ensures.by;
       seen = c.close.ensures.passes;
@@ -42,5 +43,5 @@ returns c =
       map knows_of c.args.passes.items,
       map knows_of rest,
       subst (λ (ks : List Knowledge). IsClosedWith c.args.self.limits ks c.close.result) known
-          (subst (λ (o : Opened). IsClosedWith o.limits (map knows_of all) c.close.result) c.self.view_is closed),
+          (subst (λ (o : Opened). IsClosedWith o.limits (map knows_of all) c.close.result) (c.collect_all.ensures.store ∙ c.self.view_is) closed),
     )

@@ -5,5 +5,5 @@ use Rattle.be_session.proofs.shared.Shared.take_returned.Goals as goal
 
 pub returns-in-Some : goal.returns-in-Some
 returns-in-Some c =
-    waits_unpinned c.args.self.now _ c.loop-slot.slot-index c.slot-item.result c.in-Some.pass c.loop-slot.invariant c.loop-slot-test.true
-    (subst (λ s. MayWaitAt s c.in-Some.pass) c.slot-item.is c.in-Some.ensures)
+    waits_unpinned c.args.self.now _ c.loop-slot.slot-index c.slot-item.result c.in-Some.returned.pass c.loop-slot.invariant c.loop-slot-test.true
+    (subst (λ s. MayWaitAt s c.in-Some.returned.pass) c.slot-item.is c.in-Some.ensures)

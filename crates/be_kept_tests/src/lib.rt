@@ -1,0 +1,5 @@
+//! Tests of kept files.
+#![tactic(auto)]
+
+#[cfg(test)]
+mod tests;

@@ -1,0 +1,23 @@
+use Rattle.std.proofs.Common.{◌∙◌, sym}
+use Rattle.std.specs.Result.{IfOk}
+use Rattle.std.specs.declared.result.Result.{Result}
+use Rattle.std.specs.declared.result.Result.TheVariants.{Ok, Err}
+use Rattle.be_query.specs.View.{formula}
+use Rattle.be_order.proofs.Numbered.{covered_from}
+use Rattle.be_order.proofs.numbers.first_of.Goals as goal
+
+tested : {A E : Type 0} {P Q : A → Type 0} (r : Result A E) → ((a : A) → P a → Q a) → IfOk r P → IfOk r Q
+tested (Ok a) f h = f a h
+tested (Err e) f h = h
+
+pub is_covered-requires : goal.is_covered-requires
+is_covered-requires g c = (g.volume, c.requires.1.0)
+
+pub returns-then-branch-clause-first : goal.returns-then-branch-clause-first
+returns-then-branch-clause-first g c = λ _.
+    covered_from g.volume (formula c.args.tree.now) c.args.first c.args.most c.first_by_numbers.new.found.items (sym (c.is_covered.ensures.answer g.volume c.requires.1.0) ∙ c.if-not-is_covered.false)
+    (c.in_ok-first_by_numbers.ensures.first c.if-branch.true)
+
+pub returns-clause-first : goal.returns-clause-first
+returns-clause-first g c = tested c.first_of_side.result (λ done is yes.
+    covered_from g.volume (formula c.args.tree.now) c.args.first c.args.most c.first_of_side.new.found.items (sym (c.is_covered.ensures.answer g.volume c.requires.1.0) ∙ c.if-not-is_covered.false) (is yes)) c.first_of_side.ensures.first
