@@ -1,7 +1,8 @@
-"""Compiles the extension, includes the library's shared object in the wheel, and names the platform that both require.
+"""Compiles the extension, includes the libraries' shared objects in the wheel, and names the platform that they require.
 
-BESTORE_LIBRARY names the shared object. If it isn't set, setup uses the one that `make -C c` builds in the repository. If it is
-empty, or in an unpacked source distribution, the wheel contains none, and the package loads the system's libbestore.so.0.
+BESTORE_LIBRARY names the shared object of the library, and BESTORE_CLIENT_LIBRARY that of the client. If one isn't set, setup uses what
+`make -C c` or `tools/build-rust` builds in the repository. If it is empty, or in an unpacked source distribution, the wheel contains none,
+and the package loads the system's libbestore.so.0 or libbestore-client.so.0.
 """
 
 import glob
@@ -9,7 +10,7 @@ import os
 import re
 import shutil
 import sysconfig
-from typing import List, Optional, Tuple
+from typing import Dict, List, Tuple
 
 from setuptools import Extension, setup
 from setuptools.command.build_py import build_py
@@ -19,23 +20,28 @@ try:
 except ImportError:  # setuptools older than 70.1
     from wheel.bdist_wheel import bdist_wheel
 
-SONAME = "libbestore.so.0"
 HERE = os.path.dirname(os.path.abspath(__file__))
-REPOSITORY = os.path.join(HERE, "..", "c")
+REPOSITORY = os.path.join(HERE, "..")
+# For each shared object, the variable that names it, where the repository has it, and what builds it there.
+LIBRARIES = {
+    "libbestore.so.0": ("BESTORE_LIBRARY", "c/libbestore.so.0", "make -C c"),
+    "libbestore-client.so.0": ("BESTORE_CLIENT_LIBRARY", "rust/target/release/libbestore_client_c.so", "tools/build-rust"),
+}
 OLDEST = "cp310"  # the Python version whose limited API native/native.h uses
 
 
-def library() -> Optional[str]:
-    """Returns the path of the shared object to include, or None."""
-    named = os.environ.get("BESTORE_LIBRARY")
-    if named == "":
-        return None
-    if named is None and not os.path.exists(os.path.join(REPOSITORY, "bestore.map")):
-        return None
-    path = named or os.path.join(REPOSITORY, SONAME)
-    if not os.path.isfile(path):
-        raise SystemExit(f"bestore: {path} is missing. Run `make -C c` first, or name {SONAME} by BESTORE_LIBRARY.")
-    return path
+def libraries() -> Dict[str, str]:
+    """Returns the names and the paths of the shared objects to include."""
+    found = {}
+    for soname, (variable, place, builder) in LIBRARIES.items():
+        named = os.environ.get(variable)
+        if named == "" or named is None and not os.path.exists(os.path.join(REPOSITORY, "c", "bestore.map")):
+            continue
+        path = named or os.path.join(REPOSITORY, place)
+        if not os.path.isfile(path):
+            raise SystemExit(f"bestore: {path} is missing. Run `{builder}` first, or name {soname} by {variable}.")
+        found[soname] = path
+    return found
 
 
 def platform_tag(paths: List[str]) -> str:
@@ -62,14 +68,14 @@ def extension() -> Extension:
         extra_compile_args=["-std=c11", "-O2", "-g0", "-fvisibility=hidden"], py_limited_api=True)
 
 
-class BuildWithLibrary(build_py):
-    """Copies the shared object next to the modules."""
+class BuildWithLibraries(build_py):
+    """Copies the shared objects next to the modules."""
 
     def run(self) -> None:
         super().run()
-        path = library()
-        if path is not None and not getattr(self, "editable_mode", False):
-            shutil.copyfile(path, os.path.join(self.build_lib, "bestore", SONAME))
+        for soname, path in libraries().items():
+            if not getattr(self, "editable_mode", False):
+                shutil.copyfile(path, os.path.join(self.build_lib, "bestore", soname))
 
 
 class PlatformWheel(bdist_wheel):
@@ -80,11 +86,11 @@ class PlatformWheel(bdist_wheel):
         super().finalize_options()
 
     def get_tag(self) -> Tuple[str, str, str]:
-        path = library()
-        if path is None:
+        paths = list(libraries().values())
+        if not paths:
             return (OLDEST, "abi3", super().get_tag()[2])
         built = self.get_finalized_command("build_ext").get_outputs()
-        return (OLDEST, "abi3", platform_tag([path, *built]))
+        return (OLDEST, "abi3", platform_tag([*paths, *built]))
 
 
-setup(ext_modules=[extension()], cmdclass={"build_py": BuildWithLibrary, "bdist_wheel": PlatformWheel})
+setup(ext_modules=[extension()], cmdclass={"build_py": BuildWithLibraries, "bdist_wheel": PlatformWheel})

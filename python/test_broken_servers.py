@@ -4,6 +4,7 @@ import contextlib
 import json
 import os
 import pickle
+import select
 import shutil
 import signal
 import socket
@@ -15,7 +16,9 @@ import unittest
 from unittest import mock
 
 import bestore
-from bestore import _connected_watch, _connection, connected, saved
+from bestore import _client, _connected_watch, connected, saved
+from bestore._client import Link
+from servers import CLIENT
 
 PATIENCE = 30  # seconds that anything may take on a busy machine
 
@@ -95,6 +98,7 @@ def push(commit, created, removed, **others):
     return json.dumps(pushed).encode() + b"\n"
 
 
+@unittest.skipUnless(CLIENT, "BESTORE_CLIENT_LIBRARY names no libbestore-client")
 class Broken(unittest.TestCase):
     """Servers that violate the protocol or drop the connection."""
 
@@ -109,9 +113,9 @@ class Broken(unittest.TestCase):
             return fault.exception
 
     def test_closed(self):
-        for answer, reason in [([None], ""), ([b'{"id":2,"o', None], " within a line")]:
+        for answer in [None], [b'{"id":2,"o', None]:
             fault = self.fault(bestore.Pass.new_node, answer)
-            self.assertEqual((type(fault), fault.reason), (bestore.Disconnected, "the server closed the connection" + reason))
+            self.assertEqual((type(fault), fault.reason), (bestore.Disconnected, "the server closed the connection"))
             self.assertTrue(fault.may_be_done)
 
     def test_junk(self):
@@ -180,8 +184,7 @@ class Broken(unittest.TestCase):
                   [line(5, {"commit": 0, "count": 1, "nodes": [9]})], [line(6, {})]) as fake:
             with bestore.connect(fake.path) as store, store.pin() as version:
                 self.assertEqual(version.query("k==1"), [1, 2, 4, 6, 9])
-            self.assertEqual([it["query"] for it in fake.asked if "query" in it], [
-                {"query": "k==1"}, {"query": "k==1", "from": 4, "uncounted": True}, {"query": "k==1", "from": 9, "uncounted": True}])
+            self.assertEqual([it["query"]["from"] for it in fake.asked if "query" in it], [0, 4, 9])
 
     def test_columns(self):
         """Rows may arrive in several replies. Each reply has rows only for requested nodes."""
@@ -208,80 +211,30 @@ class Broken(unittest.TestCase):
             self.assertEqual(watch.wait(PATIENCE), ([1, 2], []))
             self.assertEqual((store.new_node(), watch.commit), (9, 1))
             while watch._last < 3:
-                self.assertTrue(store._receive(PATIENCE))
+                store._receive(PATIENCE)
             self.assertEqual((watch.wait(0), watch.commit), (([3], [2]), 3))
             self.assertEqual((watch.refresh(), watch.commit), (([5], [3]), 5))
 
 
-    def test_push_at_once(self):
-        """A new watch receives a push even if the push arrives while the same call ends a dropped version's pin."""
-        read_first, pinned = connected.ConnectedWatch._read_first, []
-
-        def forget_and_read(watch, ok):
-            pinned.clear()
-            return read_first(watch, ok)
-        for last, seen in [(push(2, [2], [1]), ([2], [])), (push(2, [], [], error={"name": "NoWatch", "message": "why"}), ([1], []))]:
-            with Fake([line(2, {"commit": 0, "next": 1})], [line(3, {"watch": 1, "commit": 1, "nodes": [1]})],
-                      [last + line(4, {})]) as fake, fake.connect() as store:
-                pinned.append(store.pin())
-                with mock.patch.object(connected.ConnectedWatch, "_read_first", forget_and_read):
-                    watch = store.watch("k==1")
-                self.assertEqual(("unpin" in fake.asked[-1], watch.commit), (True, 1))
-                self.assertEqual((watch.wait(0), watch.commit), (seen, 2))
-                if "error" in json.loads(last):
-                    self.assertRaises(bestore.NoWatch, watch.wait, 0)
-
-
-    def test_more_nodes_than_the_server_has_room_for(self):
-        """A page has 512 words, and each node takes at least one, so a push with more nodes is an error."""
-        for pushed, error in [(push(2, list(range(8 * 512)), []), None), (push(2, list(range(8 * 512 + 1)), []), bestore.ProtocolError),
-                              (push(2, [], list(range(8 * 512 + 1))), bestore.ProtocolError)]:
-            with Fake([line(2, {"watch": 1, "commit": 1, "nodes": []}) + pushed]) as fake, fake.connect() as store:
-                watch = store.watch("k==1")
-                if error is None:
-                    self.assertEqual(watch.wait(PATIENCE), (list(range(8 * 512)), []))
-                    continue
-                with self.assertRaisesRegex(error, "the server pushed more nodes than its 8 pages have room for"):
-                    watch.wait(PATIENCE)
-                self.assertRaises(bestore.Disconnected, store.new_node)
-
-    def reach(self, within, times, *answers):
-        """Returns the result of `reach`, how long it asked the server to wait each time, and what it raised. The clock shows
-        `times`."""
-        clock = mock.Mock(monotonic=mock.Mock(side_effect=times))
-        with Fake(*([json.dumps({"id": number, **answer}).encode() + b"\n"] for number, answer in enumerate(answers, 2))) as fake:
-            with fake.connect(timeout=PATIENCE) as store:
-                store._timeout = 2
-                raised = reached = None
-                with mock.patch.object(connected, "time", clock):
-                    try:
-                        reached = store.reach(7, within)
-                    except bestore.Error as error:
-                        raised = error
-                self.assertTrue(store._is_open)
-                return reached, [it["reach"] for it in fake.asked[1:]], raised
-
     def test_reach(self):
-        """`reach` asks the server repeatedly, so that each reply arrives within the connection's timeout."""
-        later = {"error": {"name": "NotReached", "message": "why", "expected": 7, "found": 5}}
-        reached, asked, raised = self.reach(2.5, [10, 10, 11, 12], later, later, later)
-        self.assertEqual((reached, [it["within"] for it in asked]), (None, [1000, 1000, 500]))
-        self.assertEqual((type(raised), raised.expected, raised.found), (bestore.NotReached, 7, 5))
-        reached, asked, raised = self.reach(float("inf"), range(9), later, later, {"ok": {"commit": 8}})
-        self.assertEqual((reached, asked, raised), (8, [{"commit": 7, "within": 1000}] * 3, None))
-        for within in (0, -1):
-            self.assertEqual(self.reach(within, [10, 10], {"ok": {"commit": 8}})[1], [{"commit": 7, "within": 0}])
+        """The server waits, for a minute per request."""
+        later = json.dumps({"id": 2, "error": {"name": "NotReached", "message": "why", "expected": 7, "found": 5}}).encode() + b"\n"
+        with Fake([later], [line(3, {"commit": 8})]) as fake, fake.connect() as store:
+            with self.assertRaises(bestore.NotReached) as fault:
+                store.reach(7, 2.5)
+            self.assertEqual((fault.exception.expected, fault.exception.found), (7, 5))
+            self.assertEqual(store.reach(7, float("inf")), 8)
+            self.assertEqual([it["reach"] for it in fake.asked[1:]],
+                             [{"commit": 7, "within": 2500}, {"commit": 7, "within": 60000}])
 
 
 class Interrupt:
     """Raises KeyboardInterrupt once, as a signal might: at the start of one of the package's functions, or at a line of one
     that takes pushes."""
 
-    files = {_connected_watch.__file__, _connection.__file__, connected.__file__}
+    files = {_connected_watch.__file__, _client.__file__, connected.__file__}
     taking = {it.__code__ for it in (
-        _connection.Connection.receive_pushes, _connection.Connection._can_be_pushed, _connection._can_receive,
-        _connection.Connection._take_line,
-        _connection.Connection._receive, _connection.Connection._take_other, connected.ConnectedWatch._take)}
+        Link.pushed, Link._arrived, Link._changed, connected.ConnectedWatch._take)}
 
     def __init__(self, place):
         self.left = place  # how many places to pass before raising
@@ -300,6 +253,7 @@ class Interrupt:
         return self.trace
 
 
+@unittest.skipUnless(CLIENT, "BESTORE_CLIENT_LIBRARY names no libbestore-client")
 class Interrupted(unittest.TestCase):
     """Calls that an exception interrupts at every possible place."""
 
@@ -344,7 +298,7 @@ class Interrupted(unittest.TestCase):
         place, was_interrupted = 0, True
         while was_interrupted:
             was_interrupted = False
-            with Fake([line(2, {})], [line(3, {"commit": 1, "nodes": [1]})]) as fake, fake.connect() as store:
+            with Fake([line(2, {})], [line(3, {})]) as fake, fake.connect() as store:
                 try:
                     with Interrupt(place):
                         store.flush()
@@ -354,19 +308,8 @@ class Interrupted(unittest.TestCase):
                     store.flush()
             place += 1
 
-    def test_a_handler_that_raises(self):
-        """If a push handler raises, the pass is disconnected, even if the system raises the same error."""
-        with self.fake() as fake, fake.connect(timeout=None) as store, store.watch("k==1") as watch:
-            store._connection._take_push = lambda push: self.fail_by(TimeoutError("by a handler"))
-            watch.wait(0)
-            with self.assertRaises(bestore.Disconnected) as fault:
-                watch.wait(PATIENCE)
-            self.assertIn("by a handler", str(fault.exception))
 
-    def fail_by(self, error):
-        raise error
-
-
+@unittest.skipUnless(CLIENT, "BESTORE_CLIENT_LIBRARY names no libbestore-client")
 class Closing(unittest.TestCase):
     """A pass or a watch that one thread closes while another one uses it."""
 
@@ -390,7 +333,7 @@ class Closing(unittest.TestCase):
             closing.join(5)
             was_closed = not closing.is_alive()
             if not was_closed:
-                store._connection._socket.shutdown(socket.SHUT_RDWR)
+                os.close(store.fileno())
             for thread in (closing, waiting):
                 thread.join()
             self.assertEqual((was_closed, errors), (True, [bestore.Closed]))
@@ -414,7 +357,7 @@ class Closing(unittest.TestCase):
             closing.join(5)
             was_closed = not closing.is_alive()
             if not was_closed:
-                store._connection._socket.shutdown(socket.SHUT_RDWR)
+                os.close(store.fileno())
             for thread in (closing, waiting):
                 thread.join()
             self.assertEqual((was_closed, found, fake.asked[-1]), (True, [([2], [])], {"id": 4, "unwatch": {"watch": 2}}))
@@ -463,7 +406,7 @@ class Closing(unittest.TestCase):
                 ringing.start()
                 self.assertEqual(watch.wait(PATIENCE), ([2], []))
                 ringing.join()
-                self.assertTrue(_connection._can_receive(store._connection._socket, time.monotonic() + PATIENCE))
+                self.assertTrue(select.select([store], [], [], PATIENCE)[0])
                 store._ring()
                 self.assertEqual(watch.wait(0), ([3], []))
 
@@ -480,27 +423,6 @@ class Closing(unittest.TestCase):
                     self.assertEqual(str(fault.exception), f"{fake.path}: the connection is closed")
                 self.assertRaises(bestore.Closed, watch.wait, 0)
 
-    def test_closed_just_before_it_waits(self):
-        """A signal handler closes the pass after the call has looked at the connection."""
-        can_receive = _connection._can_receive
-
-        def closed(*given):
-            store.close()
-            return can_receive(*given)
-        with Fake(self.watched) as fake, fake.connect() as store:
-            watch = store.watch("k==1")
-            with mock.patch.object(_connection, "_can_receive", closed), self.assertRaises(bestore.Disconnected) as fault:
-                watch.wait(PATIENCE)
-            self.assertEqual(str(fault.exception), f"{fake.path}: the connection is closed")
-
-    def test_closed_while_it_repeats(self):
-        """A pass that is closed while another thread repeats a write on it stays closed."""
-        with Fake([None]) as fake, bestore.connect(fake.path, repeat=1) as store:
-            clock = mock.Mock(monotonic=time.monotonic, sleep=lambda seconds: store.close())
-            with mock.patch.object(connected, "time", clock), self.assertRaises(bestore.Closed):
-                store.new_node()
-            self.assertIsNone(store._connection)
-
     def test_no_number_of_seconds(self):
         with Fake(self.watched, [line(3, {})]) as fake, fake.connect() as store, store.watch("k==1") as watch:
             with self.assertRaisesRegex(ValueError, "a timeout can't be nan seconds"):
@@ -508,6 +430,7 @@ class Closing(unittest.TestCase):
             self.assertIsNone(watch.wait(0))
 
 
+@unittest.skipUnless(CLIENT, "BESTORE_CLIENT_LIBRARY names no libbestore-client")
 class Repeated(unittest.TestCase):
     def test_change_that_may_be_made(self):
         """A change whose write may have been made doesn't run again, though its function began a watch, so that the write wasn't
@@ -533,22 +456,6 @@ class Repeated(unittest.TestCase):
             with bestore.connect(fake.path, repeat=1) as store, self.assertRaises(bestore.Disconnected) as fault:
                 store.change(watch)
         self.assertEqual((len(watches), fault.exception.may_be_done), (1, False))
-
-    def test_attempt_that_may_be_made(self):
-        """If one attempt may have made a write, no later attempt's error says that nothing was written."""
-        ask = connected.ConnectedPass._ask
-        for later in bestore.Disconnected("p", "later"), bestore.Stopped("p", "later"), bestore.NoPass():
-            errors = [bestore.Disconnected("p", "first", True)]
-
-            def failing(user, command, *given, **named):
-                if command == "batch":
-                    raise errors.pop() if errors else later
-                return ask(user, command, *given, **named)
-            with Fake() as fake, bestore.connect(fake.path, repeat=0.2) as store:
-                with mock.patch.object(connected.ConnectedPass, "_ask", failing), self.assertRaises(bestore.Disconnected) as fault:
-                    store.new_node()
-            self.assertEqual((fault.exception.reason, fault.exception.may_be_done), ("first", True))
-            self.assertIs(fault.exception.__cause__, later)
 
     def test_error_of_another_store(self):
         """A change whose function fails because of another store doesn't connect again and again."""

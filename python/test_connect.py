@@ -19,9 +19,8 @@ import test_fork
 import test_language
 import test_native
 import test_ordered
-from bestore import _connection, connected
 from bestore._listings import ATTRIBUTE, NODE, records
-from servers import PATIENCE, OverServer, Server, WithServer
+from servers import PATIENCE, OverServer, Relay, Server, WithServer
 
 _open = bestore.open
 
@@ -202,27 +201,23 @@ class Reading(WithServer):
                     batch.set(node, name, f"value {node}" if place % 2 else node)
             self.store.apply(batch)
         expected = [[f"value {node}" if place % 2 else node for node in nodes] for place in range(5)]
-        with self.store.pin() as version, self.asked() as asked:
+        with self.asked() as (store, relay), store.pin() as version:
+            relay.clear()
             self.assertEqual(version.columns(nodes, names), expected)
-            self.assertEqual(asked, ["columns"])
+            self.assertEqual(relay.commands, ["columns"])
             self.assertEqual((version.columns([], names), version.columns(nodes, [])), ([[]] * 5, []))
             self.assertEqual(version.columns([-1, 2**64], names), [[None, None]] * 5)
             self.assertEqual(version.column(nodes, names[1]), expected[1])
-            self.assertEqual(asked, ["columns"] * 3)
-        with self.asked() as asked:
-            self.store.change(lambda change: self.assertEqual(change.columns(nodes, names), expected))
-            self.assertEqual(asked, ["pin", "columns", "unpin"])
+            self.assertEqual(relay.commands, ["columns"] * 3)
+        with self.asked() as (store, relay):
+            store.change(lambda change: self.assertEqual(change.columns(nodes, names), expected))
+            self.assertEqual(relay.commands, ["hello", "pin", "columns", "unpin"])
 
     @contextlib.contextmanager
     def asked(self):
-        """Collects the commands of the requests that are sent during the `with` block."""
-        commands, ask = [], _connection.Connection.ask
-
-        def listed(connection, command, *others, **named):
-            commands.append(command)
-            return ask(connection, command, *others, **named)
-        with mock.patch.object(_connection.Connection, "ask", listed):
-            yield commands
+        """Connects another pass, and returns it with the relay that lists what it asks."""
+        with Relay(self.server.path) as relay, bestore.connect(relay.path) as store:
+            yield store, relay
 
     def test_columns_of_a_long_name(self):
         with self.store.pin() as version:
@@ -318,10 +313,8 @@ class Confirmed(WithServer):
 
     def test_server_is_asked(self):
         for options, greeting in ({}, {"protocol": 2}), ({"confirmed": True}, {"protocol": 2, "confirmed": True}):
-            with mock.patch.object(connected.ConnectedPass, "_ask", side_effect=bestore.Closed) as ask:
-                with self.assertRaises(bestore.Closed):
-                    self.server.connect(**options)
-            self.assertEqual(ask.call_args.args[1], greeting)
+            with Relay(self.server.path) as relay, bestore.connect(relay.path, **options):
+                self.assertEqual([it["hello"] for it in relay.requests], [greeting])
 
 
 class Writing(WithServer):

@@ -9,6 +9,7 @@ from unittest import mock
 
 import bestore
 from bestore import connected
+from bestore._client import Link
 from servers import WithServer
 
 
@@ -116,12 +117,12 @@ class Dying(WithServer):
         for is_sent in False, True:
             interrupts = [KeyboardInterrupt()]
 
-            def interrupted(user, command, *given, **named):
-                if command == "pin" and interrupts:
+            def interrupted(user, call):
+                if call is Link.pin and interrupts:
                     if is_sent:
-                        ask(user, command, *given, **named)
+                        ask(user, call)
                     raise interrupts.pop()
-                return ask(user, command, *given, **named)
+                return ask(user, call)
             with mock.patch.object(connected.ConnectedPass, "_ask", interrupted), self.assertRaises(KeyboardInterrupt):
                 self.store.pin()
             with self.store.pin() as version:

@@ -20,7 +20,7 @@ ENGINE = ("bestore._native", "bestore._library", "bestore._engine", "bestore._pr
 CLIENT = """
     import sys
     import threading
-    sys.modules["bestore._native"] = None  # which then can't be imported
+    sys.modules["bestore._library"] = None  # which then can't be imported
     import bestore
 
     path, engine = sys.argv[1], sys.argv[2:]
@@ -87,7 +87,7 @@ CLIENT = """
         try:
             call()
         except ImportError as error:
-            assert "compiled part" in str(error) or "_native" in str(error), error
+            assert "_library" in str(error), error
         else:
             raise AssertionError("the engine was there")
     print("done")
@@ -103,6 +103,19 @@ class Clients(unittest.TestCase):
                 [sys.executable, "-W", "error", "-c", textwrap.dedent(CLIENT), server.path, *ENGINE], capture_output=True, text=True,
                 env={**os.environ, "BESTORE_LIBRARY": os.path.join(server.folder, "none")}, timeout=120)
         self.assertEqual((said.stdout, said.stderr), ("done\n", ""))
+
+    def test_what_to_install(self):
+        """Without the client's library, connecting says what to install, and nothing else needs it."""
+        program = """
+            import bestore
+            try:
+                bestore.connect("p")
+            except ImportError as error:
+                print(error)
+        """
+        said = subprocess.run([sys.executable, "-c", textwrap.dedent(program)], capture_output=True, text=True, timeout=120,
+                              env={**os.environ, "BESTORE_CLIENT_LIBRARY": "/none"})
+        self.assertIn("Install the Debian package libbestore-client0 or bestore's wheel", said.stdout)
 
     def test_nothing_of_the_extension_is_imported(self):
         program = "import sys, bestore.connected; from bestore import NotSaved, Stopped; print(*(it for it in sys.argv[1:] if it in sys.modules))"

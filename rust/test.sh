@@ -126,11 +126,13 @@ elif [ ! -f "$(python3 -c 'import sysconfig; print(sysconfig.get_path("include")
     echo "Python, over the server: skipped, there is no Python.h"
 else
     make -s -C ../python
+    CARGO_TARGET_DIR=$client run "the client for Python, built" build -p bestore-client-c
     BESTORED=$(realpath "$CARGO_TARGET_DIR/debug/bestored")
-    export BESTORED
+    BESTORE_CLIENT_LIBRARY=$(realpath "$client/debug/libbestore_client_c.so")
+    export BESTORED BESTORE_CLIENT_LIBRARY
     if ! (cd ../python && timeout -k 10 1500 env BESTORE_LIBRARY="$BESTORE_LIB_DIR/libbestore.so" PYTHONDONTWRITEBYTECODE=1 \
-        python3 -W error -m unittest test_batches_alike test_connect test_connected_ends test_connected_pages test_connected_programs \
-        test_connected_queries test_live test_repeats test_watches test_without_library \
+        python3 -W error -m unittest test_batches_alike test_broken_servers test_connect test_connected_ends test_connected_pages \
+        test_connected_programs test_connected_queries test_live test_repeats test_sockets test_watches test_without_library \
         test_saved_processes.Processes.test_rust) >"$work/said" 2>&1; then
         cat "$work/said" >&2
         echo "Python, over the server: failed, or not at its end after 1500 seconds" >&2

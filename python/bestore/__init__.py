@@ -23,8 +23,8 @@ A `Builder` makes a store that begins with given contents.
 A store belongs to the process that opened it. In a forked child its passes, versions and prepared queries are dead: their calls
 raise `Forked`, closing them does nothing, and the parent's handles are unaffected. The child can open its own stores.
 
-The wheel contains the library's shared object. In the repository, the package uses the one in c/, and otherwise the system's. Set
-BESTORE_LIBRARY to use a different one. The documents in docs/ are in the repository, the tarball and the Debian package bestore.
+The wheel contains the libraries' shared objects. In the repository, the package uses the one in c/, and otherwise the system's. Set
+BESTORE_LIBRARY or BESTORE_CLIENT_LIBRARY to use a different one. The documents in docs/ are in the repository, the tarball and the Debian package bestore.
 """
 
 # The names that are imported "as" themselves are public too, but help(bestore) doesn't describe them: most of it would be about errors.

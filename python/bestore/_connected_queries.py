@@ -6,39 +6,46 @@ from __future__ import annotations
 from abc import abstractmethod
 from typing import Callable, List, Optional, Tuple, TypeVar
 
-from ._connected_errors import LineTooLong
-from ._wire import JSON, read_comparisons, read_nodes, read_row
-from .errors import NameLength, NoIndex, NotCovered, TooLong, encoded, encoded_query, no_index
+from ._client import Link
+from .errors import NoIndex, NotCovered, TooLong, encoded, encoded_query, no_index
 from .language import Hint
 from .pages import Cursor, Order, Page
 from .queries import Prepared, prepare_items
+from .values import Value
 from .versions import Asked, Query, Row, Version
 
-_Item = TypeVar("_Item")
 _Result = TypeVar("_Result")
 
 MOST_NAMES = 64
 """The maximum number of names in a request for columns."""
-_LONGEST_QUERY = 4096  # bytes
 _ALL = 2**64 - 1  # more nodes than any store has
 _MOST_OF_A_PAGE = 50_000  # nodes per reply
+_MOST_BYTES = 1 << 16  # of a text that is sent: more than any query has
+
+
+def taken_query(text: str, asked: Query) -> bytes:
+    """Returns a query's text as it is sent. Raises `TooLong` for one that a server wouldn't read."""
+    taken = encoded_query(text)
+    if len(taken) > _MOST_BYTES:
+        raise TooLong(query=asked if isinstance(asked, str) else None)
+    return taken
 
 
 class QueriedVersion(Version):
     """A version that is queried through a server."""
 
     @abstractmethod
-    def _ask(self, command: str, parameters: JSON, read: Callable[[JSON], _Result], query: Optional[str] = None) -> _Result:
+    def _ask(self, call: Callable[[Link], _Result]) -> _Result:
         """Makes a call on the pass, if the pass still has this pin."""
 
-    def _ask_query(self, command: str, asked: Query, text: str, others: JSON, read: Callable[[JSON], _Result]) -> _Result:
-        """Sends the server a request about a query, with `text` as the query."""
+    def _ask_query(self, asked: Query, call: Callable[[Link, bytes, Optional[str]], _Result]) -> _Result:
+        """Makes a call with a query's text, and the text to show in errors."""
+        text = _text_of(asked)
+        taken, shown = taken_query(text, asked), asked if isinstance(asked, str) else None
         try:
-            return self._ask(command, {"query": text, **others}, read, asked if isinstance(asked, str) else None)
+            return self._ask(lambda link: call(link, taken, shown))
         except NotCovered as error:
             raise self._named(error, asked, text) from None
-        except LineTooLong:
-            raise (TooLong(query=text) if len(encoded(text)) > _LONGEST_QUERY else NameLength()) from None
 
     def _named(self, error: NotCovered, asked: Query, text: str) -> NotCovered:
         """Returns the error for a query that needs another index, with the position that the server reported."""
@@ -49,91 +56,70 @@ class QueriedVersion(Version):
 
     def hints(self, query: Asked) -> List[Hint]:
         """Works as for a store in this process, but the server parses the query's text."""
-        compared = self._ask_query("text", query, _text_of(query), {}, read_comparisons)
+        compared = self._ask_query(query, Link.comparisons)
         indices = self.indices() if any(one.never for one in compared) else {}
         return [Hint(one.name, one.value, indices[one.name], one.offset, one.is_number)
                 for one in compared if indices.get(one.name) in one.never]
 
     def _nodes_of(self, asked: Query) -> List[int]:
-        return self._first_of(asked, 0, _ALL)
+        return self._ask_query(asked, Link.query)
 
     def _first_of(self, asked: Query, start: int, limit: int) -> List[int]:
-        text, nodes = _text_of(asked), []  # type: str, List[int]
-        more: Optional[int] = start
-        while more is not None and more < 2**64 and len(nodes) < limit:
-            page, more = self._ask_query("query", asked, text, self._part(more, limit, len(nodes)), _read_page)
-            nodes += page
-        return nodes
-
-    def _part(self, first: int, limit: int, had: int) -> JSON:
-        """Returns the parameters for a page that begins at the number `first` after `had` nodes have already been read. Without
-        a limit, the reply contains as many nodes as fit on a line."""
-        parameters: JSON = {"from": first} if first else {}
-        if limit < _ALL:
-            parameters["limit"] = min(limit - had, _MOST_OF_A_PAGE)
-        return {**parameters, "uncounted": True} if parameters else {}
+        return self._ask_query(asked, lambda link, text, shown: link.first(text, start, limit, shown))
 
     def _any_of(self, asked: Query, limit: int) -> List[int]:
         if limit > _MOST_OF_A_PAGE:
             return self._first_of(asked, 0, limit)
-        return self._ask_query("query", asked, _text_of(asked), {"any": limit}, lambda ok: read_nodes(ok["nodes"]))
+        return self._ask_query(asked, lambda link, text, shown: link.any(text, limit, shown))
 
     def _count_of(self, asked: Query) -> int:
-        return self._ask_query("query", asked, _text_of(asked), {"count": True}, lambda ok: int(ok["count"]))
+        return self._ask_query(asked, Link.count)
 
     def _rows_of(self, query: Asked, names: List[str], first: int, most: int) -> List[Row]:
+        if len(names) > MOST_NAMES:
+            return super()._rows_of(query, names, first, most)
         for name in names:
             encoded(name)
-        text, rows = _text_of(query), []  # type: str, List[Row]
-        more: Optional[int] = first
-        while more is not None and more < 2**64 and len(rows) < most:
-            others = {"columns": names, **self._part(more, most, len(rows))}
-            page, more = self._ask_query("query", query, text, others, _read_rows)
-            rows += page
-        return rows
+        return self._ask_query(query, lambda link, text, shown: link.first_rows(text, names, first, most, shown))
 
     def _page_of(self, asked: Asked, order: Order, after: Optional[Cursor], limit: Optional[int]) -> Page[int]:
-        return self._pages(asked, order, after, limit, {}, lambda ok: read_nodes(ok["nodes"]))
+        nodes, _, more, cursor = self._page(asked, order, after, [], limit)
+        return Page(nodes, more, cursor)
 
     def _page_of_rows(self, query: Asked, names: List[str], order: Order, after: Optional[Cursor], most: int) -> Page[Row]:
         if len(names) > MOST_NAMES:
             return super()._page_of_rows(query, names, order, after, most)
         for name in names:
             encoded(name)
-        return self._pages(query, order, after, most, {"columns": names}, lambda ok: _read_rows(ok)[0])
+        nodes, rows, more, cursor = self._page(query, order, after, names, most)
+        return Page(list(zip(nodes, rows)), more, cursor)
 
-    def _pages(self, asked: Asked, order: Order, after: Optional[Cursor], limit: Optional[int], others: JSON,
-               read: Callable[[JSON], List[_Item]]) -> Page[_Item]:
-        """Returns a page in this order, which may take several replies to read."""
+    def _page(self, asked: Asked, order: Order, after: Optional[Cursor], names: List[str],
+              limit: Optional[int]) -> Tuple[List[int], List[List[Optional[Value]]], bool, Cursor]:
+        """Returns a page in this order, which may take several calls. If the index is missing, the error lists the indices that exist."""
         encoded(order.by)
-        parameters: JSON = {"by": order.by, **({"descending": True} if order.descending else {}), **others}
-        items: List[_Item] = []
+        nodes: List[int] = []
+        rows: List[List[Optional[Value]]] = []
+        more, cursor = True, after
 
-        def read_page(ok: JSON) -> Tuple[bool, Cursor]:
-            items.extend(read(ok))
-            return bool(ok.get("more")), Cursor.parse(ok["cursor"])
-        text, more, cursor = _text_of(asked), True, after
-        while more and (limit is None or len(items) < limit):
-            room = _MOST_OF_A_PAGE if limit is None else min(limit - len(items), _MOST_OF_A_PAGE)
-            position = {} if cursor is None else {"after": str(cursor)}
-            more, cursor = self._ask_order(asked, order, text, {**parameters, **position, "limit": room}, read_page)
+        def read(link: Link, text: bytes, shown: Optional[str]) -> Tuple[List[int], List[List[Optional[Value]]], bool, Cursor]:
+            room = _MOST_OF_A_PAGE if limit is None else min(limit - len(nodes), _MOST_OF_A_PAGE)
+            return link.page(text, order, cursor, names, room, shown)
+        while more and (limit is None or len(nodes) < limit):
+            try:
+                found, values, more, cursor = self._ask_query(asked, read)
+            except NoIndex:
+                raise no_index(order.by, self.indices()) from None
+            nodes += found
+            rows += values
         assert cursor is not None  # because a limit is at least 1
-        return Page(items, more, cursor)
-
-    def _ask_order(self, asked: Asked, order: Order, text: str, others: JSON, read: Callable[[JSON], _Result]) -> _Result:
-        """Requests a page. If the index is missing, the error lists the indices that exist."""
-        try:
-            return self._ask_query("query", asked, text, others, read)
-        except NoIndex:
-            raise no_index(order.by, self.indices()) from None
+        return nodes, rows, more, cursor
 
     def explain(self, text: str) -> str:
-        encoded_query(text)
-        return self._ask_query("explain", text, text, {}, lambda ok: str(ok["text"]))
+        return self._ask_query(text, lambda link, taken, _: link.said("bec_explain", taken, text))
 
     def ways(self, text: str) -> str:
-        encoded_query(text)
-        return self._ask_query("ways", text, text, {}, lambda ok: str(ok["text"]))
+        return self._ask_query(text, lambda link, taken, _: link.said("bec_ways", taken, text))
 
 
 def _text_of(asked: Query) -> str:
@@ -143,13 +129,4 @@ def _text_of(asked: Query) -> str:
             return prepared.text
     if isinstance(asked, Prepared):
         return asked._asked_text()
-    encoded_query(asked)
     return asked
-
-
-def _read_page(ok: JSON) -> Tuple[List[int], Optional[int]]:
-    return read_nodes(ok["nodes"]), ok.get("more")
-
-
-def _read_rows(ok: JSON) -> Tuple[List[Row], Optional[int]]:
-    return list(zip(read_nodes(ok["nodes"]), map(read_row, ok["rows"]))), ok.get("more")

@@ -6,15 +6,14 @@ import time
 from contextlib import suppress
 from typing import TYPE_CHECKING, Optional, Set
 
-from ._connected_errors import BrokenConnection, LineTooLong, NoWatch, error_of
-from ._wire import JSON, read_indices, read_nodes
-from .errors import Closed, Error, NotCovered, TooLong, encoded_query
+from ._client import Changed, Link
+from ._connected_errors import BrokenConnection, NoWatch
+from ._connected_queries import taken_query
+from .errors import Closed, Error, NotCovered, QueryError
 from .watches import Changes, Watch
 
 if TYPE_CHECKING:
     from .connected import ConnectedPass
-
-_WORDS = 512  # per page
 
 
 class ConnectedWatch(Watch):
@@ -29,57 +28,41 @@ class ConnectedWatch(Watch):
         self._user = user
         self._created: Set[int] = set()
         self._removed: Set[int] = set()
-        self._is_partial = self._is_new = False  # whether the commit has another push to come; whether there is anything to return
+        self._is_new = False  # whether there is anything to return
         self._last = 0  # the commit that the changes received so far lead to
         self._error: Optional[Error] = None  # the error that ended the watch
         self._number: Optional[int] = None
-        parameters = {} if query is None else {"query": query}
-        if query is not None:
-            encoded_query(query)
+        text = b"" if query is None else taken_query(query, query)
         user._check_process()
         with user._lock:
             user._end_watches()
             try:
-                user._ask("watch", parameters, self._read_first, query=query)
+                user._ask(lambda link: self._read_first(link.watch(text, query)))
             except NotCovered as error:
                 raise self._named(error) from None
-            except LineTooLong:
-                raise TooLong(query=query) from None
 
     def __del__(self) -> None:
         if self._number is not None:
             self._user._ended.append(self._number)
 
-    def _read_first(self, ok: JSON) -> None:
+    def _read_first(self, first: Changed) -> None:
         """Receives the first answer. From then on, pushes arrive, even before the call ends."""
-        nodes = ok.get("nodes")
-        if nodes is not None:
-            self._created.update(read_nodes(nodes))
-        self.commit = self._last = int(ok["commit"])
-        self._is_new, self._is_partial = bool(nodes), bool(ok.get("more"))
-        self._number = int(ok["watch"])
+        self._created.update(first.created)
+        self.commit = self._last = first.commit
+        self._is_new, self._number = bool(first.created), first.watch
         self._user._watches[self._number] = self
 
-    def _take(self, push: JSON) -> bool:
-        """Takes changes. Returns whether the same commit has more changes."""
-        error = push.get("error")
-        if error is not None:
-            self._error = error_of(self._user.path, error, self.query)
+    def _take(self, pushed: Changed) -> None:
+        """Takes changes."""
+        if pushed.error is not None:
+            self._error = pushed.error
+            if isinstance(self._error, QueryError):
+                self._error.query = self.query
             self._forget()
-        came, went = set(read_nodes(push["created"])), set(read_nodes(push["removed"]))
+        came, went = set(pushed.created), set(pushed.removed)
         created, removed = self._created - went | came - self._removed, self._removed - came | went - self._created
-        self._check_room(max(len(created), len(removed)))
         # This is a single statement, because an interrupt may come between two statements.
-        self._created, self._removed, self._last, self._is_new, self._is_partial = (
-            created, removed, int(push["commit"]), True, bool(push.get("more")))
-        return self._is_partial
-
-    def _check_room(self, nodes: int) -> None:
-        """Raises a ValueError if the server's store doesn't have room for this number of nodes. Each node takes at least one word of a
-        page."""
-        pages = self._user.server.pages
-        if nodes > pages * _WORDS:
-            raise ValueError(f"the server pushed more nodes than its {pages:,} pages have room for")
+        self._created, self._removed, self._last, self._is_new = created, removed, pushed.commit, True
 
     def _forget(self) -> Optional[int]:
         """Ends the watch here. Returns its number, unless it had already ended."""
@@ -95,7 +78,7 @@ class ConnectedWatch(Watch):
 
     def _named(self, error: NotCovered) -> NotCovered:
         """Returns the error for a query that needs another index, with the names of the existing indices."""
-        error.indices = tuple(self._user._ask("indices", {}, read_indices))
+        error.indices = tuple(self._user._ask(Link.indices))
         return error
 
     def _check(self) -> int:
@@ -117,8 +100,7 @@ class ConnectedWatch(Watch):
         with user._lock:
             number = self._check()
             try:
-                while user._ask("refresh", {"watch": number}, self._take, query=self.query):
-                    pass
+                user._ask(lambda link: self._take(link.refresh(number, self.query)))
             except NotCovered as error:
                 raise self._named(error) from None
             except NoWatch:
@@ -136,7 +118,7 @@ class ConnectedWatch(Watch):
         user._check_process()
         until = None if timeout is None else time.monotonic() + timeout
         with user._lock:
-            while not self._is_new or self._is_partial:
+            while not self._is_new:
                 self._check()
                 left = None if until is None else max(until - time.monotonic(), 0)
                 if not user._receive(left) and until is not None and time.monotonic() >= until:

@@ -7,7 +7,8 @@ import ctypes
 from typing import Any, Callable, List
 
 from . import _native
-from ._library import Handle, Operation
+from ._library import Handle
+from ._structs import Operation
 from .handles import Owner
 from .operations import Batch
 

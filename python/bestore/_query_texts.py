@@ -5,7 +5,8 @@ from __future__ import annotations
 import ctypes
 from typing import Callable, FrozenSet, List, Mapping, NamedTuple, Optional
 
-from ._library import Compared, Counts, calls, check
+from ._library import calls, check
+from ._structs import Compared, Counts
 from ._surface import Form
 from .errors import encoded, encoded_query
 from .language import Comparison, Hint

@@ -6,6 +6,8 @@
 The server is bestored, described in docs/SERVER.md. A pass is a connection. Use these passes, versions, changes, batches and
 prepared queries just like those of `bestore.open`.
 
+Connecting loads `libbestore-client.so.0`, which is in the wheel and in the Debian package libbestore-client0.
+
 **What differs.** A call takes a round trip. The server itself retries on `Busy` and `Full`, so `tries` has no effect,
 and `within` only on a change. The
 server revokes a snapshot that is kept too long; reading that snapshot then raises `Expired`. `another` may be called in any
@@ -21,42 +23,35 @@ says whether the write may have been applied.
 
 from __future__ import annotations
 
-import base64
-import math
 import operator
 import os
 import threading
 import time
 from contextlib import suppress
 from functools import partial
-from typing import Any, Callable, Dict, Iterable, Iterator, List, NamedTuple, Optional, Tuple, TypeVar, Union
-from uuid import uuid4
+from typing import Any, Callable, Dict, Iterable, Iterator, List, Optional, Tuple, TypeVar, Union
 from weakref import WeakValueDictionary, ref
 
 from ._asked_query import AskedQuery
+from ._client import Link, Server
 from ._connected_change import ConnectedChange
 from ._connected_errors import (
     BrokenConnection, Disconnected, Expired, LineTooLong, NoServer, NotAllowed, NotKept, NoWatch, OtherUser, ProtocolError,
     ServerError, ServerRefusal, TimedOut, TooManyWatches, Unavailable)
-from ._connected_queries import MOST_NAMES, QueriedVersion
+from ._connected_queries import QueriedVersion, taken_query
 from ._connected_watch import ConnectedWatch
-from ._connection import Connection
 from ._journal import line_of
 from ._refreshes import refreshed_by_all
 from ._saved_errors import NotSaved, Stopped
 from ._socket_path import SocketPath
 from ._waits import Waits
-from ._wire import (
-    JSON, PROTOCOL, operations_of, read_comparisons, read_entry, read_indices, read_nodes, read_row, read_value)
-from .errors import (
-    BadCount, Closed, Error, Forked, NameLength, NoAttribute, NoNode, NoPass, NotPinned, NotReached, Pinned, TooLong, encoded,
-    encoded_query)
+from .errors import BadCount, Closed, Error, Forked, NoAttribute, NoNode, NoPass, NotPinned, Pinned, encoded
 from .change import Change
 from .handles import LockOwner
 from .nodes import node_number
-from .operations import MOST_OPERATIONS, NEW, Batch
+from .operations import MOST_OPERATIONS, Batch
 from .queries import Prepared
-from .store import ATTEMPTS, CHANGE_WITHIN, TRIES, WITHIN, Entry, Held, Pass, Status, Witness
+from .store import ATTEMPTS, CHANGE_WITHIN, TRIES, WITHIN, Entry, Pass, Status, Witness
 from .values import RANGES, Kind, Typed, Value
 from .watches import Changes, Watch
 
@@ -72,37 +67,6 @@ TIMEOUT = 60.0
 """The default timeout for connecting, and for each reply, in seconds."""
 _AGAIN = 0.05  # seconds after which a write is repeated
 _PAUSE = 0.01  # seconds between looks at whether another thread has ended a watch that is closed here
-_MOST_WAITED = 30.0  # seconds that the server waits per request
-_MOST_NODES = 1 << 14  # nodes in a request for columns, so that its line isn't too long
-
-
-class Server(NamedTuple):
-    """What a server reports about itself."""
-
-    version: str
-    """The version of bestored."""
-    library: str
-    """The version of the server's library."""
-    run: str
-    """A string that is different each time the server starts. Commit numbers then start over."""
-    kept: str
-    """When the server saves writes in its file: `each` for at each write, `every` for at intervals, or `no` if there is no
-    file."""
-    pages: int
-    passes: int
-    """How many clients may be connected at the same time."""
-    commits: int
-    watches: int
-    """How many watches a pass may have."""
-
-
-def _read_server(hello: JSON) -> Tuple[Server, int]:
-    """Returns what the server reports about itself, and the number of the pass."""
-    limits = hello["limits"]
-    server = Server(
-        hello["server"], hello["library"], hello["run"], hello["kept"], limits["pages"], limits["passes"], limits["commits"],
-        limits["watches"])
-    return server, hello["pass"]
 
 
 class ConnectedVersion(QueriedVersion):
@@ -113,7 +77,8 @@ class ConnectedVersion(QueriedVersion):
     def __init__(self, user: ConnectedPass) -> None:
         self._user = user
         try:
-            self._number, self._next = user._pin(self)
+            self._number = user._pin(self)
+            self._next: Optional[int] = None  # until it is wanted
         except BaseException:
             self.unpin()  # which does nothing unless the pin was interrupted
             raise
@@ -134,20 +99,22 @@ class ConnectedVersion(QueriedVersion):
                     self._is_pinned = False
                     user._unpin()
 
-    def _ask(self, command: str, parameters: JSON, read: Callable[[JSON], _Result], query: Optional[str] = None) -> _Result:
+    def _ask(self, call: Callable[[Link], _Result]) -> _Result:
         """Makes a call on the pass, if the pass still has this pin and not a newer one."""
         user = self._user
         user._check_process()
         with user._lock:
             if not self._is_pinned:
                 raise NotPinned()
-            return user._ask(command, parameters, read, query=query)
+            return user._ask(call)
 
     @property
     def next_node(self) -> int:
         if not self._is_pinned:
             raise NotPinned()
         self._user._check_process()
+        if self._next is None:
+            self._next = self._ask(Link.next_node)
         return self._next
 
     def refresh(self, prepared: Prepared) -> Tuple[List[int], List[int]]:
@@ -157,68 +124,44 @@ class ConnectedVersion(QueriedVersion):
         return refreshed_by_all(prepared, self)
 
     def indices(self) -> Dict[str, Kind]:
-        return self._ask("indices", {}, read_indices)
+        return self._ask(Link.indices)
 
     def listing(self) -> Iterator[bytes]:
-        more: Optional[int] = 0
-        while more is not None:
-            batches, more = self._ask("state", {"from": more}, _read_state)
-            for batch in batches:
-                if not self._is_pinned:
-                    raise NotPinned()
-                yield batch
+        index = 0
+        while True:
+            batch = self._ask(lambda link: link.listing(index))
+            if not batch:
+                return
+            yield batch
+            index += 1
 
     def column(self, nodes: Iterable[int], name: str) -> List[Optional[Value]]:
         return self.columns(nodes, [name])[0]
 
     def columns(self, nodes: Iterable[int], names: Iterable[str]) -> List[List[Optional[Value]]]:
         asked, wanted = [_asked_node(node) for node in nodes], [_asked_name(name) for name in names]
-        columns: List[List[Optional[Value]]] = [[] for _ in wanted]
-        for first in range(0, len(wanted), MOST_NAMES):
-            part = slice(first, first + MOST_NAMES)
-            self._fill(columns[part], asked, wanted[part])
-        return columns
-
-    def _fill(self, columns: List[List[Optional[Value]]], nodes: List[int], names: List[str]) -> None:
-        """Appends the values of all nodes to the columns with these names."""
-        done = 0
-        while done < len(nodes):
-            rows = self._first_rows(nodes[done:done + _MOST_NODES], names)
-            for column, values in zip(columns, zip(*rows)):
-                column += values
-            done += len(rows)
-
-    def _first_rows(self, nodes: List[int], names: List[str]) -> List[List[Optional[Value]]]:
-        """Returns the values of the first nodes in this list, for as many nodes as fit in one reply."""
-        def read(ok: JSON) -> List[List[Optional[Value]]]:
-            rows = [read_row(row) for row in ok["rows"]]
-            if not 1 <= len(rows) <= len(nodes) or any(len(row) != len(names) for row in rows):
-                raise ValueError("it doesn't have the rows of these nodes")
-            return rows
-        try:
-            return self._ask("columns", {"nodes": nodes, "names": names}, read)
-        except LineTooLong:
-            raise NameLength() from None
+        if not asked or not wanted:
+            return [[] for _ in wanted]
+        rows = self._ask(lambda link: link.columns(asked, wanted))
+        return [list(column) for column in zip(*rows)]
 
     def _read(self, node: int, name: str) -> Typed:
-        _asked_name(name)
-        try:
-            value = self._ask("get", {"node": _node_number(node), "name": name}, _read_attribute)
-        except LineTooLong:
-            raise NameLength() from None
+        asked, text = _node_number(node), encoded(_asked_name(name))
+        value = self._ask(lambda link: link.get(asked, text))
         if value is None:
             raise NoAttribute()
         return value
 
     def _listed(self, node: int) -> Dict[str, Typed]:
         try:
-            return self._ask("attributes", {"node": _node_number(node)}, _read_attributes)
+            asked = _node_number(node)
+            return self._ask(lambda link: link.attributes(asked))
         except NoNode as error:
             error.nodes = (node,)
             raise
 
     def _nodes_from(self, first: int, room: int) -> List[int]:
-        return self._ask("nodes", {"from": first, "limit": room}, lambda ok: read_nodes(ok["nodes"]))
+        return self._ask(lambda link: link.nodes(first, room))
 
 
 def _node_number(node: int) -> int:
@@ -244,41 +187,6 @@ def _asked_name(name: str) -> str:
     return name
 
 
-def _read_state(ok: JSON) -> Tuple[List[bytes], Optional[int]]:
-    return [base64.b64decode(batch, validate=True) for batch in ok["batches"]], ok.get("more")
-
-
-def _read_attribute(ok: JSON) -> Optional[Typed]:
-    value = ok["value"]
-    return None if value is None else read_value(value)
-
-
-def _read_attributes(ok: JSON) -> Dict[str, Typed]:
-    return {name: read_value(value) for name, value in ok["attributes"].items()}
-
-
-def _read_pin(ok: JSON) -> Tuple[int, int]:
-    return int(ok["commit"]), int(ok["next"])
-
-
-def _read_status(ok: JSON) -> Status:
-    oldest = ok["oldest"]
-    held = None if oldest is None else Held(oldest["snapshot"], oldest["pass"])
-    return Status(ok["pages"], ok["free"], ok["retired"], ok["entries"], ok["commits"], held)
-
-
-def _read_journal(ok: JSON) -> Tuple[List[Entry], Optional[int]]:
-    return [read_entry(entry) for entry in ok["entries"]], ok.get("more")
-
-
-def _take_push(watches: "WeakValueDictionary[int, ConnectedWatch]", push: JSON) -> None:
-    """Passes a push to its watch, if the watch still exists. The connection holds no reference to the pass, so an unreferenced
-    pass is freed immediately."""
-    watch = watches.get(push["watch"])
-    if watch is not None:
-        watch._take(push)
-
-
 class ConnectedPass(LockOwner, Pass):
     """A pass of a server's store, which is a connection. Calls from several threads wait for each other, so give each thread
     its own pass."""
@@ -287,7 +195,7 @@ class ConnectedPass(LockOwner, Pass):
 
     def __init__(self, path: SocketPath, timeout: Optional[float], run: Optional[str] = None, repeat: Optional[float] = None,
                  confirmed: bool = False) -> None:
-        self._connection: Optional[Connection] = None
+        self._connection: Optional[Link] = None
         super().__init__()
         self._committed = 0
         self._is_asking = self._has_pin = self._is_left = self._is_closed = False
@@ -298,25 +206,20 @@ class ConnectedPass(LockOwner, Pass):
         """The server's socket."""
         self._socket_path = path
         self._timeout, self._repeat, self._confirmed = timeout, repeat, confirmed
-        self._connect()
+        self._connection = Link(path, timeout, repeat, confirmed)
         if run is not None and self.server.run != run:
             self.close()
             raise Disconnected(self.path, "the server was restarted")
 
-    def _connect(self) -> None:
-        """Connects, and asks the server to describe itself."""
-        connection = Connection(self._socket_path, self._timeout, partial(_take_push, self._watches))
-        with self._lock:
-            if self._is_closed:  # by another thread, while this one repeats a write
-                connection.close()
-                raise Closed()
-            self._connection, self._has_pin = connection, False
-            greeting = {"protocol": PROTOCOL, "confirmed": True} if self._confirmed else {"protocol": PROTOCOL}
-            try:
-                self.server, self._number = self._ask("hello", greeting, _read_server)
-            except BaseException:
-                connection.close()
-                raise
+    @property
+    def server(self) -> Server:
+        """What the server reports about itself."""
+        return self._said()[0]
+
+    def _said(self) -> Tuple[Server, int]:
+        if self._connection is not None and self._connection.is_open:
+            self._hello = self._ask(Link.hello)
+        return self._hello
 
     def _until_answered(self, call: Callable[[], _Result], has_token: bool) -> _Result:
         """Makes a call. If the program asked for repeats, retries the call when the connection fails or the server temporarily
@@ -347,15 +250,15 @@ class ConnectedPass(LockOwner, Pass):
             if self._is_open:
                 return True
             with suppress(NoServer, BrokenConnection, NoPass):
-                self._connect()
+                self._has_pin = False
+                self._ask(Link.reconnect)
                 return True
         return False
 
     def __repr__(self) -> str:
-        return f"<pass {self._number} of the server at {self.path}>"
+        return f"<pass {self._said()[1]} of the server at {self.path}>"
 
-    def _ask(self, command: str, parameters: JSON, read: Callable[[JSON], _Result], is_write: bool = False,
-             query: Optional[str] = None) -> _Result:
+    def _ask(self, call: Callable[[Link], _Result]) -> _Result:
         """Makes a call. Raises `Closed` if the pass is closed."""
         if self._is_dead:
             raise Forked()
@@ -363,12 +266,17 @@ class ConnectedPass(LockOwner, Pass):
             connection = self._begin()
             try:
                 self._is_asking = True
-                return connection.ask(command, parameters, read, is_write, query)
+                return call(connection)
+            except Error:
+                raise
+            except BaseException:
+                connection.drop("an earlier call was interrupted")
+                raise
             finally:
                 self._is_asking = False  # cleared here, because an interrupt may keep the call from being made
                 self._unpin_left()
 
-    def _begin(self) -> Connection:
+    def _begin(self) -> Link:
         """Returns the connection for one call."""
         if self._connection is None or self._is_closed:
             raise Closed()
@@ -382,8 +290,8 @@ class ConnectedPass(LockOwner, Pass):
         connection = self._connection
         return not self._is_closed and connection is not None and connection.is_open
 
-    def _pin(self, version: ConnectedVersion) -> Tuple[int, int]:
-        """Pins the pass for a version. Returns the commit number and the next node."""
+    def _pin(self, version: ConnectedVersion) -> int:
+        """Pins the pass for a version. Returns the commit number."""
         self._check_process()
         with self._lock:
             self._unpin_left()
@@ -393,7 +301,7 @@ class ConnectedPass(LockOwner, Pass):
             self._last_pinned = ref(version)
             self._has_pin = version._is_pinned = True  # set first, because an interrupt may come after the reply
             try:
-                return self._ask("pin", {}, _read_pin)
+                return self._ask(Link.pin)
             except Error:
                 self._has_pin = version._is_pinned = False
                 raise
@@ -403,7 +311,7 @@ class ConnectedPass(LockOwner, Pass):
         self._has_pin = False
         if self._is_open:
             with suppress(BrokenConnection, Closed, NotPinned):  # an interrupted pin may not have been sent
-                self._ask("unpin", {}, lambda ok: None)
+                self._ask(Link.unpin)
 
     def _leave(self) -> None:
         """Takes over the pin from a version that is being destroyed. Python may collect the version at any point, even during a
@@ -426,7 +334,7 @@ class ConnectedPass(LockOwner, Pass):
     @property
     def number(self) -> int:
         self._check_process()
-        return self._number
+        return self._said()[1]
 
     @property
     def _is_changing(self) -> bool:
@@ -502,23 +410,11 @@ class ConnectedPass(LockOwner, Pass):
     def _write(self, batch: Batch, waits: Waits, expected: Optional[int]) -> Tuple[int, List[int]]:
         if not 1 <= len(batch) <= MOST_OPERATIONS:
             raise BadCount()
-        parameters: JSON = {"operations": operations_of(batch)}
-        if expected is not None:
-            parameters["expected"] = expected if expected in RANGES[Kind.UINT64] else 2**64 - 1  # a number that no journal has
-        has_token = self._repeat is not None
-        if has_token:
-            parameters["token"] = uuid4().hex
-            if expected is not None:
-                parameters["run"] = self.server.run
-
-        def read(ok: JSON) -> Tuple[int, List[int]]:
-            nodes = read_nodes(ok["nodes"])[::-1]
-            return int(ok["commit"]), [nodes.pop() if kind == NEW else 0 for kind, *_ in batch._parts()]
-        try:
-            return self._until_answered(lambda: self._ask("batch", parameters, read, is_write=True), has_token)
-        except LineTooLong:
-            batch.to_bytes()  # raises an error if the batch isn't valid
-            raise
+        if expected is not None and expected not in RANGES[Kind.UINT64]:
+            expected = 2**64 - 1  # a number that no journal has
+        if expected is None and self._repeats and not self._is_open:
+            self._may_repeat(time.monotonic() + (self._repeat or 0))
+        return self._ask(lambda link: link.apply(batch, expected))
 
     def journal(self, tries: int = TRIES, *, within: float = WITHIN) -> str:
         return "".join(map(line_of, self.journal_from()))
@@ -527,46 +423,34 @@ class ConnectedPass(LockOwner, Pass):
         """Yields the journal entries after the first `number` entries, up to the last entry that exists when the last page is
         read. So `store.journal_from(version.number)` yields what was written after a snapshot. Each round trip reads a page of
         a few thousand entries."""
-        more: Optional[int] = max(operator.index(number), 0)
-        while more is not None and more < 2**64:
-            entries, more = self._ask("journal", {"from": more}, _read_journal)
-            yield from entries
+        read = max(operator.index(number), 0)
+        while read < 2**64:
+            entry = self._ask(lambda link: link.journal_entry(read))
+            if entry is None:
+                return
+            yield entry
+            read += 1
 
     def status(self, tries: int = TRIES, *, within: float = WITHIN) -> Status:
-        return self._ask("status", {}, _read_status)
+        return self._ask(Link.status)
 
     def reach(self, number: int, within: float = 5) -> int:
         """Works as for a store in this process. The server waits, and the request is repeated before its reply would time out."""
         wanted = min(max(operator.index(number), 0), 2**64 - 1)
-        most = _MOST_WAITED if self._timeout is None else min(self._timeout / 2, _MOST_WAITED)
-        until = time.monotonic() + within
-        while True:
-            left = max(until - time.monotonic(), 0)
-            try:
-                return self._reach(wanted, min(left, most))
-            except NotReached:
-                if left <= most:
-                    raise
-
-    def _reach(self, wanted: int, within: float) -> int:
-        """Makes the server wait once."""
-        return self._ask("reach", {"commit": wanted, "within": math.ceil(within * 1000)}, lambda ok: int(ok["commit"]))
+        return self._ask(lambda link: link.reach(wanted, within))
 
     def flush(self) -> None:
         """Returns once everything written before the call is in the server's file. Raises `NotKept` if the server has no file,
         `Stopped` or `NotSaved`."""
-        self._ask("flush", {}, lambda ok: None)
+        self._ask(Link.flush)
 
     def compact(self) -> None:
         """Writes the current snapshot into the server's file, replacing the file's state and entries. The errors are those of `flush`."""
-        self._ask("compact", {}, lambda ok: None)
+        self._ask(Link.compact)
 
     def prepare(self, text: str) -> Prepared:
-        encoded_query(text)
-        try:
-            compared = self._ask("text", {"query": text}, read_comparisons, query=text)
-        except LineTooLong:
-            raise TooLong(query=text) from None
+        taken = taken_query(text, text)
+        compared = self._ask(lambda link: link.comparisons(taken, text))
         return AskedQuery(text, (one.name for one in compared))
 
     def watch(self, query: Optional[str] = None) -> ConnectedWatch:
@@ -594,7 +478,19 @@ class ConnectedPass(LockOwner, Pass):
         connection = self._begin()
         try:
             self._is_asking = True
-            return connection.receive_pushes(timeout)
+            pushed = connection.pushed(timeout)
+            for it in pushed:
+                watch = self._watches.get(it.watch)
+                if watch is not None:
+                    watch._take(it)
+            connection.is_idle = True
+            return bool(pushed)
+        except Error:
+            raise
+        except BaseException:
+            if not connection.is_idle:  # what has arrived may be lost
+                connection.drop("an earlier call was interrupted")
+            raise
         finally:
             self._is_asking = False
             self._unpin_left()
@@ -619,7 +515,7 @@ class ConnectedPass(LockOwner, Pass):
             if number is None:
                 return
             with suppress(NoWatch):
-                self._ask("unwatch", {"watch": number}, lambda ok: None)
+                self._ask(partial(Link.unwatch, watch=number))
             with suppress(ValueError):  # a signal handler has ended it meanwhile
                 self._ended.remove(number)
 

@@ -10,7 +10,8 @@ from weakref import ref
 
 from . import _native
 from ._engine import BUILDER, PASS, WITNESS, HandleOwner, native
-from ._library import Usage, calls, check
+from ._library import calls, check
+from ._structs import Usage
 from ._local_change import LocalChange
 from ._prepared import encode_items
 from ._refreshes import refreshed

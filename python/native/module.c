@@ -78,6 +78,8 @@ static PyMethodDef functions[] = {
     { "use", use, METH_O, "Takes the calls of the library that was loaded: a dict of their names and addresses." },
     { "know", (PyCFunction)(void (*)(void))know, METH_VARARGS | METH_KEYWORDS,
       "Takes what the module knows about the package. The kinds are in the order of values.py." },
+    { "interrupted", interrupted, METH_NOARGS, "Returns the address of the function that libbestore-client asks after a signal." },
+    { "raise_interrupt", raise_interrupt, METH_NOARGS, "Raises the exception that has ended a wait, if one has." },
     { "after_fork", after_fork, METH_NOARGS, "In a forked child: all handles are dead from now on." },
     { NULL, NULL, 0, NULL },
 };

@@ -237,9 +237,11 @@ bool add_operation(Batch *batch, bes_operation operation, const uint8_t *name, s
                    size_t value_length);
 PyObject *batch_of(const Listed *listed);
 
-/* The types' methods: handle.c, batch.c, reader.c, queries.c, drafts.c, writes.c, builder.c, listing.c. */
+/* The types' methods: handle.c, batch.c, interrupts.c, reader.c, queries.c, drafts.c, writes.c, builder.c, listing.c. */
 extern PyType_Spec handle_spec, batch_spec, reader_spec;
 PyObject *after_fork(PyObject *module, PyObject *nothing);
+PyObject *interrupted(PyObject *module, PyObject *unused);
+PyObject *raise_interrupt(PyObject *module, PyObject *unused);
 PyObject *handle_apply(PyObject *self, PyObject *const *given, Py_ssize_t count);
 PyObject *handle_journal_entry(PyObject *self, PyObject *number);
 PyObject *handle_expect(PyObject *self, PyObject *text);
