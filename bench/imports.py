@@ -8,7 +8,8 @@ pages, how much memory and how much processor time they take.
 The files have contents only where an import reads them: letters, and the first bytes of photos. The folders are made in TMPDIR, or in
 /tmp, and are removed afterwards. 500,000 files need 2.2 GB there, and 5 GB of memory while the store is being opened.
 
-The script exits with an error if files are missing from the store after the import, or after the server has opened its file again.
+The script exits with an error if files are missing from the store after the import, if a second import changes anything, or if files
+are missing after the server has opened its file again.
 """
 from __future__ import annotations
 
@@ -126,6 +127,12 @@ def check(server: Server, files: int) -> None:
         sys.exit(f"the store has {found:,} files instead of {files:,}")
 
 
+def check_unchanged(done: dict[str, int]) -> None:
+    """Exits with an error if an import has changed anything."""
+    if any(done[what] for what in ("new", "changed", "renamed", "removed", "left")):
+        sys.exit(f"an import of unchanged files has changed the store: {done}")
+
+
 def measure(it: Import, programs: Path) -> None:
     with tempfile.TemporaryDirectory(prefix="imports-") as work:
         folder, keep, pages = Path(work) / "files", Path(work) / "store.bestore", it.pages * it.number + 1024
@@ -141,6 +148,11 @@ def measure(it: Import, programs: Path) -> None:
             print(f"  import: {processor_time() - begun:.1f} s, with {ran.memory} MB in be; memory {server.memory()}", flush=True)
             used = json.loads(ran.output)["used"]
             print(f"  {used:,} pages in use, {used / files:.2f} for each", flush=True)
+            check(server, files)
+            begun = processor_time()
+            ran = server.be("import", "--json", folder)
+            print(f"  import again: {processor_time() - begun:.1f} s, with {ran.memory} MB in be", flush=True)
+            check_unchanged(json.loads(ran.output))
             check(server, files)
         print(f"  the kept files: {sum(path.stat().st_size for path in Path(work).glob('store.bestore*')) / 2**20:.1f} MB")
         begun = processor_time()

@@ -5,8 +5,7 @@ Prints a Markdown table.
     /usr/bin/python3 bench/sorting.py FOLDER                             FOLDER has bestored and be, such as rust/target/release
     /usr/bin/python3 bench/sorting.py FOLDER --files 10000 --rounds 20   a trial run
 
-It needs the package (PYTHONPATH=python). The files have seven attributes, as `be import` sets them, and there is one volume
-for every 10,000 files. Each query has a new bound or filter. Times are in milliseconds: the median and the maximum. The
+It needs the package (PYTHONPATH=python). The files have seven attributes, as `be import` sets them, in one store. Each query has a new bound or filter. Times are in milliseconds: the median and the maximum. The
 server's instructions are counted by perf, if it works.
 """
 from __future__ import annotations
@@ -30,7 +29,6 @@ sys.path.insert(0, os.path.join(os.path.dirname(os.path.abspath(__file__)), ".."
 import bestore
 from bestore import Batch, Kind
 
-IN_A_VOLUME = 10_000
 IN_A_BATCH = 8
 NEWEST = 1_800_000_000
 WORDS = ("report", "photo", "invoice", "letter", "holiday", "budget", "notes", "scan", "minutes", "recipe")
@@ -41,8 +39,8 @@ SHOWN = 50
 Query = Dict[str, Any]
 
 
-def add_file(batch: Batch, node: int, number: int, chance: random.Random) -> None:
-    """Adds a file with this number, as a node."""
+def add_file(batch: Batch, number: int, chance: random.Random) -> None:
+    """Adds a file, as the node with this number."""
     batch.new_node()
     when = NEWEST - chance.randrange(10**8)
     values: Dict[str, Any] = {
@@ -50,24 +48,20 @@ def add_file(batch: Batch, node: int, number: int, chance: random.Random) -> Non
         "created": when, "BEOS:TYPE": TYPES[number // 10 % 8], "FILE:parent": f"/home/folder{number % 997}", "FILE:stat": f"{number:x}.{when:x}",
     }
     for name, value in values.items():
-        batch.set(node, name, value)
+        batch.set(number, name, value)
 
 
-def fill(place: str, volumes: int, files: int) -> None:
-    """Creates the files, the same number in each volume."""
+def fill(place: str, files: int) -> None:
+    """Creates the files."""
     chance = random.Random(1)
     with bestore.connect(place) as store:
         for name, kind in INDICES.items():
             store.make_index(name, kind)
-        for volume in range(volumes):
-            for first in range(1, files // volumes + 1, IN_A_BATCH):
-                batch = Batch()
-                for number in range(first, first + IN_A_BATCH):
-                    add_file(batch, volume * 10**14 + number if volumes > 1 else number, volume * files + number, chance)
-                if volumes > 1:
-                    store.apply(batch, volume=volume)
-                else:
-                    store.apply(batch)
+        for first in range(1, files + 1, IN_A_BATCH):
+            batch = Batch()
+            for number in range(first, first + IN_A_BATCH):
+                add_file(batch, number, chance)
+            store.apply(batch)
 
 
 def query_of(case: str, chance: random.Random) -> Query:
@@ -92,10 +86,10 @@ CASES = {
 class Server:
     """A server in its own folder, for the duration of a `with` block."""
 
-    def __init__(self, programs: Path, volumes: int) -> None:
+    def __init__(self, programs: Path) -> None:
         self._folder = Path(tempfile.mkdtemp(prefix="bestore-sorting-"))
         self.place, self._programs = str(self._folder / "socket"), programs
-        words = [str(programs / "bestored"), "--socket", self.place, "--pages", "16384", "--volumes", str(volumes)]
+        words = [str(programs / "bestored"), "--socket", self.place, "--pages", "262144"]
         self.process = subprocess.Popen(words)
         while not os.path.exists(self.place):
             if self.process.poll() is not None:
@@ -167,9 +161,8 @@ def main() -> None:
     parser.add_argument("--files", type=int, default=84_000, help="how many files there are (84,000)")
     parser.add_argument("--rounds", type=int, default=100, help="how many times each query is run (100)")
     options = parser.parse_args()
-    volumes = -(-options.files // IN_A_VOLUME)
-    with Server(options.folder.resolve(), volumes) as server:
-        fill(server.place, volumes, options.files)
+    with Server(options.folder.resolve()) as server:
+        fill(server.place, options.files)
         ask = server.asker()
         print("| case | `be query --sort`, ms | the server, ms | its instructions |\n|---|---|---|---|")
         for case, title in CASES.items():

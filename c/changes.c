@@ -360,6 +360,25 @@ static void pins(void)
     CHECK(bes_close(&it.pass) == BES_OK && bes_abandon_change(&it.pass, &it.draft) == BES_CLOSED && !it.draft.live);
 }
 
+/* A draft works only with the pass that began it, even if another pass is pinned to the same snapshot. */
+static void own_pass(void)
+{
+    bes_pass pass = BES_PASS_INIT, other = BES_PASS_INIT;
+    bes_draft draft = BES_DRAFT_INIT;
+    bes_attribute read;
+    uint64_t node = 0, next = 0, number = 0;
+    uint8_t none = 0;
+    CHECK(bes_open(64, 2, 16, &pass) == BES_OK && bes_another(&pass, &other) == BES_OK);
+    CHECK(bes_new_node(&pass, &node) == BES_OK);
+    CHECK(bes_begin_change(&pass, &draft, &number, &next) == BES_OK && number == 1);
+    CHECK(bes_pin(&other, &number) == BES_OK && number == 1 && add_new(&draft, &node) == BES_OK);
+    CHECK(bes_change_get(&other, &draft, 1, NAME("a"), &read, &none, 0) == BES_NOT_PINNED);
+    CHECK(bes_end_change(&other, &draft, &number) == BES_NOT_PINNED && !draft.live && is_pinned(&pass) && is_pinned(&other));
+    CHECK(bes_unpin(&pass) == BES_OK && bes_begin_change(&pass, &draft, &number, &next) == BES_OK && number == 1);
+    CHECK(bes_abandon_change(&other, &draft) == BES_OK && !draft.live && is_pinned(&pass) && is_pinned(&other));
+    CHECK(bes_close(&other) == BES_OK && bes_close(&pass) == BES_OK);
+}
+
 static uint32_t apply_change(bes_pass *pass, const bes_batch *batch, uint64_t *number)
 {
     return bes_apply_change(pass, batch->operations, batch->count, batch->bytes, batch->used, number);
@@ -499,6 +518,7 @@ int main(int argc, char **argv)
     begins_anew();
     refused();
     pins();
+    own_pass();
     places_of_wrong_kinds();
     kinds_of_own_indices();
     writes_at_once();

@@ -191,6 +191,11 @@ static void of_queries(void)
     RETURNS(BES_TOO_LONG, bes_explain(&pass, zero_text, LONG_TEXT, bytes, 4, &count));
     RETURNS(BES_SYNTAX, bes_explain(&pass, NAME("a=="), bytes, 4, &count));
     RETURNS(BES_NOT_PINNED, bes_explain(&pass, NAME("a==1"), bytes, 4, &count));
+    RETURNS(BES_CLOSED, bes_ways(&closed, no_text, 1, bytes, 4, &count));
+    RETURNS(BES_NOT_UTF8, bes_ways(&pass, no_text, LONG_TEXT, bytes, 4, &count));
+    RETURNS(BES_TOO_LONG, bes_ways(&pass, zero_text, LONG_TEXT, bytes, 4, &count));
+    RETURNS(BES_SYNTAX, bes_ways(&pass, NAME("a=="), bytes, 4, &count));
+    RETURNS(BES_NOT_PINNED, bes_ways(&pass, NAME("a==1"), bytes, 4, &count));
     RETURNS(BES_CLOSED, bes_query_items(&closed, &no_item, 1, bytes, 0, nodes, 4, &count));
     RETURNS(BES_BAD_PART, bes_query_items(&pass, no_part, 2, (const uint8_t *)"a", 1, nodes, 4, &count));
     RETURNS(BES_NO_ITEM, bes_query_items(&pass, lone_and_bad, 3, (const uint8_t *)"a", 1, nodes, 4, &count));

@@ -542,13 +542,14 @@ static void in_child(void)
     bes_place place = BES_PLACE_INIT;
     bes_witness witness = BES_WITNESS_INIT;
     bes_draft draft = BES_DRAFT_INIT;
+    bes_builder builder = BES_BUILDER_INIT;
     uint64_t number = 0, node = 0;
     int status = 0;
     pid_t child;
     open_three(passes, 64);
     CHECK(bes_prepare_text("count>0", &prepared, &number) == BES_OK && bes_pin(&passes[0], &number) == BES_OK);
     CHECK(bes_batch_state(&passes[0], &place, &batch) == BES_OK && bes_witness_of(&passes[0], &witness) == BES_OK);
-    CHECK(bes_begin_change(&passes[2], &draft, &number, &node) == BES_OK);
+    CHECK(bes_begin_change(&passes[2], &draft, &number, &node) == BES_OK && bes_build(8, 1, 1, &builder) == BES_OK);
     fflush(NULL);
     child = fork();
     CHECK(child >= 0);
@@ -559,8 +560,10 @@ static void in_child(void)
         bes_forget_place(&place);
         bes_forget_witness(&witness);
         bes_forget_draft(&draft);
+        bes_forget_builder(&builder);
         CHECK(bes_new_node(&passes[0], &node) == BES_CLOSED && bes_release(&prepared) == BES_CLOSED && bes_leave(&place) == BES_CLOSED);
         CHECK(bes_dismiss(&witness) == BES_CLOSED && bes_abandon_change(&passes[2], &draft) == BES_CLOSED);
+        CHECK(bes_build_close(&builder) == BES_CLOSED);
         open_three(passes, 64);
         close_three(passes);
         execlp("true", "true", (char *)NULL); /* exits without a leak report */
@@ -569,7 +572,7 @@ static void in_child(void)
     CHECK(waitpid(child, &status, 0) == child && WIFEXITED(status) && WEXITSTATUS(status) == 0);
     CHECK(bes_new_node(&passes[1], &node) == BES_OK && node == 2);
     CHECK(bes_leave(&place) == BES_OK && bes_release(&prepared) == BES_OK && bes_dismiss(&witness) == BES_OK);
-    CHECK(bes_abandon_change(&passes[2], &draft) == BES_OK);
+    CHECK(bes_abandon_change(&passes[2], &draft) == BES_OK && bes_build_close(&builder) == BES_OK);
     close_three(passes);
 }
 

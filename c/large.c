@@ -1,6 +1,6 @@
 /* Tests a store of more than two million nodes, and how much memory stores take: little once they are open, and later what their
- * pages in use take. With an argument, it tests a smaller store, and measures no memory: it then runs under a tool that needs
- * memory itself. */
+ * pages in use take, however large the writes are. With an argument, it tests a smaller store, and measures no memory: it then runs
+ * under a tool that needs memory itself. */
 #include "tests.h"
 #include <sys/resource.h>
 #include <unistd.h>
@@ -40,6 +40,20 @@ static void opens(void)
         CHECK(resident() - before <= 30u * MEGABYTE);
         CHECK(peak() - before <= pages * PAGE + 40u * MEGABYTE);
     }
+}
+
+/* A store that is being built takes what it was given so far, and later what its pages in use take. */
+static void builds(void)
+{
+    bes_builder builder = BES_BUILDER_INIT;
+    const uint64_t before = resident();
+    OK(bes_build(pages / 4, 1, UINT32_MAX, &builder) || bes_build_node(&builder, 7));
+    CHECK(!measures || resident() - before <= 10u * MEGABYTE);
+    OK(bes_build_finish(&builder, 8, &pass));
+    CHECK(!measures || resident() - before <= 10u * MEGABYTE);
+    OK(bes_new_node(&pass, &number));
+    CHECK(number == 8);
+    OK(bes_close(&pass));
 }
 
 /* Creates the nodes. Each STEP-th node has its number as the indexed `k`. */
@@ -111,6 +125,40 @@ static void changes(void)
     CHECK(count == nodes_count / STEP - 2 && are_from(STEP, STEP, count));
 }
 
+/* Returns a number that looks random, always the same for one node and name. */
+static int64_t mixed(uint64_t node, uint64_t name)
+{
+    uint64_t number = (node * 3 + name) * 0x9e3779b97f4a7c15u;
+    number ^= number >> 29;
+    return (int64_t)(number * 0xbf58476d1ce4e5b9u >> 16);
+}
+
+/* Writes of 64 operations, whose values are far apart in three indices, change many pages each. They use the same pages again instead
+ * of more and more of a pool that is much larger. A page that is in use may have another one for its next copy. */
+static void reuses_pages(void)
+{
+    static const char *const names[] = {"a", "b", "c"};
+    const uint64_t before = resident();
+    bes_usage usage;
+    OK(bes_open(65536, 1, UINT32_MAX, &pass));
+    for (int i = 0; i < 3; i++)
+        OK(bes_make_index(&pass, names[i], BES_INT64_TYPE));
+    for (uint64_t node = 1; node <= 16000; node++) {
+        OK(bes_batch_new_node(&batch));
+        for (uint64_t i = 0; i < 3; i++)
+            OK(bes_batch_set_int64(&batch, node, names[i], mixed(node, i)));
+        if (batch.count == LIST) {
+            OK(bes_batch_apply(&pass, &batch, 1, found, LIST, &number));
+            bes_batch_clear(&batch);
+        }
+    }
+    OK(bes_status(&pass, &usage, &number));
+    printf("%d MB of pages in use, %d MB resident\n", (int)((usage.pages - usage.free) * PAGE / MEGABYTE),
+           (int)((resident() - before) / MEGABYTE));
+    CHECK(!measures || resident() - before <= 2 * (usage.pages - usage.free) * PAGE + 20u * MEGABYTE);
+    OK(bes_close(&pass));
+}
+
 int main(int argc, char **argv)
 {
     uint64_t before;
@@ -120,6 +168,7 @@ int main(int argc, char **argv)
         nodes_count = 10000;
         measures = false;
     }
+    builds();
     before = resident();
     opens();
     found = malloc(nodes_count * sizeof *found);
@@ -129,6 +178,7 @@ int main(int argc, char **argv)
     finds();
     changes();
     OK(bes_close(&pass));
+    reuses_pages();
     free(found);
     return 0;
 }

@@ -71,6 +71,31 @@ static const bes_operation list[] = {
 };
 
 static uint32_t call_open(void) { return bes_open(8, 1, 10, &opened); }
+/* Builds a store with two nodes and an index. A builder that has run out of memory returns that error again, until it is closed. */
+static uint32_t call_build(void)
+{
+    static const uint8_t size[] = "size";
+    bes_builder builder = BES_BUILDER_INIT;
+    uint32_t error = bes_build(8, 1, 10, &builder);
+    if (error != BES_OK)
+        return error;
+    error = bes_build_index(&builder, size, 4, BES_INT32_TYPE);
+    for (uint64_t node = 1; node <= 2 && error == BES_OK; node++) {
+        error = bes_build_node(&builder, node);
+        if (error == BES_OK)
+            error = bes_build_attribute(&builder, size, 4, BES_INT32_TYPE, node, size, 0, 1);
+    }
+    CHECK(error == BES_OK || bes_build_node(&builder, 3) == error);
+    error = bes_build_finish(&builder, 4, &opened);
+    CHECK(bes_build_close(&builder) == BES_CLOSED);
+    return error;
+}
+static uint32_t call_is_held(void)
+{
+    uint32_t held = 7, error = bes_is_held(&mine, 1, (const uint8_t *)"size", 4, &held);
+    CHECK(held == 1);
+    return error;
+}
 static uint32_t call_another(void) { return bes_another(&mine, &theirs); }
 static uint32_t call_witness_of(void) { return bes_witness_of(&mine, &witness); }
 static uint32_t call_prepare(void) { return bes_prepare(query, sizeof query - 1, &by_text, &out.count); }
@@ -134,6 +159,7 @@ static uint32_t call_uncovered(void)
     size_t at = 0;
     return bes_uncovered(&mine, (const char *)query, sizeof query - 1, &at);
 }
+static uint32_t call_ways(void) { return bes_ways(&mine, query, sizeof query - 1, out.bytes, 64, &out.count); }
 static uint32_t call_explain(void) { return bes_explain(&mine, query, sizeof query - 1, out.bytes, 64, &out.count); }
 static uint32_t call_attributes(void) { return bes_attributes(&mine, 1, &out.counts, out.listed, 4, out.bytes, 64); }
 static uint32_t call_indices(void) { return bes_indices(&mine, &out.counts, out.listed, 4, out.bytes, 64); }
@@ -217,19 +243,20 @@ static unsigned refuse_each(uint32_t (*call)(void)) { return refuse_each_of(call
 static void refuse_all(void)
 {
     uint32_t (*const with_requests[])(void) = {
-        call_another, call_witness_of, call_prepare, call_prepare_items, call_query, call_items, call_prepared, call_explain,
+        call_another, call_witness_of, call_prepare, call_prepare_items, call_query, call_items, call_prepared, call_explain, call_ways,
         call_uncovered, call_attributes, call_indices, call_nodes, call_state, call_journal, call_journal_from, call_prepared_text, call_apply,
         call_retry
     };
     uint32_t (*const in_parts[])(void) = {call_ordered, call_first, call_any, call_refresh_changed};
-    uint32_t (*const without[])(void) = {call_changes, call_found, call_get, call_columns, call_status, call_next, call_number,
-                                         call_join, call_move_witness, call_move_prepared, call_move_place, call_unpin, call_pin,
-                                         call_move};
+    uint32_t (*const without[])(void) = {call_changes, call_found, call_get, call_is_held, call_columns, call_status, call_next,
+                                         call_number, call_join, call_move_witness, call_move_prepared, call_move_place, call_unpin,
+                                         call_pin, call_move};
     CHECK(bes_open(64, 2, 100, &mine) == BES_OK);
     CHECK(bes_make_index(&mine, "size", BES_INT32_TYPE) == BES_OK && bes_make_index(&mine, "name", BES_STRING_TYPE) == BES_OK);
     CHECK(bes_new_node(&mine, &out.number) == BES_OK && bes_set_int32(&mine, 1, "size", 1) == BES_OK);
     CHECK(bes_prepare(query, sizeof query - 1, &kept, &out.count) == BES_OK && bes_pin(&mine, &out.number) == BES_OK);
     CHECK(refuse_each(call_open) > 0 && bes_close(&opened) == BES_OK);
+    CHECK(refuse_each(call_build) > 0 && bes_close(&opened) == BES_OK);
     CHECK(refuse_each(call_refresh) > 0 && out.updates.created == 1 && out.updates.removed == 0);
     for (size_t i = 0; i < sizeof with_requests / sizeof *with_requests; i++)
         CHECK(refuse_each(with_requests[i]) > 0);

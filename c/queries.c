@@ -34,7 +34,7 @@ static void queries(void)
 {
     bes_pass pass = BES_PASS_INIT;
     uint64_t node = 0, number = 0, count = 0, length = 0, nodes[4] = {7, 7, 7, 7};
-    uint8_t text[32];
+    uint8_t text[64];
     bes_item less[3] = {{BES_ITEM_ATTRIBUTE, 0, 4, 0}, {BES_ITEM_INT64, 0, 0, (uint64_t)-1}, {BES_ITEM_LT, 0, 0, 0}};
     bes_item none = {16, 0, 0, 0};
     memset(text, 7, sizeof text);
@@ -61,6 +61,11 @@ static void queries(void)
     CHECK(bes_explain(&pass, (const uint8_t *)"size<0", 6, text, 32, &length) == BES_OK && length == 18);
     CHECK(memcmp(text, "\"size\"<\"0\" score 3\7", 19) == 0);
     CHECK(bes_explain(&pass, (const uint8_t *)"name==1", 7, text, 32, &length) == BES_NOT_COVERED && length == 0);
+    memset(text, 7, sizeof text);
+    CHECK(bes_ways(&pass, (const uint8_t *)"size<-1", 7, text, 2, &length) == BES_OK && length == 39 && text[2] == 7);
+    CHECK(bes_ways(&pass, (const uint8_t *)"size<-1", 7, text, sizeof text, &length) == BES_OK && length == 39);
+    CHECK(memcmp(text, "\"size\"  .. <-1  about 2 keys, 2 walked\n\7", 40) == 0);
+    CHECK(bes_ways(&pass, (const uint8_t *)"name==1", 7, text, 32, &length) == BES_NOT_COVERED && length == 0);
     CHECK(bes_find(&pass, "name==1", nodes, 4, &count) == BES_NOT_COVERED && count == 0);
     count = 7;
     CHECK(bes_find(&pass, "\xff", nodes, 4, &count) == BES_NOT_UTF8 && count == 0);
@@ -79,6 +84,9 @@ static void no_query(bes_pass *pass, const char *text, size_t length, uint32_t a
     LEAVES(pass, bes_query(pass, query, length, nodes, 2, &count), answer);
     LEAVES(pass, bes_explain(pass, query, length, said, 2, &said_count), answer);
     CHECK(count == byte && said_count == byte && nodes[0] == 7 && said[0] == 7);
+    said_count = 7;
+    LEAVES(pass, bes_ways(pass, query, length, said, 2, &said_count), answer);
+    CHECK(said_count == byte && said[0] == 7);
     CHECK(bes_prepare(query, length, &prepared, &place) == answer && place == byte && bes_release(&prepared) == BES_CLOSED);
 }
 

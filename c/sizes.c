@@ -54,6 +54,23 @@ static void many_nodes(void)
     OK(bes_close(&pass) || bes_close(&empty));
 }
 
+/* Sizes: the nodes from which a store is built, each with a number that its index has. */
+static void built_nodes(void)
+{
+    const uint8_t *k = (const uint8_t *)"k";
+    AT_EACH_SIZE {
+        bes_builder builder = BES_BUILDER_INIT;
+        bes_pass pass = BES_PASS_INIT;
+        uint64_t number = 0, count = 7;
+        OK(bes_build(512, 1, 1, &builder) || bes_build_index(&builder, k, 1, BES_INT32_TYPE));
+        for (uint64_t node = 1; node <= size; node++)
+            OK(bes_build_node(&builder, node) || bes_build_attribute(&builder, k, 1, BES_INT32_TYPE, node, k, 0, 1));
+        OK(bes_build_finish(&builder, size + 1, &pass) || bes_pin(&pass, &number));
+        OK(bes_find(&pass, "k>0", nodes, MOST_NODES, &count) || bes_close(&pass));
+        CHECK(count == size && are_from_one(nodes, count));
+    }
+}
+
 /* Checks a prepared query's nodes in an index's order, both in one page and in two. */
 static void paged(bes_pass *pass, bes_prepared *prepared, const char *index, uint32_t descending, uint64_t size)
 {
@@ -239,6 +256,7 @@ static void many_comparisons(void)
         }
         found(&pass, text, items, items_count, 1);
         explained(&pass, size);
+        walked(&pass, size);
         compared(size);
         OK(bes_close(&pass));
     }
@@ -644,7 +662,7 @@ static const struct row {
     const char *name;
     void (*run)(void);
 } rows[] = {
-    {"nodes", many_nodes}, {"nodes-in-parts", nodes_in_parts}, {"candidates", many_candidates}, {"listed-nodes", listed_nodes},
+    {"nodes", many_nodes}, {"built-nodes", built_nodes}, {"nodes-in-parts", nodes_in_parts}, {"candidates", many_candidates}, {"listed-nodes", listed_nodes},
     {"operations", many_operations}, {"comparisons", many_comparisons}, {"query-bytes", long_queries}, {"item-bytes", long_items},
     {"made-text-bytes", long_made_texts}, {"name-bytes", long_names}, {"value-bytes", long_values},
     {"indices", many_indices}, {"index-names", long_index_names}, {"passes", many_passes}, {"pages", many_pages},

@@ -98,6 +98,19 @@ static void explained(bes_pass *pass, uint64_t score)
     OK(bes_unpin(pass));
 }
 
+/* Checks that bes_ways returns this many lines for the query in `text`. */
+static void walked(bes_pass *pass, uint64_t lines)
+{
+    uint64_t count = 0, number = 0;
+    OK(bes_pin(pass, &number));
+    OK(bes_ways(pass, (const uint8_t *)text, strlen(text), told, sizeof told, &count));
+    CHECK(count <= sizeof told);
+    for (uint64_t i = 0; i < count; i++)
+        lines -= told[i] == '\n';
+    CHECK(lines == 0);
+    OK(bes_unpin(pass));
+}
+
 /* Items of which the tests make queries. */
 static const bes_item K = {BES_ITEM_ATTRIBUTE, 0, 1, 0}, EQ = {BES_ITEM_EQ, 0, 0, 0}, OR = {BES_ITEM_OR, 0, 0, 0};
 

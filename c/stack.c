@@ -69,6 +69,12 @@ static void explain(void)
     OK(bes_explain(&pass, (const uint8_t *)text, strlen(text), said, sizeof said, &count));
 }
 
+static void ways(void)
+{
+    static uint8_t said[1 << 16];
+    OK(bes_ways(&pass, (const uint8_t *)text, strlen(text), said, sizeof said, &count));
+}
+
 static void uncovered(void)
 {
     size_t at = 0;
@@ -102,10 +108,11 @@ static void reads(void)
     static bes_cell cells[NODES];
     bes_attribute value = {0, 0, 0};
     bes_counts counts = {0, 0};
+    uint32_t held = 0;
     OK(bes_nodes(&pass, 0, nodes, NODES, &count) || bes_read(&pass, 1, "name", &value, bytes, 255));
     OK(bes_columns(&pass, nodes, 100, &by, 1, cells, NODES, bytes, sizeof bytes, &count));
     OK(bes_attributes(&pass, 1, &counts, operations, 64, bytes, sizeof bytes));
-    OK(bes_indices(&pass, &counts, operations, 64, bytes, sizeof bytes));
+    OK(bes_indices(&pass, &counts, operations, 64, bytes, sizeof bytes) || bes_is_held(&pass, 1, (const uint8_t *)"size", 4, &held));
 }
 
 static void state(void)
@@ -152,6 +159,18 @@ static void finish(void)
     OK(bes_close(&other) || bes_finish(&pass, text, sizeof text, &count));
 }
 
+/* Builds a store whose trees have three levels. */
+static void build(void)
+{
+    bes_builder builder = BES_BUILDER_INIT, moved = BES_BUILDER_INIT;
+    bes_pass built = BES_PASS_INIT;
+    const uint8_t *name = (const uint8_t *)"name";
+    OK(bes_build(1024, 1, 1, &builder) || bes_build_index(&builder, name, 4, BES_STRING_TYPE) || bes_move_builder(&builder, &moved));
+    for (uint64_t node = 1; node <= 2000; node++)
+        OK(bes_build_node(&moved, node) || bes_build_attribute(&moved, name, 4, BES_STRING_TYPE, 0, name, 4, 1));
+    OK(bes_build_finish(&moved, 2001, &built) || bes_close(&built));
+}
+
 typedef struct call {
     const char *name;
     void (*run)(void);
@@ -165,13 +184,13 @@ static const call before[] = {
 };
 static const call of_queries[] = {
     {"bes_query", query, QUERY}, {"bes_prepare", prepare, QUERY}, {"bes_query_prepared", query_prepared, QUERY},
-    {"bes_ordered, bes_first, bes_any", parts, QUERY}, {"bes_refresh", refresh, QUERY}, {"bes_explain", explain, QUERY},
+    {"bes_ordered, bes_first, bes_any", parts, QUERY}, {"bes_refresh", refresh, QUERY}, {"bes_explain", explain, QUERY}, {"bes_ways", ways, QUERY},
     {"bes_uncovered", uncovered, QUERY}, {"bes_next_comparison", comparisons, QUERY}, {"bes_release", release, PLAIN},
 };
 static const call after[] = {
     {"texts", texts, PLAIN}, {"bes_pairs", pairs, PLAIN}, {"bes_get, bes_columns", reads, PLAIN}, {"bes_state", state, PLAIN},
     {"bes_journal, bes_status", journal, PLAIN}, {"bes_batch_to_bytes", to_bytes, PLAIN}, {"bes_witness_of", witness, PLAIN},
-    {"bes_finish", finish, PLAIN},
+    {"bes_build", build, PLAIN}, {"bes_finish", finish, PLAIN},
 };
 
 static const uint8_t *top; /* where the thread's stack was when it began its call */

@@ -22,6 +22,8 @@ static void closed_handle(void)
     number = 7;
     CHECK(bes_explain(&pass, (const uint8_t *)"a==1", 4, bytes, 2, &number) == BES_CLOSED && number == 0 && bytes[0] == 7);
     number = 7;
+    CHECK(bes_ways(&pass, (const uint8_t *)"a==1", 4, bytes, 2, &number) == BES_CLOSED && number == 0 && bytes[0] == 7);
+    number = 7;
     CHECK(bes_apply(&pass, &op, 1, bytes, 0, nodes, 2, &number) == BES_CLOSED && number == 0 && nodes[0] == 7);
     number = 7;
     CHECK(bes_find(&pass, "a==1", nodes, 2, &number) == BES_CLOSED && number == 0);

@@ -138,6 +138,7 @@ static void queries()
     for (int n = 2; n <= 100; n++)
         many += "||n==" + std::to_string(n);
     CHECK(pin.query(many).size() == 100 && pin.explain(many).size() > 256);
+    CHECK(pin.ways("n<5") == "\"n\"  .. <5  about 4 keys, 4 walked\n" && pin.ways(many).size() > 256);
     CHECK(pin.indices().size() == 2 && pin.indices()[0].name == "n" && pin.indices()[0].kind == Kind::int64);
     CHECK(pin.attributes(7).size() == 2 && pin.attributes(7)[1].name == "name");
     CHECK(std::get<std::string>(pin.attributes(7)[1].value) == "7");

@@ -80,8 +80,8 @@ for compiler in c++ g++ clang++; do
 done
 
 # The tests, and the ones among them that start threads.
-tests=(test queries columns cursors ordered changes batches closing refreshes errors threads witness helpers texts query_texts bounds racing promises huge_pages large)
-tests_cpp=(test helpers changes ordered racing lifetimes large)
+tests=(test building queries columns cursors ordered changes batches closing refreshes errors threads witness helpers texts query_texts bounds racing promises huge_pages large)
+tests_cpp=(test building helpers changes ordered racing lifetimes large)
 with_threads=(changes threads witness helpers racing promises)
 
 for test in "${tests[@]}"; do
@@ -218,6 +218,8 @@ build -O2 ../examples/c/jobs.c -o "$work/jobs"
 "$work/jobs" | cmp - <(echo "200 jobs were claimed")
 build -O2 ../examples/c/carry.c -o "$work/carry"
 "$work/carry" | cmp - <(printf '%s\n' "3 stores" "ann 500" "bob 500" "in the first store 499")
+build -O2 ../examples/c/built.c -o "$work/built"
+"$work/built" | cmp - <(printf 'node %d\n' 7 20)
 build -O2 ../examples/c/mailbox.c -o "$work/mailbox"
 "$work/mailbox" ../examples/c/letters.mbox 'MAIL:from=="*ann*"' 'MAIL:subject=="*Seeds*" || MAIL:to=="*bob*"' \
     'MAIL:when>=1741046400' |
@@ -303,6 +305,7 @@ else
     echo "the library and the program: skipped, crates/bestore/out/bestore isn't built"
 fi
 python3 manual.py | cmp - ../docs/bestore.3
+python3 manual.py client | cmp - ../docs/bestore_client.3
 (cd ../python && run_if_there types mypy --cache-dir="$work/mypy")
 
 run "examples in Python" "${python[@]}" -m unittest discover -q -s ../examples/python

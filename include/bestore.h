@@ -5,23 +5,24 @@
  * HANDLES. A bes_pass is a session: one thread's handle to a store. Through its pass, a thread writes to the store, pins a snapshot and
  * reads that snapshot. A bes_prepared is a parsed query. It isn't tied to a store, and any pass may run it. A bes_place is a position in
  * the list of operations that rebuild a snapshot. A bes_witness carries a record of what a pass has seen to a pass of the same store in
- * another thread. A bes_draft is a change: the operations that a pass will write, based on what it has read. You own the memory that a
- * handle occupies. Initialise each handle with BES_PASS_INIT, BES_PREPARED_INIT, BES_PLACE_INIT, BES_WITNESS_INIT or BES_DRAFT_INIT, each
- * of which sets every byte to zero. Never copy a handle or change its fields; move it with bes_move, bes_move_prepared, bes_move_place,
- * bes_move_witness or bes_move_draft. Close a handle with bes_close, bes_release, bes_leave or bes_dismiss; close a draft with
- * bes_end_change or bes_abandon_change. Closing a store's last open pass frees the store.
+ * another thread. A bes_draft is a change: the operations that a pass will write, based on what it has read. A bes_builder is a store that
+ * is being built. You own the memory that a handle occupies. Initialise each handle with BES_PASS_INIT, BES_PREPARED_INIT, BES_PLACE_INIT,
+ * BES_WITNESS_INIT, BES_DRAFT_INIT or BES_BUILDER_INIT, each of which sets every byte to zero. Never copy a handle or change its fields;
+ * move it with bes_move, bes_move_prepared, bes_move_place, bes_move_witness, bes_move_draft or bes_move_builder. Close a handle with
+ * bes_close, bes_release, bes_leave or bes_dismiss; close a draft with bes_end_change or bes_abandon_change, and a builder with
+ * bes_build_finish or bes_build_close. Closing a store's last open pass frees the store.
  *
  * THREADS. Give each thread its own pass. Calls on different passes run concurrently, and no call waits for another. A pass, a prepared
- * query, a place, a witness or a draft may be used by only one call at a time. You may hand any of these handles to another thread if a
- * join, a lock or a thread start ensures that the other thread's calls come after yours. Never call these functions from a signal handler.
- * None of them is a cancellation point. With deferred cancellation, which is the default, a thread ends only between calls, so close its
- * pass in a cleanup handler. If a thread ends inside a call, through asynchronous cancellation or a longjmp, its handle must not be used
- * again, and its pin is never released. If the thread was writing, every later write to the store returns BES_BUSY.
+ * query, a place, a witness, a draft or a builder may be used by only one call at a time. You may hand any of these handles to another
+ * thread if a join, a lock or a thread start ensures that the other thread's calls come after yours. Never call these functions from a
+ * signal handler. None of them is a cancellation point. With deferred cancellation, which is the default, a thread ends only between calls,
+ * so close its pass in a cleanup handler. If a thread ends inside a call, through asynchronous cancellation or a longjmp, its handle must
+ * not be used again, and its pin is never released. If the thread was writing, every later write to the store returns BES_BUSY.
  *
  * FORK. A forked child has its own copy of the store, and no other process sees what the child writes there. If another thread was inside a
  * call at the time of the fork, the copy may be locked or half written. So a child must not pass a handle that its parent opened to any of
- * these functions. Instead, it clears each such handle with bes_forget, bes_forget_prepared, bes_forget_place, bes_forget_witness or
- * bes_forget_draft, which free nothing. Then it may open a store of its own.
+ * these functions. Instead, it clears each such handle with bes_forget, bes_forget_prepared, bes_forget_place, bes_forget_witness,
+ * bes_forget_draft or bes_forget_builder, which free nothing. Then it may open a store of its own.
  *
  * ERRORS. Each call returns BES_OK or an error number. A function's comment lists its errors in the order in which it checks for them; if
  * two apply, it returns the first. After an error, the store, the handles and your memory are unchanged, unless the comment says otherwise.
@@ -96,6 +97,69 @@ uint32_t bes_close(bes_pass *pass);
  * this, but no contract states it.
  * Cost: time and memory for the whole text, and the time to free all pages. */
 uint32_t bes_finish(bes_pass *pass, uint8_t *bytes, size_t bytes_room, uint64_t *count);
+
+/* Begins to build a store from a volume that you already have, such as a saved one. A store that is built takes fewer pages and much less
+ * time than the same volume written in transactions, and its journal begins empty. Give the builder the indices first, in ascending order
+ * of the bytes of their names. Then give it each node, in ascending order of their numbers, which may have gaps. After each node, give it
+ * the node's attributes, in ascending order of the bytes of their names. bes_build_finish then opens the store.
+ * [in] pages, passes, commits  as for bes_open
+ * [out] builder  a closed handle, which is opened
+ * BES_OPEN, BES_BAD_LIMITS, BES_NO_MEMORY.
+ * Cost: memory for all pages. */
+uint32_t bes_build(uint64_t pages, uint64_t passes, uint64_t commits, bes_builder *builder);
+
+/* Gives the builder an index without entries. Attributes that are held, which come later, are its entries.
+ * [in] name      the name, name_length bytes
+ * [in] code      the type code of its kind
+ * BES_CLOSED, BES_NOT_UTF8, BES_NAME_LENGTH, BES_HAS_NUL, BES_NO_KIND. If an earlier call returned BES_FULL or BES_NO_MEMORY: that error.
+ * BES_NO_NODE: a node has already been given. BES_NOT_INDEXABLE. BES_TOO_MANY_INDICES: the builder has 32 indices. BES_INDEX_EXISTS: the
+ * name isn't above that of the last index. BES_NO_MEMORY. After BES_NO_MEMORY, only bes_build_close is of use. After any other error, the
+ * builder is unchanged.
+ * Cost: constant. */
+uint32_t bes_build_index(bes_builder *builder, const uint8_t *name, size_t name_length, uint32_t code);
+
+/* Gives the builder a node without attributes.
+ * [in] node      its number, 1 to 2^63 - 1
+ * BES_CLOSED. If an earlier call returned BES_FULL or BES_NO_MEMORY: that error. BES_NO_NODE: the number isn't above that of the last node,
+ * or is 0, or is 2^63 or more. BES_NO_MEMORY. BES_FULL: the store has too few pages for the volume. After BES_NO_MEMORY and BES_FULL, only
+ * bes_build_close is of use. After any other error, the builder is unchanged.
+ * Cost: constant, and a new page for every few nodes and attributes. */
+uint32_t bes_build_node(bes_builder *builder, uint64_t node);
+
+/* Gives the builder an attribute of its last node.
+ * [in] name      the name, name_length bytes
+ * [in] code      the type code of the value
+ * [in] number    the value, if it is a number; (uint64_t)(int64_t)n if it is signed
+ * [in] value     the bytes of a text or raw value, value_length bytes
+ * [in] held      0 if no index has the attribute; any other number if the index of its name has it. An index has an attribute that was set
+ *                after the index was created, and is of the index's kind; see bes_is_held.
+ * BES_CLOSED, BES_NOT_UTF8, BES_NAME_LENGTH, BES_HAS_NUL (the name), BES_NO_KIND; then for the value BES_NOT_UTF8, BES_DATA_LENGTH,
+ * BES_HAS_NUL or BES_NO_VALUE. If an earlier call returned BES_FULL or BES_NO_MEMORY: that error.
+ * BES_NO_NODE: no node has been given. BES_TOO_MANY_ATTRS: the node has 64 attributes. BES_NO_ATTRIBUTE: the name isn't above that of the
+ * node's last attribute. For an attribute that is held, BES_NO_INDEX: no index has its name; BES_NOT_INDEXABLE: the index is of
+ * another kind. BES_NO_MEMORY. BES_FULL: the store has too few pages for the volume. After BES_NO_MEMORY and BES_FULL, only bes_build_close
+ * is of use. After any other error, the builder is unchanged.
+ * Cost: constant, and a new page for every few nodes and attributes; for one that is held, memory for its key until the store is opened. */
+uint32_t bes_build_attribute(bes_builder *builder, const uint8_t *name, size_t name_length, uint32_t code, uint64_t number,
+                             const uint8_t *value, size_t value_length, uint32_t held);
+
+/* Opens the store that was built, and makes the handle its first pass, as bes_open does. The journal is empty. Unless the call returns
+ * BES_CLOSED or BES_OPEN, it closes the builder, even after an error.
+ * [in] next      the number of the next new node, up to 2^63. It must be above that of each node; bes_next writes it.
+ * [out] pass     a closed handle, which is opened
+ * Returns BES_CLOSED if builder is closed, BES_OPEN if pass is open. If an earlier call returned BES_FULL or BES_NO_MEMORY: that error.
+ * BES_NO_NODE: next isn't above the number of the last node, or is 0, or is above 2^63. BES_NO_MEMORY. BES_FULL: the store has too few
+ * pages for the volume, whose indices are written now.
+ * Cost: a sort of the keys of each index, the time to write the indices, and, meanwhile, memory for a second copy of all pages. */
+uint32_t bes_build_finish(bes_builder *builder, uint64_t next, bes_pass *pass);
+
+/* Closes a builder and frees what it was given. BES_CLOSED. */
+uint32_t bes_build_close(bes_builder *builder);
+
+/* Moves a builder into other, and closes the original handle.
+ * [out] other    a closed handle, which is opened
+ * Returns BES_CLOSED if builder is closed, BES_OPEN if other is open. */
+uint32_t bes_move_builder(bes_builder *builder, bes_builder *other);
 
 /* Writes the pass's number, by which the journal, BES_BUSY and bes_status refer to it.
  * [out] number   the number, 0 to passes - 1
@@ -205,9 +269,9 @@ uint32_t bes_apply_change(bes_pass *pass, const bes_operation *operations, size_
  * You may use the pass for other reads and queries, which see the snapshot without the draft's operations. bes_change does the same with a
  * batch, in a loop.
  *
- * A draft works with the pass that began it for as long as that pass is pinned to the draft's snapshot. If you unpin the pass and pin it to
- * another snapshot, bes_change_get and bes_end_change return BES_NOT_PINNED. A pass may have several drafts. Don't use a draft with a pass
- * of another store: the operations would be written to that store.
+ * A draft works with the pass that began it for as long as that pass is pinned to the draft's snapshot. With any other pass of the store, or
+ * once the pass is pinned to another snapshot, bes_change_get and bes_end_change return BES_NOT_PINNED. A pass may have several drafts.
+ * Don't use a draft with a pass of another store: the operations might be written to that store.
  * [out] draft    a closed handle, which is opened
  * [out] number   the snapshot's number
  * [out] next     the number that the first new node will get
@@ -239,7 +303,7 @@ uint32_t bes_change_add(bes_draft *draft, const bes_operation *operation, const 
  * [in] name      the name, name_length bytes
  * [out] attribute, bytes  as for bes_get
  * Returns BES_CLOSED if pass or draft is closed (pass is checked first), BES_NOT_UTF8, BES_NAME_LENGTH, BES_HAS_NUL,
- * BES_NOT_PINNED (the pass isn't pinned to the draft's snapshot), BES_NO_ATTRIBUTE (also if there is no such node).
+ * BES_NOT_PINNED (the pass didn't begin the draft, or isn't pinned to its snapshot), BES_NO_ATTRIBUTE (also if there is no such node).
  * Cost: a scan of the draft's operations, and at most one tree descent. */
 uint32_t bes_change_get(bes_pass *pass, bes_draft *draft, uint64_t node, const uint8_t *name, size_t name_length,
                         bes_attribute *attribute, uint8_t *bytes, size_t bytes_room);
@@ -255,8 +319,8 @@ uint32_t bes_change_batch(bes_draft *draft, bes_counts *counts, bes_operation *o
  * Even after an error, it closes the draft, and unpins the pass if bes_begin_change pinned it. A draft without operations writes nothing.
  * [out] number   the commit number; for a draft without operations, the snapshot's number. The new nodes have the numbers that
  *                bes_change_add returned.
- * Returns BES_CLOSED if pass or draft is closed (pass is checked first). BES_NOT_PINNED: the pass isn't pinned to the draft's snapshot. If
- * the pass is pinned to another snapshot, it stays pinned.
+ * Returns BES_CLOSED if pass or draft is closed (pass is checked first). BES_NOT_PINNED: the pass didn't begin the draft, or isn't pinned
+ * to its snapshot. It then stays pinned or unpinned as it was.
  * BES_BUSY: another pass is writing, and number is that pass. BES_CONFLICT: another transaction has been committed, and number is the
  * journal's current length. After either error, begin the change again; bes_again and bes_stand_back help you decide when.
  * The store's own errors, from BES_NO_NODE on, are as for bes_apply. After BES_FULL, too, you can begin the change again once other passes
@@ -265,7 +329,7 @@ uint32_t bes_change_batch(bes_draft *draft, bes_counts *counts, bes_operation *o
 uint32_t bes_end_change(bes_pass *pass, bes_draft *draft, uint64_t *number);
 
 /* Ends a change without writing it: closes the draft, and unpins the pass if bes_begin_change pinned it and it is still pinned to that
- * snapshot. If the pass is closed, the call only closes the draft.
+ * snapshot. If the pass is closed or didn't begin the draft, the call only closes the draft.
  * Returns BES_CLOSED if pass or draft is closed (pass is checked first).
  * Cost: one step. */
 uint32_t bes_abandon_change(bes_pass *pass, bes_draft *draft);
@@ -381,7 +445,8 @@ uint32_t bes_ordered(bes_pass *pass, bes_prepared *prepared, const bes_name *by,
  * [out] count    how many nodes were written. If this number is less than nodes_room, there are no more nodes.
  * Returns BES_CLOSED if pass or prepared is closed (pass is checked first), BES_NOT_PINNED, BES_NO_ROOM (nodes_room is 0), BES_NOT_COVERED,
  * BES_NO_MEMORY. After any error except BES_CLOSED, the handle has no result.
- * Cost: as for bes_query_prepared. */
+ * Cost: as for bes_query_prepared; but if most nodes satisfy the query, two descents for each comparison and each node that is tested until
+ * there are enough. */
 uint32_t bes_first(bes_pass *pass, bes_prepared *prepared, uint64_t from, uint64_t *nodes, size_t nodes_room, uint64_t *count);
 
 /* Runs a prepared query in the pinned snapshot, and returns arbitrary nodes of its result, each at most once, in no particular order. The
@@ -389,7 +454,8 @@ uint32_t bes_first(bes_pass *pass, bes_prepared *prepared, uint64_t from, uint64
  * [out] nodes    the nodes; nodes_room of them, or all of them if there are fewer
  * [out] count    how many nodes were written
  * Returns the same errors as bes_first.
- * Cost: if the range of one index decides the query, a walk over as many keys as nodes are written. Otherwise, that of bes_first. */
+ * Cost: if the range of one index decides the query, a walk over as many keys as nodes are written. If a side of an || has enough nodes,
+ * about that of bes_ordered by the name in it with the fewest keys. Otherwise, that of bes_query_prepared. */
 uint32_t bes_any(bes_pass *pass, bes_prepared *prepared, uint64_t *nodes, size_t nodes_room, uint64_t *count);
 
 /* Refreshes a prepared query: runs it in the pinned snapshot, and compares the result with that of the previous refresh, or with an empty
@@ -423,13 +489,25 @@ uint32_t bes_refresh_changed(bes_pass *pass, bes_prepared *prepared, bes_updates
  * Cost: the time to copy the nodes. */
 uint32_t bes_changes(bes_prepared *prepared, uint64_t *created, size_t created_room, uint64_t *removed, size_t removed_room);
 
-/* Explains a query: writes the comparisons for which the query reads an index, joined by " || ", and the query's cost, such as "size"<"0"
- * score 3.
+/* Explains a query: writes comparisons whose indices cover it, joined by " || ", and a score that depends only on the operators, such as
+ * "size"<"0" score 3. A call that runs the query may read other indices instead: those whose ranges have the fewest keys, by an estimate.
  * [out] bytes    the first bytes of the explanation; at most bytes_room. No zero byte follows them.
  * [out] count    how many bytes the explanation has
  * Returns the errors that bes_query returns.
  * Cost: the time to parse the query and find the indices of its names; memory for the plan and the text. No node is read. */
 uint32_t bes_explain(bes_pass *pass, const uint8_t *text, size_t text_length, uint8_t *bytes, size_t bytes_room, uint64_t *count);
+
+/* Runs a query, and says why it takes as long as it does: writes a line for each range of index keys that the answer walked, such as
+ * "size"  500 .. <600  about 90 keys, 100 walked
+ * which has the name of the index, the lowest and the highest value of the range, about how many keys the range was estimated to have, and
+ * how many it has. A value that the range excludes has < or > before it, an open end is left out, and "ann"* stands for the last string
+ * that begins with ann. The range none has no keys, because the kind of the index has no value for which the query is true. A range that
+ * is walked key by key includes the key that ends it.
+ * [out] bytes    the first bytes of the lines; at most bytes_room. No zero byte follows them.
+ * [out] count    how many bytes the lines have
+ * Returns the errors that bes_query returns.
+ * Cost: that of bes_query, then the time to list each range once more, and memory for the nodes of one range and for the text. */
+uint32_t bes_ways(bes_pass *pass, const uint8_t *text, size_t text_length, uint8_t *bytes, size_t bytes_room, uint64_t *count);
 
 /* Lists the pinned snapshot's nodes in ascending order, starting from a given number. Nodes without attributes are included.
  * [in] from      the number
@@ -448,6 +526,14 @@ uint32_t bes_nodes(bes_pass *pass, uint64_t from, uint64_t *nodes, size_t nodes_
  * Cost: one tree descent. */
 uint32_t bes_get(bes_pass *pass, uint64_t node, const uint8_t *name, size_t name_length, bes_attribute *attribute,
                  uint8_t *bytes, size_t bytes_room);
+
+/* Writes whether the index with a name has a node's attribute in the pinned snapshot. A query on that name finds only such nodes. The
+ * attribute may not be in the index because it was set before the index was created, or is of another kind; bes_reindex adds the former.
+ * [in] name      the name, name_length bytes
+ * [out] held     1 if the index has the attribute; 0 if it doesn't, or if the index, the node or the attribute doesn't exist
+ * BES_CLOSED, BES_NOT_UTF8, BES_NAME_LENGTH, BES_HAS_NUL, BES_NOT_PINNED.
+ * Cost: one tree descent, and a second one if the node has an attribute of this name. */
+uint32_t bes_is_held(bes_pass *pass, uint64_t node, const uint8_t *name, size_t name_length, uint32_t *held);
 
 /* Checks a name once, for use in bes_get_named, bes_columns and bes_ordered. No pass is needed.
  * [in] name      the name, name_length bytes

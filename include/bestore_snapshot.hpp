@@ -3,6 +3,7 @@
 #define BESTORE_SNAPSHOT_HPP
 
 #include "bestore_handles.hpp"
+#include "bestore_results.hpp"
 #include "bestore_text.hpp"
 #include "bestore_values.hpp"
 
@@ -10,27 +11,30 @@
 #include <chrono>
 #include <iterator>
 #include <memory>
-#include <numeric>
 
 namespace bestore {
 
 namespace detail {
 
-// Returns the whole output of a call that counts the items and writes as many of them as fit. If some don't fit, repeats the call with a
-// larger list.
+// The calls of libbestore that bestore_results.hpp makes.
+struct StoreCalls {
+    using Position = bes_cursor;
+    static constexpr auto *attributes = bes_attributes;
+    static constexpr auto *check_name = bes_check_name;
+    static constexpr auto *columns = bes_columns;
+    static constexpr auto *cursor_value = bes_cursor_value;
+    static constexpr auto *indices = bes_indices;
+    static constexpr std::size_t room_of_a_cell = 32;
+    static void check(std::uint32_t error) { detail::check(error); }
+};
+
+// Like whole() of bestore_results.hpp, for a call that returns its error. With an error, the count is what it carries.
 template <class List, class Call> List whole(std::size_t room, Place place, Call call)
 {
-    for (;;) {
-        List list(room, typename List::value_type{});
-        std::uint64_t count = 0;
-        const std::uint32_t error = call(list.data(), room, &count);
-        check(error, count, place);
-        if (count <= room) {
-            list.resize(count);
-            return list;
-        }
-        room = 2 * count;
-    }
+    return whole<List>(room, [&](auto *items, std::size_t items_room, std::uint64_t *count) {
+        const std::uint32_t error = call(items, items_room, count);
+        check(error, *count, place);
+    });
 }
 
 // How long after its first failed try a call gives up, and how long a change does.
@@ -70,33 +74,6 @@ template <class Call> std::uint32_t tried(bes_pass *pass, bes_retry retry, const
     } while (bes_again(pass, error, number, &retry));
     return error;
 }
-
-// Iterates once over a source's items, one at a time.
-template <class Source, class Item> class Iterator {
-public:
-    using iterator_category = std::input_iterator_tag;
-    using value_type = Item;
-    using difference_type = std::ptrdiff_t;
-    using pointer = const Item *;
-    using reference = const Item &;
-
-    // Starts at the source's current item. Without a source, starts past the last item.
-    explicit Iterator(Source *source) : source_(source) {}
-
-    reference operator*() const { return source_->item_; }
-    pointer operator->() const { return &source_->item_; }
-    Iterator &operator++()
-    {
-        *this = source_->begin();
-        return *this;
-    }
-    void operator++(int) { ++*this; }
-    bool operator==(const Iterator &other) const { return source_ == other.source_; }
-    bool operator!=(const Iterator &other) const { return !(*this == other); }
-
-private:
-    Source *source_;
-};
 
 } // namespace detail
 
@@ -153,12 +130,6 @@ private:
     detail::Identity store_;
 };
 
-// The nodes that a live query's result has gained, and those that it has lost, both in ascending order.
-struct Updates {
-    std::vector<Node> created;
-    std::vector<Node> removed;
-};
-
 namespace detail {
 
 // Returns the sum of two successive changes. A node that came and then left, or that left and then came, is in neither list.
@@ -189,41 +160,17 @@ inline std::string index_name(std::string_view name)
 
 } // namespace detail
 
-class Snapshot;
+class Store;
+struct Limits;
 
-// An order of nodes: by their values in an index, then by node number among equal values. Nodes without a value in the index are left out.
-class Order {
-public:
-    // Creates the ascending order by the index of this name.
-    explicit Order(std::string_view name)
-    {
-        detail::check(bes_check_name(detail::bytes_of(name), name.size(), &name_));
-    }
-
-    // Returns the exact reverse of the ascending order.
-    Order descending() const
-    {
-        Order reverse = *this;
-        reverse.is_descending_ = true;
-        return reverse;
-    }
-
-    std::string name() const { return std::string(reinterpret_cast<const char *>(name_.bytes), name_.length); }
-    bool is_descending() const noexcept { return is_descending_; }
-
-private:
-    friend class Snapshot;
-
-    bes_name name_{};
-    bool is_descending_ = false;
-};
+using Order = detail::OrderOf<detail::StoreCalls>;
 
 // A position in a query's ordered result: that of a page's last node, or of a value and a node. The next page begins just after it, even in
 // a later snapshot, whatever was written in between.
-class Cursor {
+class Cursor : public detail::CursorOf<detail::StoreCalls> {
 public:
     // Creates a cursor at the beginning of the query's result.
-    Cursor(const Prepared &query, const Order &order) : order_(order), query_(query.text()) {}
+    Cursor(const Prepared &query, const Order &order) : CursorOf(order), query_(query.text()) {}
 
     // Creates a cursor at the position of a value and a node, whether or not the node has this value. With node 0, the position is before all
     // nodes that have the value; in the descending order, it is after them. Throws BES_NOT_INDEXABLE, BES_DATA_LENGTH or BES_HAS_NUL for a
@@ -236,64 +183,32 @@ public:
         detail::check(bes_cursor_at(&raw, detail::bytes_of(value.bytes()), node, &raw_));
     }
 
-    const Order &order() const noexcept { return order_; }
-
-    // Return the page's last node and that node's value in the index. At the beginning both are empty.
-    std::optional<Node> node() const { return raw_.length == 0 ? std::nullopt : std::optional<Node>(read().first); }
-    std::optional<Value> value() const { return raw_.length == 0 ? std::nullopt : std::optional<Value>(read().second); }
-
 private:
     friend class Snapshot;
 
-    std::pair<Node, Value> read() const
-    {
-        bes_attribute value{};
-        std::uint8_t bytes[255];
-        Node node = 0;
-        detail::check(bes_cursor_value(&raw_, &value, bytes, sizeof bytes, &node));
-        return {node, detail::value_of(value.code, value.number, {reinterpret_cast<const char *>(bytes), value.length})};
-    }
-
-    Order order_;
     std::string query_; // its canonical text
-    bes_cursor raw_{};
 };
 
-// Some of the nodes that a query finds, in a given order.
-struct Page {
-    std::vector<Node> nodes;
-    bool more;     // whether more nodes follow
-    Cursor cursor; // the position of the last node; if the page is empty, the position where it began
-};
+using Page = detail::PageOf<Cursor>;
 
 // A range of the nodes that a query finds, in a given order, as returned by Snapshot::ordered. It is read page by page, and can be iterated
 // over only once, while the query and the snapshot exist: after that, begin() throws BES_CLOSED or BES_NOT_PINNED.
 //
 //     for (bestore::Node node : pin.ordered(query, bestore::Order("MAIL:when").descending()))
-class Ordered {
-public:
-    using Iterator = detail::Iterator<Ordered, Node>;
-
-    // Starts at the next node.
-    Iterator begin();
-    Iterator end() { return Iterator(nullptr); }
-
+class Ordered : public detail::Paged<Ordered, Cursor, 64, 4096> {
 private:
-    friend Iterator;
+    friend class detail::Paged<Ordered, Cursor, 64, 4096>;
     friend class Snapshot;
 
-    static constexpr std::size_t first_page = 64, largest_page = 4096;
-
     Ordered(detail::Pinned pin, std::shared_ptr<detail::Opened<bes_prepared>> query, const Cursor &after)
-        : pin_(std::move(pin)), query_(std::move(query)), page_{{}, true, after}
+        : Paged(after), pin_(std::move(pin)), query_(std::move(query))
     {
     }
 
+    Page read(const Cursor &after, std::size_t most);
+
     detail::Pinned pin_;
     std::shared_ptr<detail::Opened<bes_prepared>> query_;
-    Page page_;
-    std::size_t at_ = 0, most_ = first_page;
-    Node item_ = 0;
 };
 
 // A query whose refresh returns how its result has changed since the last refresh. The first refresh returns all nodes in the result.
@@ -353,7 +268,7 @@ private:
 };
 
 // What a pass reads: the store as it was when the pass was pinned, whatever is written in the meantime. Either a Pin or a Change.
-class Snapshot {
+class Snapshot : public detail::Reads<Snapshot, detail::StoreCalls> {
 public:
     // Returns the snapshot's number: how many transactions it includes.
     std::uint64_t number() const noexcept { return number_; }
@@ -427,28 +342,17 @@ public:
     // Returns up to `most` nodes in ascending order, starting from a given number. Nodes without attributes are included.
     std::vector<Node> nodes(Node from = 0, std::size_t most = SIZE_MAX)
     {
-        std::vector<Node> all;
-        for (;;) {
-            std::vector<Node> some(std::min<std::size_t>(most - all.size(), 1024) + 1);
-            const std::size_t room = some.size() - 1;
-            std::uint64_t count = 0;
-            detail::check(bes_nodes(handle(), from, some.data(), room, &count), count);
-            all.insert(all.end(), some.begin(), some.begin() + static_cast<std::ptrdiff_t>(count));
-            if (count < room || all.size() == most || all.back() == UINT64_MAX)
-                return all;
-            from = all.back() + 1;
-        }
-    }
-
-    // Explains a query: returns the comparisons for which the query reads an index, and the query's cost.
-    std::string explain(std::string_view text)
-    {
-        return detail::whole<std::string>(256, detail::Place::byte, [&](char *said, std::size_t room, std::uint64_t *count) {
-            const auto error = bes_explain(handle(), detail::bytes_of(text), text.size(), reinterpret_cast<std::uint8_t *>(said), room,
-                                           count);
-            return located(error, text, count);
+        return detail::nodes_from(from, most, 1024, [&](Node next, Node *nodes, std::size_t room, std::uint64_t *count) {
+            detail::check(bes_nodes(handle(), next, nodes, room, count));
         });
     }
+
+    // Explains a query: returns comparisons whose indices cover it, and a score that depends only on the operators.
+    std::string explain(std::string_view text) { return said(bes_explain, text); }
+
+    // Runs a query, and returns a line for each range of index keys that the answer walked, with its estimated and its real number of
+    // keys, as bes_ways does.
+    std::string ways(std::string_view text) { return said(bes_ways, text); }
 
     // Returns the byte offset of the first comparison whose name has no index in this snapshot. This parses the text.
     std::optional<std::size_t> uncovered(std::string_view text)
@@ -474,82 +378,29 @@ public:
         return never;
     }
 
-    // Returns an attribute's value if the node exists and has the attribute. In a change, this may be a value that the change has set.
-    std::optional<Value> get(Node node, std::string_view name)
+    // Returns whether the index with this name has the node's attribute. A query on that name finds only such nodes.
+    bool is_held(Node node, std::string_view name)
     {
-        bes_attribute read{};
-        std::uint8_t bytes[255];
-        const auto *text = detail::bytes_of(name);
-        const auto error = draft_ != nullptr ? bes_change_get(handle(), draft_, node, text, name.size(), &read, bytes, sizeof bytes)
-                                             : bes_get(handle(), node, text, name.size(), &read, bytes, sizeof bytes);
-        if (error == BES_NO_ATTRIBUTE)
-            return std::nullopt;
-        detail::check(error);
-        return detail::value_of(read.code, read.number, {reinterpret_cast<const char *>(bytes), read.length});
+        std::uint32_t held = 0;
+        detail::check(bes_is_held(handle(), node, detail::bytes_of(name), name.size(), &held));
+        return held != 0;
     }
+    template <class T> bool is_held(Node node, const Attribute<T> &attribute) { return is_held(node, attribute.name()); }
 
-    // Returns an attribute's value if the node has the attribute and the value is a T. T is one of the types that a Value can hold.
-    template <class T> std::optional<T> get(Node node, std::string_view name)
-    {
-        auto value = get(node, name);
-        auto *held = value ? std::get_if<T>(&*value) : nullptr;
-        return held ? std::optional<T>(std::move(*held)) : std::nullopt;
-    }
-    template <class T> std::optional<T> get(Node node, const Attribute<T> &attribute) { return get<T>(node, attribute.name()); }
+    // Opens a store that begins with this snapshot: with its next node number, and with the same nodes, attributes and indices. Its journal is
+    // empty. Error(BES_FULL): no store with as many pages has room for the snapshot.
+    Store carry_on(const Limits &limits);
 
-    // Returns several attributes of many nodes: for each name, a list with each node's value, which is empty if the node has no such
-    // attribute. A node takes one tree search if the names are in ascending order and few of its other attributes lie between. In a change,
-    // each value takes one search.
+    // In a change, reads each value with get().
     std::vector<std::vector<std::optional<Value>>> columns(const std::vector<Node> &nodes, const std::vector<std::string_view> &names)
     {
+        if (draft_ == nullptr)
+            return Reads::columns(nodes, names);
         std::vector<std::vector<std::optional<Value>>> columns(names.size(), std::vector<std::optional<Value>>(nodes.size()));
-        if (draft_ != nullptr) {
-            for (std::size_t node = 0; node < nodes.size(); node++)
-                for (std::size_t name = 0; name < names.size(); name++)
-                    columns[name][node] = get(nodes[node], names[name]);
-            return columns;
-        }
-        std::vector<std::size_t> order(names.size());
-        std::iota(order.begin(), order.end(), std::size_t{0});
-        std::sort(order.begin(), order.end(), [&](std::size_t one, std::size_t other) { return names[one] < names[other]; });
-        std::vector<bes_name> checked(names.size() + 1);
-        for (std::size_t at = 0; at < names.size(); at++)
-            detail::check(bes_check_name(detail::bytes_of(names[order[at]]), names[order[at]].size(), &checked[at]));
-        std::vector<bes_cell> cells(nodes.size() * names.size() + 1);
-        const auto bytes = read_columns(nodes, checked, cells);
-        for (std::size_t at = 0; at + 1 < cells.size(); at++)
-            if (const bes_cell &cell = cells[at]; cell.error == BES_OK)
-                columns[order[at % names.size()]][at / names.size()] = detail::value_of(
-                    cell.code, cell.number, std::string_view(bytes).substr(cell.offset, cell.length));
+        for (std::size_t node = 0; node < nodes.size(); node++)
+            for (std::size_t name = 0; name < names.size(); name++)
+                columns[name][node] = get(nodes[node], names[name]);
         return columns;
-    }
-
-    // Returns one attribute of many nodes, as columns() does for several.
-    std::vector<std::optional<Value>> column(const std::vector<Node> &nodes, std::string_view name)
-    {
-        return std::move(columns(nodes, {name}).front());
-    }
-
-    // Returns a node's attributes, in ascending order of their names.
-    std::vector<NamedValue> attributes(Node node)
-    {
-        Batch sets;
-        detail::check(sets.read([&](auto... room) { return bes_attributes(handle(), node, room...); }));
-        std::vector<NamedValue> attributes;
-        for (const auto &it : sets.operations_)
-            attributes.push_back({std::string(sets.part(it.name_at, it.name_length)), sets.value_of(it)});
-        return attributes;
-    }
-
-    // Returns the indices, in ascending order of their names.
-    std::vector<Index> indices()
-    {
-        Batch makes;
-        detail::check(makes.read([&](auto... room) { return bes_indices(handle(), room...); }));
-        std::vector<Index> indices;
-        for (const auto &it : makes.operations_)
-            indices.push_back({std::string(makes.part(it.name_at, it.name_length)), static_cast<Kind>(it.code)});
-        return indices;
     }
 
     // Returns how many nodes have an attribute of this name that the index holds.
@@ -582,6 +433,17 @@ protected:
     void reads(bes_draft *draft) noexcept { draft_ = draft; }
 
 private:
+    friend class detail::Reads<Snapshot, detail::StoreCalls>;
+
+    static void check(std::uint32_t error) { detail::check(error); }
+
+    std::uint32_t read(Node node, std::string_view name, bes_attribute *attribute, std::uint8_t *bytes, std::size_t room) const
+    {
+        const auto *text = detail::bytes_of(name);
+        return draft_ != nullptr ? bes_change_get(handle(), draft_, node, text, name.size(), attribute, bytes, room)
+                                 : bes_get(handle(), node, text, name.size(), attribute, bytes, room);
+    }
+
     // Pins the pass, and returns it.
     static std::shared_ptr<detail::Session> pinned(const std::shared_ptr<detail::Session> &pass, std::uint64_t *number)
     {
@@ -648,16 +510,6 @@ private:
         return detail::whole<std::vector<Node>>(256, place, call);
     }
 
-    // Reads the attributes of these names into the cells. The last name and the last cell aren't used. Returns the values' bytes.
-    std::string read_columns(const std::vector<Node> &nodes, const std::vector<bes_name> &names, std::vector<bes_cell> &cells)
-    {
-        const auto call = [&](char *bytes, std::size_t room, std::uint64_t *count) {
-            return bes_columns(handle(), detail::begin_of(nodes), nodes.size(), names.data(), names.size() - 1, cells.data(),
-                               cells.size() - 1, reinterpret_cast<std::uint8_t *>(bytes), room, count);
-        };
-        return detail::whole<std::string>(32 * cells.size(), detail::Place::none, call);
-    }
-
     template <class Query> std::uint64_t counted(Query &&query, detail::Place place)
     {
         std::uint64_t count = 0;
@@ -665,6 +517,15 @@ private:
         const auto error = asked(query, &none, 0, &count);
         detail::check(error, count, place);
         return count;
+    }
+
+    // Returns what a call says about a query.
+    std::string said(decltype(bes_explain) *call, std::string_view text)
+    {
+        return detail::whole<std::string>(256, detail::Place::byte, [&](char *said, std::size_t room, std::uint64_t *count) {
+            const auto *asked = detail::bytes_of(text);
+            return located(call(handle(), asked, text.size(), reinterpret_cast<std::uint8_t *>(said), room, count), text, count);
+        });
     }
 
     // Returns the error. For BES_NOT_COVERED, sets `place` to the offset of the comparison that has no index.
@@ -680,17 +541,9 @@ private:
     bes_draft *draft_ = nullptr; // in a Change
 };
 
-inline Ordered::Iterator Ordered::begin()
+inline Page Ordered::read(const Cursor &after, std::size_t most)
 {
-    if (at_ == page_.nodes.size() && page_.more) {
-        page_ = Snapshot::read_page(pin_.get(), detail::opened(query_), page_.cursor, most_);
-        most_ = std::min(2 * most_, largest_page);
-        at_ = 0;
-    }
-    if (at_ == page_.nodes.size())
-        return end();
-    item_ = page_.nodes[at_++];
-    return Iterator(this);
+    return Snapshot::read_page(pin_.get(), detail::opened(query_), after, most);
 }
 
 // A snapshot that stays pinned for as long as the object lives.

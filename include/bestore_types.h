@@ -1,4 +1,5 @@
-/* The handles, numbers and structs that the calls of bestore.h take and return. Include bestore.h, which includes this file. */
+/* The handles, numbers and structs that the calls of bestore.h take and return; bestore_client.h uses some of them. Include bestore.h or
+ * bestore_client.h, which include this file. */
 #ifndef BESTORE_TYPES_H
 #define BESTORE_TYPES_H
 
@@ -45,6 +46,14 @@ typedef struct bes_draft {
 } bes_draft;
 
 #define BES_DRAFT_INIT { false, NULL }
+
+/* Both fields are private to the library. */
+typedef struct bes_builder {
+    bool live;
+    void *at;
+} bes_builder;
+
+#define BES_BUILDER_INIT { false, NULL }
 
 /* What calls return. */
 enum {

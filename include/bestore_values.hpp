@@ -64,31 +64,47 @@ enum class ErrorClass : std::uint32_t {
     gone = BES_CLASS_GONE
 };
 
+namespace detail {
+
+// What an error's number means, according to the library that has returned it.
+struct Meaning {
+    std::uint32_t number;
+    const char *name;
+    std::uint32_t error_class;
+};
+
+} // namespace detail
+
 // The error of a failed call. A failed call has changed nothing.
 class Refusal : public std::runtime_error {
 public:
     explicit Refusal(std::uint32_t number, std::uint64_t carried = 0, detail::Place place = detail::Place::none)
-        : std::runtime_error(bes_strerror(number)), number_(number), carried_(carried), place_(place)
+        : Refusal({number, bes_error_name(number), bes_class(number)}, bes_strerror(number), carried, place)
     {
     }
 
-    // Returns the error's number, as in bestore.h.
-    std::uint32_t number() const noexcept { return number_; }
+    Refusal(const detail::Meaning &meaning, const std::string &text, std::uint64_t carried = 0, detail::Place place = detail::Place::none)
+        : std::runtime_error(text), meaning_(meaning), carried_(carried), place_(place)
+    {
+    }
 
-    // Returns the error's name in bestore.h, such as "BES_BUSY".
-    const char *name() const noexcept { return bes_error_name(number_); }
+    // Returns the error's number, as in bestore.h or bestore_client.h.
+    std::uint32_t number() const noexcept { return meaning_.number; }
+
+    // Returns the error's name there, such as "BES_BUSY".
+    const char *name() const noexcept { return meaning_.name; }
 
     // Returns what a program can do about the error.
-    ErrorClass error_class() const noexcept { return static_cast<ErrorClass>(bes_class(number_)); }
+    ErrorClass error_class() const noexcept { return static_cast<ErrorClass>(meaning_.error_class); }
 
     // For BES_BUSY, returns the pass that is writing.
-    std::optional<std::uint64_t> pass_number() const noexcept { return carried_if(number_ == BES_BUSY); }
+    std::optional<std::uint64_t> pass_number() const noexcept { return carried_if(number() == BES_BUSY); }
 
     // For BES_FULL, returns the oldest version that a pass can still read.
-    std::optional<std::uint64_t> least() const noexcept { return carried_if(number_ == BES_FULL); }
+    std::optional<std::uint64_t> least() const noexcept { return carried_if(number() == BES_FULL); }
 
     // For BES_CONFLICT, returns the journal's length.
-    std::optional<std::uint64_t> length() const noexcept { return carried_if(number_ == BES_CONFLICT); }
+    std::optional<std::uint64_t> length() const noexcept { return carried_if(number() == BES_CONFLICT); }
 
     // Returns the offset of the first invalid byte in a query's text or a batch's bytes. For BES_NOT_COVERED, returns the offset of the
     // first comparison whose name has no index.
@@ -104,14 +120,14 @@ public:
     std::optional<std::uint64_t> operation() const noexcept { return carried_if(is_at(detail::Place::operation)); }
 
 private:
-    bool is_at(detail::Place place) const noexcept { return place_ == place && detail::has_place(number_, place); }
+    bool is_at(detail::Place place) const noexcept { return place_ == place && detail::has_place(number(), place); }
 
     std::optional<std::uint64_t> carried_if(bool carries) const noexcept
     {
         return carries ? std::optional<std::uint64_t>(carried_) : std::nullopt;
     }
 
-    std::uint32_t number_;
+    detail::Meaning meaning_;
     std::uint64_t carried_;
     detail::Place place_;
 };
@@ -269,13 +285,21 @@ template <class T, class U> constexpr bool fits(U number)
     return static_cast<std::uint64_t>(number) <= static_cast<std::uint64_t>(std::numeric_limits<T>::max());
 }
 
+// Throws the error for a number that doesn't fit its kind. No library is called, since a program may link either of the two.
+[[noreturn]] inline void refuse_value()
+{
+    // surface.toml: error of a number
+    throw Refusal({BES_NO_VALUE, "BES_NO_VALUE", BES_CLASS_MINE}, "the number doesn't fit its kind; use a kind that holds it");
+    // surface.toml: end
+}
+
 // Returns a number as it is stored in a bes_operation. Throws BES_NO_VALUE if the number doesn't fit the kind.
 template <class U> std::uint64_t number_of(Kind kind, U number)
 {
     const bool is_held = (kind == Kind::int32 && fits<std::int32_t>(number)) || (kind == Kind::int64 && fits<std::int64_t>(number)) ||
                          (kind == Kind::uint32 && fits<std::uint32_t>(number)) || (kind == Kind::uint64 && fits<std::uint64_t>(number));
     if (!is_held)
-        throw Refusal(BES_NO_VALUE);
+        refuse_value();
     return static_cast<std::uint64_t>(number);
 }
 
@@ -368,6 +392,9 @@ private:
 };
 
 namespace detail {
+
+// Reads batches and predicates, for the client.
+class Access;
 
 // An operation to be added to a batch.
 struct Edit {
@@ -493,6 +520,7 @@ public:
 
 private:
     friend class detail::Writes<Batch>;
+    friend class detail::Access;
     friend class Change;
     friend class Entries;
     friend class Pass;
@@ -573,6 +601,7 @@ public:
     }
 
 private:
+    friend class detail::Access;
     friend class Prepared;
     friend class Snapshot;
 

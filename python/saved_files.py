@@ -10,6 +10,8 @@ from contextlib import closing, contextmanager, suppress
 
 import bestore
 from bestore import saved
+from bestore._saved_checks import of_state
+from bestore.language import all_in
 
 HERE = os.path.dirname(os.path.abspath(__file__))
 MEMORY = "/dev/shm" if os.access("/dev/shm", os.W_OK) else None  # a folder in which commits don't wait for a disk
@@ -32,9 +34,47 @@ def sql(path, *statements):
         return [connection.execute(statement).fetchall() for statement in statements][-1]
 
 
-def remove_checksums(path):
-    """Converts the file to the first format, which has no checksums to reveal changes."""
-    sql(path, *(f"ALTER TABLE {table} DROP COLUMN checksum" for table in ("about", "state", "entry")), "PRAGMA user_version = 1")
+def operations(version):
+    """Yields batches that rebuild a version in an empty store, as the state of earlier formats has them."""
+    batch = bestore.Batch()
+    for operation in all_operations(version):
+        if len(batch) == bestore.MOST_OPERATIONS:
+            yield batch
+            batch = bestore.Batch()
+        batch.add(operation)
+    if len(batch) > 0:
+        yield batch
+
+
+def all_operations(version):
+    """Yields operations that rebuild a version: new nodes, attributes that aren't held, indices, attributes that are held."""
+    nodes, indices = set(version), version.indices()
+    held = {name: set(version.query(all_in(name, kind))) for name, kind in indices.items()}
+    attributes = [(node, name, *typed) for node in version for name, typed in version.attributes(node, kinds=True).items()]
+    for node in range(1, version.next_node):
+        yield bestore.NewNode()
+        if node not in nodes:
+            yield bestore.RemoveNode(node)
+    yield from (bestore.SetAttribute(*it) for it in attributes if it[0] not in held.get(it[1], ()))
+    yield from (bestore.MakeIndex(name, kind) for name, kind in indices.items())
+    yield from (bestore.SetAttribute(*it) for it in attributes if it[0] in held.get(it[1], ()))
+
+
+def to_format(path, version, pages=64):
+    """Converts the file to an earlier format, in which the state consists of operations. The first one has no checksums to reveal
+    changes."""
+    said = [number for number, in sql(path, "SELECT number FROM about WHERE what IN ('entries', 'next') ORDER BY what")]
+    with bestore.Builder(pages) as builder:
+        for batch, in sql(path, "SELECT batch FROM state ORDER BY place"):
+            builder.batch(batch)
+        with builder.finish(said[1]) as store, store.pin() as pinned:
+            state = [batch.to_bytes() for batch in operations(pinned)]
+    with closing(sqlite3.connect(path, isolation_level=None)) as connection:
+        connection.execute("DELETE FROM state")
+        connection.executemany("INSERT INTO state VALUES (?, ?, ?)", [(place, it, of_state(place, it)) for place, it in enumerate(state)])
+        connection.execute(f"PRAGMA user_version = {version}")
+    if version == 1:
+        sql(path, *(f"ALTER TABLE {table} DROP COLUMN checksum" for table in ("about", "state", "entry")))
 
 
 def file_size(store, size):

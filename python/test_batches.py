@@ -19,9 +19,9 @@ EACH = [
 TABLE = os.path.join(os.path.dirname(os.path.abspath(__file__)), "..", "tests", "batches.txt")
 
 
-def table(mark):
+def table(mark, path=TABLE):
     """Returns the bytes and words from the lines with this mark, in the table that every language's encoder is tested against."""
-    with open(TABLE, encoding="utf-8") as file:
+    with open(path, encoding="utf-8") as file:
         rows = [line.split(f" {mark} ") for line in file if not line.startswith("#")]
     return [(bytes_of(row[0]), row[1].split()) for row in rows if len(row) == 2]
 

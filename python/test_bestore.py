@@ -37,6 +37,8 @@ class Values(unittest.TestCase):
                 self.assertEqual(version.attributes(node), {"name": "ann", "size": -1})
                 self.assertEqual(version.indices(), {"name": bestore.STRING, "size": bestore.INT32})
                 self.assertEqual(version.explain("size<0"), '"size"<"0" score 3')
+                self.assertEqual(version.ways("size<0 || size==7"),
+                                 '"size"  7 .. 7  about 0 keys, 0 walked\n"size"  .. <0  about 1 key, 1 walked\n')
                 self.assertEqual(version.query_items(bestore.Name("size"), -1, bestore.Operator.EQ), [node])
                 self.assertEqual(version.query_items(bestore.Name("name"), "n", bestore.Operator.CONTAINS), [node])
                 with self.assertRaises(bestore.NoNode):
@@ -318,8 +320,6 @@ class Passes(unittest.TestCase):
                 witness = other.witness()
             self.assertEqual((store.join(witness), store.join(witness)), (1, 1))
             self.assertRaises(bestore.OtherStore, next_store.join, witness)
-            with bestore.open_shelf(1, 64, 1, 100) as shelf:
-                self.assertRaises(bestore.OtherStore, next_store.join, shelf.witness())
             self.assertRaises(TypeError, store.join, store)
         self.assertRaises(bestore.Closed, store.witness)
         self.assertRaises(bestore.Closed, store.join, witness)
@@ -341,7 +341,7 @@ class WrongUse(unittest.TestCase):
             with self.assertRaises(bestore.Refusal) as fault:
                 call()
             self.assertEqual(fault.exception.number, number)
-        for call in (version.query, version.explain, bestore.prepare):
+        for call in (version.query, version.explain, version.ways, bestore.prepare):
             with self.assertRaises(bestore.QuerySyntax) as syntax:
                 call("k <")
             self.assertEqual((syntax.exception.query, syntax.exception.offset), ("k <", 3))
@@ -432,7 +432,7 @@ class WhatIsMissing(unittest.TestCase):
             store.make_index("a", bestore.STRING)
             with store.pin() as version:
                 for query in b"a==x", ["a", "x"], 5, None:
-                    for ask in (version.query, version.count, version.explain, version.hints, bestore.prepare, store.prepare,
+                    for ask in (version.query, version.count, version.explain, version.ways, version.hints, bestore.prepare, store.prepare,
                                 lambda query: version.any(query, 1), lambda query: version.query(query, by="a"),
                                 lambda query: version.query(query, limit=1), lambda query: version.rows(query, ["a"])):
                         self.refused(TypeError, f"{query!r} isn't a query's text, which is a str", lambda: ask(query))
@@ -473,84 +473,6 @@ class Whole(unittest.TestCase):
                 self.assertEqual((held.entries, held.oldest), (5, bestore.Held(0, 0)))
                 self.assertGreater(held.retired, 0)
             self.assertEqual((other.status().retired, other.status().oldest), (0, None))
-
-
-def carried_on(version, store):
-    """Writes the version's state to an empty store and returns the store."""
-    for batch in version.state():
-        store.apply(batch, tries=1)
-    return store
-
-
-def operations_of(version):
-    """Returns all operations that rebuild a version."""
-    told = []
-    for batch in version.state():
-        for it in batch._operations:
-            name = batch._bytes[it.name_at:it.name_at + it.name_length]
-            value = batch._bytes[it.value_at:it.value_at + it.value_length]
-            told.append((it.kind, it.code, it.node, it.number, name, value))
-    return told
-
-
-class States(unittest.TestCase):
-    def test_carried_on(self):
-        """The state includes the next node number, the nodes, attributes of each kind, the indices, and attributes missing from
-        their index."""
-        with bestore.open(64, 1, 100) as store, bestore.open(64, 1, 100) as other:
-            store.apply(bestore.Batch().new_node().new_node().new_node().remove_node(2))
-            store.apply(bestore.Batch().set(1, "k", "before").set(1, "r", b"\0\xff"))
-            store.apply(bestore.Batch().make_index("k", bestore.STRING).make_index("n", bestore.INT32))
-            store.apply(bestore.Batch().set(3, "k", "after").set(3, "n", -5, bestore.INT32).set(3, "m", "a/b", bestore.MIME))
-            with store.pin() as version, carried_on(version, other).pin() as again:
-                self.assertEqual(operations_of(again), operations_of(version))
-                self.assertEqual((list(again), again.indices()), ([1, 3], {"k": bestore.STRING, "n": bestore.INT32}))
-                self.assertEqual([again.attributes(node) for node in (1, 3)], [version.attributes(node) for node in (1, 3)])
-                for query in ('k == "*"', "n < 0"):
-                    self.assertEqual((version.query(query), again.query(query)), ([3], [3]))
-            self.assertEqual(other.new_node(), 4)
-
-    def test_list_by_list(self):
-        with bestore.open(256, 1, 100) as store:
-            with store.pin() as version:
-                self.assertEqual(list(version.state()), [])
-            for _ in range(3):
-                batch = bestore.Batch()
-                while len(batch) < 64:
-                    batch.new_node()
-                store.apply(batch)
-            store.new_node()
-            with store.pin() as version:
-                self.assertEqual([len(batch) for batch in version.state()], [64, 64, 64, 1])
-                first, second = version.state(), version.state()
-                self.assertEqual((len(next(first)), len(next(second)), len(next(first))), (64, 64, 64))
-            with self.assertRaises(bestore.NotPinned):
-                next(second)
-
-    def test_while_others_write(self):
-        """The old store's pin can still be read. A query that was first refreshed there finds no change in the new store."""
-        with bestore.open(4096, 3, 100000) as store, store.another() as first, store.another() as second:
-            store.apply(bestore.Batch().make_index("n", bestore.INT64).new_node().new_node().set(1, "n", 1).set(2, "n", 2))
-
-            def write(user, node):
-                for number in range(200):
-                    user.apply(bestore.Batch().set(node, "n", number).new_node())
-            running = [threading.Thread(target=write, args=it) for it in ((first, 1), (second, 2))]
-            for thread in running:
-                thread.start()
-            for _ in range(3):
-                with store.pin() as version, bestore.open(4096, 1) as other, carried_on(version, other).pin() as again:
-                    self.assertEqual(operations_of(again), operations_of(version))
-                    self.assertEqual(again.query("n >= 0"), version.query("n >= 0"))
-            for thread in running:
-                thread.join()
-            with bestore.prepare("n >= 0") as live, store.pin() as version, bestore.open(4096, 1) as other:
-                self.assertEqual(version.refresh(live), ([1, 2], []))
-                with carried_on(version, other).pin() as again:
-                    self.assertEqual((again.refresh(live), len(list(again))), (([], []), 402))
-                other.remove_node(1)
-                with other.pin() as again:
-                    self.assertEqual((again.refresh(live), version.query("n >= 0")), (([], [1]), [1, 2]))
 
 
 class WhatIsCarried(unittest.TestCase):

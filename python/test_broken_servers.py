@@ -20,7 +20,7 @@ from bestore import _connected_watch, _connection, connected, saved
 PATIENCE = 30  # seconds that anything may take on a busy machine
 
 HELLO = {
-    "protocol": 1, "server": "0", "library": "0", "run": "r", "pass": 5, "kept": "no",
+    "protocol": 2, "server": "0", "library": "0", "run": "r", "pass": 5, "kept": "no",
     "limits": {"pages": 8, "passes": 1, "commits": 1, "operations": 64, "line": 1 << 20, "watches": 32},
 }
 
@@ -181,7 +181,7 @@ class Broken(unittest.TestCase):
             with bestore.connect(fake.path) as store, store.pin() as version:
                 self.assertEqual(version.query("k==1"), [1, 2, 4, 6, 9])
             self.assertEqual([it["query"] for it in fake.asked if "query" in it], [
-                {"query": "k==1"}, {"query": "k==1", "from": 4}, {"query": "k==1", "from": 9}])
+                {"query": "k==1"}, {"query": "k==1", "from": 4, "uncounted": True}, {"query": "k==1", "from": 9, "uncounted": True}])
 
     def test_columns(self):
         """Rows may arrive in several replies. Each reply has rows only for requested nodes."""
@@ -266,9 +266,9 @@ class Broken(unittest.TestCase):
         later = {"error": {"name": "NotReached", "message": "why", "expected": 7, "found": 5}}
         reached, asked, raised = self.reach(2.5, [10, 10, 11, 12], later, later, later)
         self.assertEqual((reached, [it["within"] for it in asked]), (None, [1000, 1000, 500]))
-        self.assertEqual((type(raised), raised.expected, raised.found), (bestore.NotReached, (7,), (5,)))
+        self.assertEqual((type(raised), raised.expected, raised.found), (bestore.NotReached, 7, 5))
         reached, asked, raised = self.reach(float("inf"), range(9), later, later, {"ok": {"commit": 8}})
-        self.assertEqual((reached, asked, raised), ((8,), [{"commit": 7, "within": 1000}] * 3, None))
+        self.assertEqual((reached, asked, raised), (8, [{"commit": 7, "within": 1000}] * 3, None))
         for within in (0, -1):
             self.assertEqual(self.reach(within, [10, 10], {"ok": {"commit": 8}})[1], [{"commit": 7, "within": 0}])
 

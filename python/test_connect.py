@@ -20,6 +20,7 @@ import test_language
 import test_native
 import test_ordered
 from bestore import _connection, connected
+from bestore._listings import ATTRIBUTE, NODE, records
 from servers import PATIENCE, OverServer, Server, WithServer
 
 _open = bestore.open
@@ -52,7 +53,7 @@ def over_server(cls):
 
 
 for _module, _names in [
-    (test_bestore, "Values OutOfRange Versions Journals PreparedQueries Passes WrongUse WhatIsMissing Whole States WhatIsCarried Threads"),
+    (test_bestore, "Values OutOfRange Versions Journals PreparedQueries Passes WrongUse WhatIsMissing Whole WhatIsCarried Threads"),
     (test_changes, "Changes Conditions Kinds Reindexing Writers AtFull"),
     (test_batches, "Operations Entries"),
     (test_language, "Patterns Covered Counts Hints NoTexts"),
@@ -163,7 +164,7 @@ class Connecting(WithServer):
 
 class Reading(WithServer):
     def test_several_pages(self):
-        """The journal and the state take several replies of 1 MiB."""
+        """The journal and the listing take several replies of 1 MiB."""
         raw = bestore.Batch()
         for node in self.store.new_nodes(64):
             raw.set(node, "r", bytes(255))
@@ -177,8 +178,8 @@ class Reading(WithServer):
                 batch.set(node, name, bytes(255))
             self.store.apply(batch)
         with self.store.pin() as version:
-            operations = [operation for batch in version.state() for operation in batch]
-            self.assertEqual(sum(isinstance(it, bestore.SetAttribute) for it in operations), 24 * 64)
+            listed = [kind for batch in version.listing() for kind, *_ in records(batch)]
+            self.assertEqual((listed.count(NODE), listed.count(ATTRIBUTE)), (64, 24 * 64))
 
     def test_columns(self):
         """Columns are the same as for a store in this process."""
@@ -270,7 +271,7 @@ class Reading(WithServer):
             self.assertEqual(store.journal(), local.journal())
             self.assertEqual(list(store.journal_from()), list(local.journal_from()))
             with store.pin() as version, local.pin() as same:
-                self.assertEqual([list(batch) for batch in version.state()], [list(batch) for batch in same.state()])
+                self.assertEqual(list(version.listing()), list(same.listing()))
 
     def test_what_is_too_long(self):
         huge = "x" * (1 << 20)
@@ -309,7 +310,6 @@ class Confirmed(WithServer):
 
     def test_reads(self):
         with self.server.connect(confirmed=True) as store, store.another() as other:
-            self.assertIn("confirmed", store.server.features)
             node = store.new_node()
             store.set(node, "size", 5)
             for reader in store, other:
@@ -317,7 +317,7 @@ class Confirmed(WithServer):
                     self.assertEqual(version[node]["size"], 5)
 
     def test_server_is_asked(self):
-        for options, greeting in ({}, {"protocol": 1}), ({"confirmed": True}, {"protocol": 1, "confirmed": True}):
+        for options, greeting in ({}, {"protocol": 2}), ({"confirmed": True}, {"protocol": 2, "confirmed": True}):
             with mock.patch.object(connected.ConnectedPass, "_ask", side_effect=bestore.Closed) as ask:
                 with self.assertRaises(bestore.Closed):
                     self.server.connect(**options)
@@ -341,10 +341,10 @@ class Writing(WithServer):
         with self.server.connect(timeout=1) as store:
             with self.assertRaises(bestore.NotReached) as fault:
                 store.reach(2, 1.2)
-            self.assertEqual((fault.exception.expected, fault.exception.found), ((2,), (1,)))
+            self.assertEqual((fault.exception.expected, fault.exception.found), (2, 1))
             timer = threading.Timer(0.1, self.store.new_node)
             timer.start()
-            self.assertEqual(store.reach(2, float("inf")), (2,))
+            self.assertEqual(store.reach(2, float("inf")), 2)
             timer.join()
 
     def test_reach_of_impossible_numbers(self):
@@ -352,11 +352,10 @@ class Writing(WithServer):
         with _open(64, 1, 100) as local:
             local.new_node()
             for store in (self.store, local):
-                self.assertEqual(store.reach(-1, 0), (1,))
+                self.assertEqual(store.reach(-1, 0), 1)
                 for number in (2**64, 2**100):
                     self.assertRaises(bestore.NotReached, store.reach, number, 0)
-                with self.assertRaisesRegex(ValueError, "2 commit numbers for 1 volumes"):
-                    store.reach([1, 1], 0)
+                self.assertRaises(TypeError, store.reach, [1], 0)
 
     def test_another_run(self):
         self.server.kill()

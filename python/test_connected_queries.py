@@ -16,17 +16,19 @@ class Following(WithServer):
         """A refresh finds the version's answer, wherever the query was last refreshed: here, through another pass, or in a
         store in this process."""
         self.sized(self.store, 5, 1)
-        with bestore.prepare("size>=5") as live, self.store.another() as other, bestore.open(64, 1, 100) as local:
+        with bestore.prepare("size>=5") as live, self.store.another() as other, bestore.Builder(64) as builder:
             with self.store.pin() as version:
                 self.sized(other, 7)
                 self.assertEqual((version.refresh(live), version.refresh(live)), (([1], []), ([], [])))
             with other.pin() as version:
                 self.assertEqual(version.refresh(live), ([3], []))
-                for batch in version.state():
-                    local.apply(batch)
-            local.remove_node(1)
-            with local.pin() as version:
-                self.assertEqual((version.refresh(live), version.refresh(live)), (([], [1]), ([], [])))
+                for batch in version.listing():
+                    builder.batch(batch)
+                local = builder.finish(version.next_node)
+            with local:
+                local.remove_node(1)
+                with local.pin() as version:
+                    self.assertEqual((version.refresh(live), version.refresh(live)), (([], [1]), ([], [])))
             with self.store.pin() as version:
                 self.assertEqual((version.refresh(live), version.query_prepared(live)), (([1], []), [1, 3]))
             with bestore.prepare("none==1") as uncovered, self.store.pin() as version:
@@ -39,8 +41,7 @@ class Following(WithServer):
                         call(live)
 
     def test_prepare(self):
-        """A query that was parsed by a server works on any server's store. If the server is too old to parse it, the library
-        does."""
+        """A query that was parsed by a server works on any server's store."""
         self.sized(self.store, 5, 1)
         with self.store.prepare("size>=5 && size>=4") as query, bestore.open(64, 1, 100) as local:
             self.assertEqual((query.source, query.names), ("size>=5 && size>=4", ["size"]))
@@ -57,13 +58,6 @@ class Following(WithServer):
             with self.assertRaises(error) as fault:
                 self.store.prepare(text)
             self.assertEqual(fault.exception.query, text)
-        self.store.server = self.store.server._replace(features=())
-        with self.store.prepare("size>=5") as query, bestore.open(64, 1, 100) as local:
-            local.make_index("size", bestore.INT64)
-            self.sized(local, 5)
-            for store in (self.store, local):
-                with store.pin() as version:
-                    self.assertEqual(version.query_prepared(query), [1])
         with bestore.open(64, 1, 100) as local, local.prepare("size>=5") as query:
             self.assertEqual(query.text, '"size">="5"')
 

@@ -1,6 +1,5 @@
 """Tests of handles in a forked child."""
 
-import contextlib
 import gc
 import os
 import threading
@@ -48,7 +47,7 @@ class Forks(unittest.TestCase):
                     lambda: version.query("k==1"), lambda: version.get(1, "k"), lambda: version.query_prepared(query),
                     lambda: query.text, lambda: version.refresh(query), lambda: version.count(query),
                     lambda: store.change(lambda change: change.new()),
-                    lambda: list(store.journal_from()), lambda: store.reindex("k"), lambda: list(version.state()),
+                    lambda: list(store.journal_from()), lambda: store.reindex("k"), lambda: list(version.listing()),
                 ):
                     with self.assertRaises(bestore.Forked):
                         use()
@@ -105,9 +104,7 @@ class Forks(unittest.TestCase):
         is_held, is_over = threading.Event(), threading.Event()
         with bestore.open(64, 1, 100) as store, store.watch() as watch:
             def hold():
-                with contextlib.ExitStack() as locks:
-                    for commits in store._commits:
-                        locks.enter_context(commits._lock)
+                with store._store._lock:
                     is_held.set()
                     is_over.wait(20)
 

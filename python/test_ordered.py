@@ -1,4 +1,4 @@
-"""Pages in an index's order agree with the whole answer, sorted and cut, both in a store and in a shelf."""
+"""Pages in an index's order agree with the whole answer, sorted and cut, with writes in between."""
 
 import pickle
 import random
@@ -8,7 +8,6 @@ from dataclasses import replace
 
 import bestore
 from bestore.pages import Cursor, Order, Page, check_of
-from bestore.versions import Version
 
 KINDS = {"text": bestore.STRING, "i32": bestore.INT32, "i64": bestore.INT64, "u32": bestore.UINT32, "u64": bestore.UINT64}
 VALUES = {
@@ -21,24 +20,21 @@ VALUES = {
 QUERIES = ["i64>=-3", 'text=="*a*"', "u32<2", 'text>"a" && i64<2', "text!=ab && !(i32==0)", "other==1 || u64>1", "i64==7777"]
 
 
-def opened(volumes):
-    """Opens a store, or a shelf of this many volumes, with an index of each kind and nodes that are older than the indices."""
-    store = bestore.open() if volumes == 0 else bestore.open_shelf(volumes)
-    for volume in range(max(volumes, 1)):
-        store.apply(bestore.Batch().new_node().set(store.pin()._next_in(volume), "i64", 5), **({"volume": volume} if volumes else {}))
+def opened():
+    """Opens a store with an index of each kind and a node that is older than the indices."""
+    store = bestore.open()
+    store.apply(bestore.Batch().new_node().set(1, "i64", 5))
     for name, kind in KINDS.items():
         store.make_index(name, kind)
     store.make_index("other", bestore.INT64)
     return store
 
 
-def write(store, chance, volumes, count):
+def write(store, chance, count):
     """Makes a few writes that create and remove nodes and change values."""
     for _ in range(count):
-        volume = chance.randrange(max(volumes, 1))
         with store.pin() as version:
-            nodes = [node for node in version if bestore.volume_of(node) == volume]
-            fresh = version._next_in(volume)
+            nodes, fresh = list(version), version.next_node
         node = chance.choice(nodes + [fresh])
         batch = bestore.Batch()
         if node == fresh:
@@ -51,7 +47,7 @@ def write(store, chance, volumes, count):
         batch.set(node, "other", chance.randrange(3))
         if chance.randrange(12) == 0:
             batch.remove_node(node)
-        store.apply(batch, **({"volume": volume} if volumes else {}))
+        store.apply(batch)
 
 
 def keyed(name, value):
@@ -76,18 +72,19 @@ def cut(found, order, after, limit):
 
 
 class Random(unittest.TestCase):
-    def alike(self, volumes, seed):
+    def test_a_store(self):
         """Compares each page of all queries and orders with the whole answer in its version, with writes in between."""
+        seed = 5
         chance = random.Random(seed)
-        with opened(volumes) as store:
-            write(store, chance, volumes, 120)
+        with opened() as store:
+            write(store, chance, 120)
             for query in QUERIES:
                 for name in KINDS:
                     for descending in (False, True):
                         with self.subTest(query=query, by=name, descending=descending, seed=seed):
-                            self.pages(store, chance, volumes, query, Order(name, descending))
+                            self.pages(store, chance, query, Order(name, descending))
 
-    def pages(self, store, chance, volumes, query, order):
+    def pages(self, store, chance, query, order):
         after, more = None, True
         while more:
             limit = chance.choice([1, 3, 20, 100])
@@ -99,10 +96,8 @@ class Random(unittest.TestCase):
                 self.assertEqual((list(page), page.more), expected)
                 again = version.query_prepared(prepared, **asked)
                 self.assertEqual((again, again.cursor), (page, page.cursor))
-                whole = Version._page_of(version, prepared, order, after, limit)
-                self.assertEqual((whole, whole.more, whole.cursor), (page, page.more, page.cursor))
                 self.rows(version, query, page, asked)
-            write(store, chance, volumes, 2)
+            write(store, chance, 2)
             after, more = Cursor.parse(str(page.cursor)), page.more
 
     def rows(self, version, query, page, asked):
@@ -110,15 +105,6 @@ class Random(unittest.TestCase):
         rows = version.rows(query, names, most=most, **asked)
         self.assertEqual(rows, [(node, [version.get(node, name) for name in names]) for node in page])
         self.assertEqual((rows.more, rows.cursor), (page.more, page.cursor))
-
-    def test_a_store(self):
-        self.alike(0, 5)
-
-    def test_a_shelf(self):
-        self.alike(3, 6)
-
-    def test_a_shelf_of_one_volume(self):
-        self.alike(1, 7)
 
 
 class Parts(unittest.TestCase):
@@ -246,16 +232,6 @@ class Parts(unittest.TestCase):
                 version.query("when>0", by="size")
             self.assertEqual((covered.exception.missing, covered.exception.offset), ("when", 0))
 
-    def test_a_shelf_whose_indices_differ(self):
-        with bestore.open_shelf(2) as store:
-            store.make_index("size", bestore.INT64)
-            store.volume(0).make_index("when", bestore.INT64)
-            for _ in range(2):
-                with store.pin() as version, self.assertRaises(bestore.NoIndex) as raised:
-                    version.query("size>0", by="when")
-                self.assertEqual((raised.exception.volume, raised.exception.name), (1, "when"))
-                store.volume(1).make_index("when", bestore.STRING) if _ == 0 else None
-
     def test_what_is_no_page(self):
         with self.store.pin() as version:
             for limit in (0, -1):
@@ -295,19 +271,14 @@ class Parts(unittest.TestCase):
             self.assertEqual(version.query('"size" > "0"', by="size", after=cursor), [4, 3, 1, 5])
 
     def test_a_cursor_of_another_kind(self):
-        for store in (self.store, bestore.open_shelf(2)):
-            with store:
-                if store is not self.store:
-                    store.make_index("size", bestore.INT64)
-                    store.set(store.new_node(), "size", 5)
-                with store.pin() as version:
-                    cursor = version.query("size!=7", by="size", limit=1).cursor
-                store.remove_index("size")
-                store.make_index("size", bestore.STRING)
-                with store.pin() as version, self.assertRaises(bestore.BadCursor) as raised:
-                    version.query("size!=7", by="size", after=cursor)
-                self.assertEqual(str(raised.exception), 'the index "size" has kind STRING, and had kind INT64 when the cursor was '
-                                                        "made: begin without a cursor")
+        with self.store.pin() as version:
+            cursor = version.query("size!=7", by="size", limit=1).cursor
+        self.store.remove_index("size")
+        self.store.make_index("size", bestore.STRING)
+        with self.store.pin() as version, self.assertRaises(bestore.BadCursor) as raised:
+            version.query("size!=7", by="size", after=cursor)
+        self.assertEqual(str(raised.exception), 'the index "size" has kind STRING, and had kind INT64 when the cursor was '
+                                                "made: begin without a cursor")
 
 
 class Cursors(unittest.TestCase):
@@ -346,12 +317,12 @@ class Threads(unittest.TestCase):
     def test_pages_beside_writes(self):
         """Each page of a version shows that version while other passes write."""
         chance, ends = random.Random(9), threading.Event()
-        with opened(0) as store, store.another() as other:
-            write(store, chance, 0, 60)
+        with opened() as store, store.another() as other:
+            write(store, chance, 60)
 
             def write_on():
                 while not ends.is_set():
-                    write(other, random.Random(10), 0, 5)
+                    write(other, random.Random(10), 5)
 
             writer = threading.Thread(target=write_on)
             writer.start()

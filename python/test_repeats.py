@@ -1,7 +1,6 @@
 """Tests of writes that a client repeats until a server replies. BESTORED names the server program; without it, the tests are
 skipped."""
 
-import signal
 import threading
 import time
 import unittest
@@ -116,34 +115,6 @@ class Repeats(unittest.TestCase):
             self.start_again()
             self.assertEqual([closed.new_node(), refused.new_node()], [1, 2])
             del one, other
-
-    def test_indices_of_all_volumes(self):
-        """A batch that is written to all volumes has no token."""
-        with Server("--volumes", 2) as server, server.connect(repeat=PATIENCE) as store:
-            store.make_index("a", bestore.STRING)
-            store.apply(bestore.Batch().make_index("b", bestore.STRING), volume=1)
-            store.apply(bestore.Batch().make_index("c", bestore.STRING).remove_index("a"))
-            with store.pin() as version:
-                self.assertEqual((version.indices(), version.partial_indices()), ({"c": bestore.STRING}, {"b": [1]}))
-            store.remove_index("c")
-            self.assertEqual(store.apply(bestore.Batch().new_node())[1], [1])
-
-    def test_indices_that_may_be_made(self):
-        """A batch without a token is sent again only if nothing was written."""
-        with Server("--volumes", 2) as server, server.connect(repeat=PATIENCE) as store:
-            def start_again():
-                server.kill()
-                server.start()
-            server.process.send_signal(signal.SIGSTOP)  # so that it takes the batch and doesn't reply
-            timer = threading.Timer(0.2, start_again)
-            timer.start()
-            with self.assertRaises(connected.Disconnected) as lost:
-                store.make_index("a", bestore.STRING)
-            timer.join()
-            self.assertTrue(lost.exception.may_be_done)
-            store.make_index("a", bestore.STRING)  # by a new connection
-            with store.pin() as version:
-                self.assertEqual(version.indices(), {"a": bestore.STRING})
 
     def test_given_up(self):
         """The server isn't back in time."""

@@ -9,7 +9,7 @@ import weakref
 from unittest import mock
 
 import bestore
-from bestore import saved
+from bestore import local, saved
 from bestore._saved_file import File
 from saved_files import PATIENCE, Files, file_size, run, sizes, sql, three
 
@@ -153,7 +153,7 @@ class Kept(Files):
             self.assertFalse(store.is_due)
             fill(2)
             self.assertTrue(store.is_due and other.is_due)
-            with mock.patch.object(bestore.Batch, "to_bytes", side_effect=saved.DiskFull(self.path)):
+            with mock.patch.object(local.LocalVersion, "_listing_from", side_effect=saved.DiskFull(self.path)):
                 self.assertRaises(saved.DiskFull, store.compact)
             self.assertFalse(store.is_due)
             fill(17)
@@ -225,10 +225,9 @@ class Kept(Files):
         with saved.open(self.path, 64, passes=2, every=float("inf")) as store, store.another() as other:
             with self.assertRaises(bestore.NoPass):
                 other.another()
-        for opened in saved.open(self.path, 64), saved.open_shelf(os.path.join(self.folder, "shelf"), 2, 64):
-            with opened as store:
-                others = [store.another() for _ in range(62)]
-                self.assertRaises(bestore.NoPass, others[0].another)
+        with saved.open(self.path, 64) as store:
+            others = [store.another() for _ in range(62)]
+            self.assertRaises(bestore.NoPass, others[0].another)
 
 
 class Timed(Files):

@@ -8,7 +8,7 @@ from unittest import mock
 
 from bestore import saved
 from bestore._saved_checks import of_entry, of_token
-from saved_files import Files, remove_checksums, sql, three
+from saved_files import Files, sql, three, to_format
 
 CHANGES = 200  # bytes to change, each in its own copy of the file
 
@@ -129,18 +129,18 @@ class Damaged(Files):
 
     def test_first_format(self) -> None:
         three(self.path)
-        remove_checksums(self.path)
+        to_format(self.path, 1)
         sql(self.path, "DELETE FROM about WHERE what = 'file'")
         sql(self.path, "CREATE TABLE token (number INTEGER PRIMARY KEY, token TEXT NOT NULL, nodes BLOB NOT NULL)",
             "INSERT INTO token VALUES (4, 'one', x'0300000000000000')")
         self.assertEqual(self.nodes(), [1, 2, 3])
-        self.assertEqual(sql(self.path, "PRAGMA user_version"), [(2,)])
+        self.assertEqual(sql(self.path, "PRAGMA user_version"), [(3,)])
         self.assertEqual(sql(self.path, "SELECT checksum FROM token"), [(of_token(4, b"one", b"\3" + bytes(7)),)])
         self.assertEqual(sql(self.path, "SELECT count(*) FROM state WHERE checksum IS NULL"), [(0,)])
 
     def test_first_format_on_a_full_disk(self) -> None:
         three(self.path)
-        remove_checksums(self.path)
+        to_format(self.path, 1)
         full: Optional[saved.SavedError] = saved.DiskFull(self.path)
         with mock.patch("bestore._saved_file.File.write_state", side_effect=full), saved.open(self.path, 64) as store:
             store.new_node()

@@ -14,11 +14,11 @@ from contextlib import contextmanager
 from unittest import mock
 
 import bestore
-from bestore import saved
+from bestore import local, saved
 from bestore._saved_errors import is_of_writing, of_sqlite
 from bestore._saved_file import File
 from bestore._saved_line import Line, Turn
-from saved_files import Files, remove_checksums, run, sql, three
+from saved_files import Files, run, sql, three, to_format
 
 
 def four_writers(store):
@@ -53,7 +53,7 @@ class Refused(Files):
         three(self.path)
         sql(self.path, "PRAGMA user_version = 7")
         newer = self.refusal()
-        self.assertEqual((type(newer), newer.path, newer.version, newer.known), (saved.Newer, self.path, 7, 2))
+        self.assertEqual((type(newer), newer.path, newer.version, newer.known), (saved.Newer, self.path, 7, 3))
 
     def test_no_file(self):
         for path in (os.path.join(self.folder, "missing", "file"), self.folder):
@@ -118,7 +118,7 @@ class Refused(Files):
         ]:
             with self.subTest(change):
                 three(self.path)
-                remove_checksums(self.path)
+                to_format(self.path, 1)
                 sql(self.path, change)
                 differs = self.refusal()
                 self.assertEqual(
@@ -133,41 +133,19 @@ class Refused(Files):
         self.assertEqual((type(small), small.entry), (saved.TooLarge, 4))
         self.assertIsInstance(small.__cause__, bestore.CommitsSpent)
 
-    def fill(self):
-        """Fills a store of 64 pages until no page is free. Rebuilding its state takes more pages than the store had."""
+    def test_too_few_pages(self):
+        """A full store opens again with as many pages, but not with much fewer."""
         with saved.open(self.path, 64, every=3600) as store, self.assertRaises(bestore.Full):
             store.make_index("size", bestore.INT64)
             while True:
                 node = store.new_node()
                 store.apply(bestore.Batch().set(node, "size", node * 7919 % 1000).set(node, "name", f"file number {node}"))
-        saved.open(self.path, 64).close()
-
-    def test_too_few_pages(self):
-        """The error says how many are enough, from now on."""
-        self.fill()
-        small = self.refusal()
-        self.assertEqual((type(small), type(small.__cause__)), (saved.TooLarge, bestore.Full))
-        self.assertTrue(str(small).endswith(f"the file needs more pages than the store has; open it with pages={small.pages} or more"))
-        self.assertIsInstance(self.refusal(pages=small.pages * 4 // 5), saved.TooLarge)
-        for _ in range(3):
-            with saved.open(self.path, small.pages) as store, store.pin() as version:
+        for _ in range(2):
+            small = self.refusal(pages=32)
+            self.assertEqual((type(small), type(small.__cause__)), (saved.TooLarge, bestore.Full))
+            self.assertTrue(str(small).endswith("the file needs more pages than the store has; open it with more"))
+            with saved.open(self.path, 64) as store, store.pin() as version:
                 self.assertGreater(len(version.query("size>=0")), 100)
-
-    def test_no_store_has_enough_pages(self):
-        self.fill()
-        opened, needed = saved._local.open, self.refusal().pages
-
-        def limited(pages, *limits):
-            if pages > most:
-                raise bestore.BadLimits()
-            return opened(pages, *limits)
-        with mock.patch.object(saved._local, "open", limited):
-            for most in (needed, needed + 1):
-                self.assertLessEqual(self.refusal().pages, most)
-            most = needed * 4 // 5 - 1
-            small = self.refusal()
-        self.assertIsNone(small.pages)
-        self.assertTrue(str(small).endswith("the file needs more pages than the store has, and than a store can have"), small)
 
     def test_errors_of_older_pythons(self):
         """Before Python 3.11, an SQLite error has only a message."""
@@ -393,7 +371,7 @@ class Failures(Files):
         """If a state can't be written, the file is unchanged."""
         with saved.open(self.path, 64) as store:
             store.new_nodes(3)
-            with mock.patch.object(bestore.Batch, "to_bytes", side_effect=saved.DiskFull(self.path)):
+            with mock.patch.object(local.LocalVersion, "_listing_from", side_effect=saved.DiskFull(self.path)):
                 with self.assertRaises(saved.DiskFull):
                     store.compact()
             store.new_node()

@@ -2,7 +2,7 @@
 
 import bestore
 from bestore import saved
-from saved_files import Files, remove_checksums, sql, three
+from saved_files import Files, sql, three, to_format
 
 LAST = 2**63 - 1
 
@@ -10,7 +10,7 @@ LAST = 2**63 - 1
 class Numbers(Files):
     def has_entries(self, number: int) -> None:
         """Makes the file say that its state includes the entries up to this number."""
-        remove_checksums(self.path)
+        to_format(self.path, 1)
         sql(self.path, f"UPDATE about SET number = {number} WHERE what = 'entries'")
 
     def test_writes_end(self) -> None:
@@ -21,19 +21,18 @@ class Numbers(Files):
             for number in (LAST - 1, LAST):
                 self.assertEqual(store.number_in_file(store.apply(bestore.Batch().new_node())[0]), number)
             self.assertRaises(bestore.CommitsSpent, store.new_node)
-        for _ in range(3):
-            with saved.open(self.path, 64) as store:
-                with store.pin() as version:
-                    self.assertEqual(version.nodes(), [1, 2, 3, 4, 5])
-                self.assertRaises(bestore.CommitsSpent, store.new_node)
-                store.compact()
+        with saved.open(self.path, 64) as store:
+            with store.pin() as version:
+                self.assertEqual(version.nodes(), [1, 2, 3, 4, 5])
+            self.assertRaises(bestore.CommitsSpent, store.new_node)
+        self.assertEqual(self.refusal().place, f"entry {LAST}")
 
     def test_limit_of_the_caller(self) -> None:
         """A lower limit from the caller still applies."""
         three(self.path)
         saved.open(self.path, 64).close()
         self.has_entries(LAST - 2)
-        with saved.open(self.path, 64, commits=2) as store:
+        with saved.open(self.path, 64, commits=1) as store:
             store.new_node()
             self.assertRaises(bestore.CommitsSpent, store.new_node)
 

@@ -16,7 +16,7 @@ from contextlib import suppress
 import bestore
 from bestore import saved
 from bestore._library import _path
-from saved_files import HERE, PATIENCE, Files, run, say, three
+from saved_files import HERE, PATIENCE, Files, run, say, sql, three
 
 WRITERS, ROUNDS = 3, 6  # for the processes that are killed
 OPENERS, OPENINGS = 4, 40  # for the processes that open a file at the same moment
@@ -150,7 +150,8 @@ class Processes(Files):
         return keys + self.ended(child)[1]
 
     def keys(self):
-        with saved.open(self.path, 1024) as store, store.pin() as version:
+        # As many pages as the killed process has: on a busy machine, it makes thousands of writes.
+        with saved.open(self.path) as store, store.pin() as version:
             attributes = {node: version.attributes(node) for node in version}
         self.assertTrue(all(it["node"] == node for node, it in attributes.items()))
         return sorted(it["key"] for it in attributes.values())
@@ -216,6 +217,9 @@ class Processes(Files):
         with saved.open(self.path, 64) as store:
             store.remove_node(2)
             store.apply(bestore.Batch().set(1, "é", "ü").set(1, "raw", b"\0\xff").set(3, "n", bestore.UInt64(2**64 - 1)))
+            store.apply(bestore.Batch().set(1, "late", 5).make_index("late", bestore.INT64).set(3, "late", 6))
+            store.compact()  # so that Rust builds the store from the listing that Python wrote
+            store.unset(3, "n")
             with store.pin() as version:
                 before = {node: version.attributes(node, kinds=True) for node in version}
         child = subprocess.Popen(
@@ -227,7 +231,8 @@ class Processes(Files):
         self.ended(child)
         with saved.open(self.path, 64) as store, store.pin() as version:
             after = {node: version.attributes(node, kinds=True) for node in version}
-            self.assertEqual(version.query("size>0"), [1, 3])
+            self.assertEqual((version.query("size>0"), version.query("late>0")), ([1, 3], [3]))
+        self.assertEqual(sql(self.path, "PRAGMA user_version"), [(3,)])
         self.assertEqual(after, {**before, **dict.fromkeys(range(4, 104), {})})
 
 

@@ -1,4 +1,4 @@
-"""Tests of watches and of waiting for a commit: in this process, across several volumes, saved in a file, and with a server,
+"""Tests of watches and of waiting for a commit: in this process, saved in a file, and with a server,
 which BESTORED names."""
 
 import copy
@@ -79,11 +79,11 @@ class Watches(Stores):
             self.assertIsNone(watch.wait(0))
             self.later(self.other.new_node)
             self.assertEqual((watch.wait(1e300), watch.wait(0)), (([], []), None))
-            self.assertEqual((repr(watch), self.store.reach(self.numbers(), PATIENCE)), (
-                f"<watch of each commit at commit {watch.commit}>", self.numbers()))
+            self.assertEqual((repr(watch), self.store.reach(self.entries(), PATIENCE)), (
+                f"<watch of each commit at commit {watch.commit}>", self.entries()))
 
-    def numbers(self):
-        return tuple(status.entries for status in self.other.statuses())
+    def entries(self):
+        return self.other.status().entries
 
     def test_loop(self):
         self.sized(9)
@@ -109,11 +109,10 @@ class Watches(Stores):
             self.assertEqual(fault.exception.missing, "size")
 
     def test_reach(self):
-        expected = [number + 2 for number in self.numbers()]
-        self.later(lambda: [self.other.apply(bestore.Batch().new_node(), volume=volume)
-                            for volume in range(self.store.volumes) for _ in range(2)])
-        self.assertEqual(self.store.reach(expected, PATIENCE), tuple(expected))
-        self.assertRaises(bestore.NotReached, self.store.reach, [number + 1 for number in expected], 0.01)
+        expected = self.entries() + 2
+        self.later(lambda: [self.other.new_node() for _ in range(2)])
+        self.assertEqual(self.store.reach(expected, PATIENCE), expected)
+        self.assertRaises(bestore.NotReached, self.store.reach, expected + 1, 0.01)
 
     def test_copies(self):
         """A copy of a handle would close what the original still uses, so there are none."""
@@ -138,10 +137,10 @@ class OfThisProcess(Watches):
         with self.store.watch("size>=5") as watch, mock.patch.object(local.LocalPass, "pin", autospec=True,
                                                                      side_effect=local.LocalPass.pin) as pin:
             self.assertIsNone(watch.wait(0.2))
-            self.assertLessEqual(pin.call_count, 3 * self.store.volumes)
+            self.assertLessEqual(pin.call_count, 3)
         with mock.patch.object(local.LocalPass, "status", autospec=True, side_effect=local.LocalPass.status) as status:
-            self.assertRaises(bestore.NotReached, self.store.reach, [2**40] * self.store.volumes, 0.2)
-            self.assertLessEqual(status.call_count, 3 * self.store.volumes)
+            self.assertRaises(bestore.NotReached, self.store.reach, 2**40, 0.2)
+            self.assertLessEqual(status.call_count, 3)
 
     def written_after(self, owner, check):
         """Writes once, through the other pass, directly after this method of a class has checked the store."""
@@ -151,7 +150,7 @@ class OfThisProcess(Watches):
             found = original(*arguments)
             while left:
                 left.pop()
-                self.other.apply(bestore.Batch().new_node(), volume=0)
+                self.other.new_node()
             return found
         return mock.patch.object(owner, check, checked)
 
@@ -160,8 +159,8 @@ class OfThisProcess(Watches):
         begun = time.monotonic()
         with self.store.watch() as watch, self.written_after(watches.LocalWatch, "_look"):
             self.assertEqual(watch.wait(PATIENCE), ([], []))
-        expected = self.numbers()[0] + 1, *self.numbers()[1:]
-        with self.written_after(type(self.store), "statuses"):
+        expected = self.entries() + 1
+        with self.written_after(local.LocalPass, "status"):
             self.assertEqual(self.store.reach(expected, PATIENCE), expected)
         self.assertLess(time.monotonic() - begun, PATIENCE / 2)
 
@@ -198,7 +197,7 @@ class OfThisProcess(Watches):
                 while not watch.commit >= last:
                     watch.wait(PATIENCE)
                 seen.append(watch.commit)
-        begun, last = threading.Barrier(9), sum(self.numbers()) + 200
+        begun, last = threading.Barrier(9), self.entries() + 200
         running = [threading.Thread(target=follow, args=(user,)) for user in passes]
         for thread in running:
             thread.start()
@@ -223,11 +222,6 @@ class InProcess(OfThisProcess, unittest.TestCase):
             self.assertEqual(watch.wait(PATIENCE), ([], []))
 
 
-class OverVolumes(OfThisProcess, unittest.TestCase):
-    def opened(self):
-        return bestore.open_shelf(3, 256)
-
-
 class Kept(OfThisProcess, unittest.TestCase):
     def opened(self):
         folder = tempfile.mkdtemp(dir=MEMORY)
@@ -241,16 +235,6 @@ class OfServer(Watches, unittest.TestCase):
         server = Server("--pages", 256)
         self.addCleanup(server.close)
         return server.connect()
-
-
-class OfPassesOfAServer(OfServer):
-    """A shelf of passes whose stores can't wake it checks again from time to time."""
-
-    def opened(self):
-        servers = [Server("--pages", 256) for _ in range(2)]
-        for server in servers:
-            self.addCleanup(server.close)
-        return bestore.Shelf([server.connect() for server in servers])
 
 
 del Watches, OfThisProcess

@@ -68,8 +68,9 @@ CLIENT = """
                 raise AssertionError("no query")
             hint, = version.hints("!(size<=1.5) || MAIL:from>1.5")
             assert (hint.name, hint.value, hint.kind, hint.offset, hint.is_number) == ("size", "1.5", bestore.INT64, 2, False)
-            again = bestore.Batch(operation for batch in version.state() for operation in batch)
-            assert list(bestore.Batch.from_bytes(again.to_bytes())) == list(again)
+            assert next(version.listing())[:4] == b"BEV\1"
+            again = bestore.Batch([bestore.NewNode(), bestore.SetAttribute(1, "a", "b")])
+            assert bestore.Batch.from_bytes(again.to_bytes()) == again
             try:
                 version.query("when>5")
             except bestore.NotCovered as error:
@@ -82,7 +83,7 @@ CLIENT = """
             store.apply(bestore.Batch().remove_node(99))
         except bestore.NoNode as error:
             assert error.nodes == (99,)
-    for call in (bestore.open, lambda: bestore.prepare("size>5"), lambda: bestore.open_shelf(2)):
+    for call in (bestore.open, bestore.Builder, lambda: bestore.prepare("size>5")):
         try:
             call()
         except ImportError as error:

@@ -34,6 +34,8 @@ options=()
 if compgen -G "$debian/libc-*" >/dev/null; then
     options=(--config 'source.crates-io.replace-with="debian"' --config "source.debian.directory=\"$debian\"")
 fi
+# The client for C has a folder of its own: builds of the whole workspace, which other tests may begin at any time, put SQLite into it.
+client=$CARGO_TARGET_DIR/client
 work=$(mktemp -d)
 trap 'rm -rf "$work"' EXIT
 
@@ -83,18 +85,20 @@ case $only in
         exit
         ;;
     --build)
-        run "Rust, built" build --workspace --features $features
+        run "Rust, built" build --workspace --exclude bestore-client-c --features $features
+        CARGO_TARGET_DIR=$client run "the client for C, built" build -p bestore-client-c
         exit
         ;;
     --compile)
         run "Rust, compiled" test --workspace --features $features --no-run
+        CARGO_TARGET_DIR=$client run "the client for C, its release compiled" build --release -p bestore-client-c --lib --example costs
         run "Rust, compiled without features" test -p bestore-sys -p bestore-types -p bestore --lib --tests --no-run
         exit
         ;;
 esac
 run "Rust" test --workspace --features $features -- --show-output
 run "Rust, without features" test -p bestore-sys -p bestore-types -p bestore --lib --tests
-for example in first mailbox newest jobs shelf; do
+for example in first mailbox newest jobs; do
     run "Rust, example $example" run -q -p bestore --example $example
 done
 for expected in "run 1" "run 2"; do
@@ -126,7 +130,7 @@ else
     export BESTORED
     if ! (cd ../python && timeout -k 10 1500 env BESTORE_LIBRARY="$BESTORE_LIB_DIR/libbestore.so" PYTHONDONTWRITEBYTECODE=1 \
         python3 -W error -m unittest test_batches_alike test_connect test_connected_ends test_connected_pages test_connected_programs \
-        test_connected_queries test_live test_repeats test_shelf test_watches test_without_library \
+        test_connected_queries test_live test_repeats test_watches test_without_library \
         test_saved_processes.Processes.test_rust) >"$work/said" 2>&1; then
         cat "$work/said" >&2
         echo "Python, over the server: failed, or not at its end after 1500 seconds" >&2
@@ -147,7 +151,7 @@ else
     if ! command -v Xvfb >/dev/null || ! python3 -c 'import tkinter' 2>/dev/null; then
         echo "the query window, over the server: skipped, there is no Xvfb or python3 has no Tk"
     elif ! (cd ../python && timeout -k 10 1500 env BESTORE_LIBRARY="$BESTORE_LIB_DIR/libbestore.so" PYTHONDONTWRITEBYTECODE=1 \
-        PYTHONPATH=.:window_tests python3 -W error -m unittest test_asker.OverServer test_window.OverServer test_window.OverVolumes \
+        PYTHONPATH=.:window_tests python3 -W error -m unittest test_asker.OverServer test_window.OverServer \
         test_sixty_thousand.SixtyThousand.test_of_a_server) >"$work/said" 2>&1; then
         cat "$work/said" >&2
         echo "the query window, over the server: failed, or not at its end after 1500 seconds" >&2
@@ -155,6 +159,18 @@ else
     else
         echo "the query window, over the server: ok, $(sed -n 's/^Ran \([0-9]* tests\) in .*/\1/p' "$work/said")"
     fi
+fi
+
+# Tests the client for C and C++ with the server that was built above.
+if ! command -v cc >/dev/null; then
+    echo "the client for C: skipped, there is no cc"
+else
+    CARGO_TARGET_DIR=$client run "the client for C, built" build -p bestore-client-c
+    CARGO_TARGET_DIR=$client run "the client for C, its release built" build --release -p bestore-client-c --lib --example costs
+    # A stable compiler takes this option too if it is told to. Debian's proc-macro2 is too old for a nightly one.
+    RUSTC_BOOTSTRAP=1 RUSTFLAGS="-Zsanitizer=address" CARGO_TARGET_DIR=$client/address \
+        run "the client for C, built with AddressSanitizer" build -p bestore-client-c --target "$(rustc -vV | sed -n 's/^host: //p')"
+    bestore-client-c/test.sh "$client" "$CARGO_TARGET_DIR/debug/bestored"
 fi
 
 # Checks what the clients of killed servers have seen, with scripts that share no code with the server.

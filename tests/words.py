@@ -34,7 +34,7 @@ REFUSED = {
 }
 PASSED = {
     "low/src/others.rt": "fn understands_household(retold: u8, withstand: u8, bestowed: u8) {}\n",
-    "low/src/kit.rt": "eqb_tells; leb_tells; handle_tells; mut_Tells; dones; least;\n",
+    "low/src/kit.rt": "eqb_tells; leb_tells; handle_tells; mut_Tells; shr_Tells; dones; least;\n",
     "low/proofs/Kept.antt": "pub in_ok-dones : length-least\n",
     "low/README.md": "What `told` told.\n",
     "bestore_c/src/usage.rt": "let holder = 1;\n",

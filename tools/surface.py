@@ -24,7 +24,7 @@ HEADER = "include/bestore.h"
 HELPERS = ("include/bestore_helpers.h", "include/bestore_text.h")
 BINDINGS = "rust/bestore-sys/src/lib.rs"
 ABI = "c/abi/libbestore.so.0.c"
-MANUAL = "docs/bestore.3"
+MANUALS = {"docs/bestore.3": [], "docs/bestore_client.3": ["client"]}
 END = re.compile(r"^[^\w\n]*surface\.toml: end[^\w\n]*$", re.M)
 VERSION = re.compile(r"^/\* Version ([\d.]+)\. \*/$", re.M)
 
@@ -138,13 +138,13 @@ def with_abi(surface: Surface, text: str, calls: dict[str, str], helpers: dict[s
     return text.replace("\nint main(void)", "".join(f"{line}\n" for line in added) + "\nint main(void)")
 
 
-def manual() -> str:
-    """Returns the manual page that the current header gives."""
-    return subprocess.run([sys.executable, ROOT / "c/manual.py"], check=True, stdout=subprocess.PIPE, text=True).stdout
+def manual(words: list[str]) -> str:
+    """Returns a manual page that the current headers give."""
+    return subprocess.run([sys.executable, ROOT / "c/manual.py", *words], check=True, stdout=subprocess.PIPE, text=True).stdout
 
 
 def wanted_files(surface: Surface) -> dict[str, str]:
-    """Returns what each file should contain, except for the manual page, which is generated from the header."""
+    """Returns what each file should contain, except for the manual pages, which are generated from the headers."""
     wanted = {path: render(surface) for path, render in FILES.items()}
     for (path, name), render in REGIONS.items():
         text = wanted.get(path) or (ROOT / path).read_text()
@@ -185,10 +185,10 @@ def run(checks: bool) -> None:
     wanted = wanted_files(surface)
     act = differs if checks else write
     count = sum(act(path, text) for path, text in wanted.items())
-    count += act(MANUAL, manual())
+    count += sum(act(path, manual(words)) for path, words in MANUALS.items())
     if checks and count:
         raise Wrong(f"{count} files differ from surface.toml: run tools/surface.py")
-    print(f"surface: {len(REGIONS)} regions and {len(FILES) + 2} files have what surface.toml says")
+    print(f"surface: {len(REGIONS)} regions and {len(FILES) + 1 + len(MANUALS)} files have what surface.toml says")
 
 
 def main() -> None:

@@ -10,6 +10,7 @@ from typing import Any, Iterable, Optional, TypeVar
 ROOT = Path(__file__).resolve().parent.parent
 TABLE = ROOT / "surface.toml"
 MOST_OF_A_TEXT = 90
+FIRST_OF_CLIENT = 256
 
 
 class Wrong(Exception):
@@ -113,6 +114,27 @@ class ServerFault:
     about: str = ""
     protocol: Optional[str] = None
     python: bool = True
+    number: Optional[int] = None
+    c: str = ""
+
+    @property
+    def constant(self) -> str:
+        return f"BEC_{self.c}"
+
+
+@dataclass(frozen=True)
+class ClientFault:
+    """An error that the client for C and C++ finds itself."""
+
+    number: int
+    c: str
+    klass: str
+    what: str
+    advice: str = ""
+
+    @property
+    def constant(self) -> str:
+        return f"BEC_{self.c}"
 
 
 @dataclass(frozen=True)
@@ -132,6 +154,7 @@ class Surface:
     kinds: list[Kind]
     faults: list[Fault]
     server_faults: list[ServerFault]
+    client_faults: list[ClientFault]
     operations: list[Numbered]
     items: list[Numbered]
     forms: list[Numbered]
@@ -158,6 +181,11 @@ class Surface:
         return [*self.faults, *self.server_faults]
 
     @property
+    def numbered_server_faults(self) -> list[ServerFault]:
+        """The server's errors that the client for C and C++ knows."""
+        return [it for it in self.server_faults if it.number is not None]
+
+    @property
     def calls(self) -> list[str]:
         """The library's calls, which are proved."""
         return [call for calls in self.exports.values() for call in calls]
@@ -174,7 +202,7 @@ class Surface:
         return {call: version for version, calls in tables for call in calls}
 
 
-Row = TypeVar("Row", Class, Kind, Fault, ServerFault, Numbered)
+Row = TypeVar("Row", Class, Kind, Fault, ServerFault, ClientFault, Numbered)
 
 
 def rows_of(kind: type[Row], part: str, found: Iterable[dict[str, Any]]) -> list[Row]:
@@ -208,13 +236,26 @@ def once(part: str, what: str, values: Iterable[object]) -> None:
 def check_texts(surface: Surface) -> None:
     """Checks the classes and the errors' texts."""
     classes = {it.name for it in surface.classes}
-    for it in surface.all_faults:
+    for it in [*surface.all_faults, *surface.client_faults]:
+        name = it.c if isinstance(it, ClientFault) else it.name
         if it.klass not in classes:
-            raise Wrong(f"surface.toml: {it.name} has the class {it.klass!r}, and the classes are {', '.join(sorted(classes))}")
+            raise Wrong(f"surface.toml: {name} has the class {it.klass!r}, and the classes are {', '.join(sorted(classes))}")
         for text in (it.what, it.advice):
             if len(text) > MOST_OF_A_TEXT or text.endswith(".") or not text.isascii() or '"' in text:
-                raise Wrong(f"surface.toml: a text of {it.name} has up to {MOST_OF_A_TEXT} characters of ASCII, no quotes and "
+                raise Wrong(f"surface.toml: a text of {name} has up to {MOST_OF_A_TEXT} characters of ASCII, no quotes and "
                             f"no full stop at its end, and this one is {text!r}")
+
+
+def check_numbers(surface: Surface) -> None:
+    """Checks the errors' numbers. Those of the client for C and C++ are greater than any that the library will have."""
+    of_client = [*surface.client_faults, *surface.numbered_server_faults]
+    once("errors", "number", [*(it.number for it in surface.faults), *(it.number for it in of_client)])
+    once("errors", "name in C", (it.constant for it in of_client))
+    for it in of_client:
+        if it.number is None or it.number < FIRST_OF_CLIENT or not it.c:
+            raise Wrong(f"surface.toml: an error of the client for C has a name and a number from {FIRST_OF_CLIENT} on, not {it.number}")
+    if any(it.number >= FIRST_OF_CLIENT for it in surface.faults):
+        raise Wrong(f"surface.toml: the library's errors have numbers below {FIRST_OF_CLIENT}")
 
 
 def check(surface: Surface) -> None:
@@ -226,7 +267,7 @@ def check(surface: Surface) -> None:
             raise Wrong(f"surface.toml: an integer has sign, bits and python_class, and {kind.name} only some of them")
     once("kinds", "number", (it.number for it in surface.kinds))
     once("kinds", "code", (it.code for it in surface.kinds))
-    once("errors", "number", (it.number for it in surface.faults))
+    check_numbers(surface)
     once("errors", "name", (it.name for it in surface.all_faults))
     for part, rows in (("operations", surface.operations), ("items", surface.items), ("forms", surface.forms)):
         if [it.number for it in rows] != list(range(len(rows))):
@@ -247,6 +288,7 @@ def load(path: Path = TABLE) -> Surface:
         kinds=rows_of(Kind, "kinds", found["kinds"]),
         faults=rows_of(Fault, "errors", found["errors"]),
         server_faults=rows_of(ServerFault, "server_errors", found["server_errors"]),
+        client_faults=rows_of(ClientFault, "client_errors", found["client_errors"]),
         operations=rows_of(Numbered, "operations", named("c", found["operations"])),
         items=rows_of(Numbered, "items", named("c", found["items"])),
         forms=rows_of(Numbered, "forms", named("c", found["forms"])),

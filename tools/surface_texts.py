@@ -4,7 +4,7 @@ from __future__ import annotations
 import textwrap
 from typing import Callable, Iterable
 
-from surface_table import Class, Fault, Kind, Numbered, ServerFault, Surface
+from surface_table import Class, ClientFault, Fault, Kind, Numbered, ServerFault, Surface
 
 COLUMNS = 100
 RUST_WIDTH = 120
@@ -115,6 +115,11 @@ def cpp_kind_names(surface: Surface) -> str:
     return lines(f'    case Kind::{it.tool}:\n        return "{it.tool}";' for it in surface.kinds)
 
 
+def cpp_no_value(surface: Surface) -> str:
+    it = next(it for it in surface.faults if it.c == "NO_VALUE")
+    return f'    throw Refusal({{{it.constant}, "{it.constant}", BES_CLASS_{it.klass.upper()}}}, "{escaped(it.text)}");\n'
+
+
 def rust_constants(surface: Surface) -> str:
     def constant(name: str, value: str) -> str:
         return f"    {name} = {value};"
@@ -212,6 +217,38 @@ def rust_error_names(surface: Surface) -> str:
         text = f"{it.what}; {it.advice}" if it.advice else it.what
         return f"    /// {sentence(text)}\n    {it.name} = {number}, {capital(it.klass)}, \"{escaped(text)}\";"
     return lines(map(row, surface.all_faults))
+
+
+def client_faults(surface: Surface) -> list[ClientFault | ServerFault]:
+    """Returns the errors that the client for C and C++ has besides the library's."""
+    return [*surface.client_faults, *surface.numbered_server_faults]
+
+
+def text_of(it: ClientFault | ServerFault) -> str:
+    """Returns what was wrong and what would be right."""
+    return f"{it.what}; {it.advice}" if it.advice else it.what
+
+
+def client_numbers(surface: Surface) -> str:
+    return lines(f"/// {sentence(text_of(it))}\npub const {it.constant}: u32 = {it.number};" for it in client_faults(surface))
+
+
+def client_meanings(surface: Surface) -> str:
+    def row(it: ClientFault | ServerFault) -> str:
+        return (f"    Meaning {{\n        code: {it.constant},\n        class: Class::{capital(it.klass)},\n"
+                f'        name: "{it.constant}\\0",\n        text: "{escaped(text_of(it))}\\0",\n    }},')
+    return lines(map(row, client_faults(surface)))
+
+
+def client_library_meanings(surface: Surface) -> str:
+    def row(it: Fault) -> str:
+        return (f"    Meaning {{\n        code: {it.number},\n        class: Class::{capital(it.klass)},\n"
+                f'        name: "{it.constant}\\0",\n        text: "{escaped(it.text)}\\0",\n    }},')
+    return lines(map(row, surface.faults))
+
+
+def client_names(surface: Surface) -> str:
+    return lines(f"        ErrorName::{it.name} => {it.constant}," for it in surface.numbered_server_faults)
 
 
 def python_meaning(it: Fault | ServerFault) -> str:
@@ -408,11 +445,13 @@ REGIONS: dict[tuple[str, str], Callable[[Surface], str]] = {
     ("c/library/kinds.h", "kinds"): lambda it: cases(it.kinds),
     ("c/library/kinds.h", "bits"): c_bits,
     ("c/library/kinds.h", "kinds with a sign"): lambda it: cases(kind for kind in it.kinds if kind.sign),
-    ("include/bestore_helpers.h", "setters of a batch"): c_setters("bes_batch_set_", "bes_batch *batch", "bes_batch_add(batch", ""),
+    ("include/bestore_batch.h", "setters of a batch"): c_setters("bes_batch_set_", "bes_batch *batch", "bes_batch_add(batch", ""),
     ("include/bestore_helpers.h", "setters"): c_setters("bes_set_", "bes_pass *pass", "bes_apply_one(pass", ", NULL"),
+    ("include/bestore_client_helpers.h", "setters"): c_setters("bec_set_", "bec_client *client", "bec_apply_one(client", ", NULL"),
     ("include/bestore_text.h", "never true"): c_never_true,
     ("include/bestore_values.hpp", "kinds"): cpp_kinds,
     ("include/bestore_values.hpp", "names of kinds"): cpp_kind_names,
+    ("include/bestore_values.hpp", "error of a number"): cpp_no_value,
     ("rust/bestore-types/src/sys.rs", "constants"): rust_constants,
     ("rust/bestore-types/src/class.rs", "classes"): rust_classes,
     ("rust/bestore-types/src/class.rs", "errors"): rust_meanings,
@@ -426,6 +465,10 @@ REGIONS: dict[tuple[str, str], Callable[[Surface], str]] = {
     ("rust/bestore-client/src/wire/value.rs", "names of kinds"): rust_kind_names,
     ("rust/bestore-client/src/wire/value.rs", "list of kinds"): rust_kind_list,
     ("rust/bestore-client/src/wire/error_name.rs", "errors"): rust_error_names,
+    ("rust/bestore-client-c/src/numbers.rs", "errors"): client_numbers,
+    ("rust/bestore-client-c/src/meanings.rs", "errors"): client_meanings,
+    ("rust/bestore-client-c/src/meanings.rs", "errors of the library"): client_library_meanings,
+    ("rust/bestore-client-c/src/meanings.rs", "errors of the server"): client_names,
     ("python/bestore/errors.py", "exceptions"): python_exceptions,
     ("python/bestore/_connected_errors.py", "exceptions"): python_server_exceptions,
     ("python/bestore/__init__.py", "exceptions"): python_imports,

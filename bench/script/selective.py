@@ -133,6 +133,25 @@ class Query:
     is_contradiction: bool
 
 
+def common_queries() -> List[Query]:
+    """Returns the queries whose costs docs/QUERIES.md lists, for 10,000 nodes."""
+    middle, middle_where = "size>=50000 && size<51000", "size >= 50000 AND size < 51000"
+    newest = Form("descending", "size", PAGE)
+    forms = [("size==50000", "size = 50000", Form("plain")),
+             (middle, middle_where, Form("plain")),
+             ('name=="report-draft-*"', "name GLOB 'report-draft-*'", Form("plain")),
+             (f"flag==0 && {middle}", f"flag = 0 AND {middle_where}", Form("plain")),
+             (f'kind=="kind/3" && {middle}', f"kind = 'kind/3' AND {middle_where}", Form("plain")),
+             ("flag==1 || size<1000", "flag = 1 OR size < 1000", Form("plain")),
+             ("tenth!=3", "tenth <> 3", Form("plain")),
+             ('name=="*-draft-*"', "name GLOB '*-draft-*'", Form("plain")),
+             ("flag==0", "flag = 0", newest),
+             ('kind=="kind/3" && size>=0', "kind = 'kind/3' AND size >= 0", newest),
+             ("flag==1 && tenth==3", "flag = 1 AND tenth = 3", Form("any", room=1)),
+             ("flag==0", "flag = 0", Form("first", room=PAGE))]
+    return [Query([text], where, form, False) for text, where, form in forms]
+
+
 def sql_of(comparison: Comparison) -> str:
     if isinstance(comparison.value, int):
         return f"{comparison.name} {_sign(comparison)} {comparison.value}"

@@ -2,19 +2,8 @@
  * and the values of its constants. tests/abi compiles this file with the header and links it with the library. When the library
  * gains a call or a constant, a line may be added. If a line must be changed or removed, the library needs a new soname, and
  * therefore a new file. */
+#include "abi.h"
 #include "bestore.h"
-
-#define CALL(name, ...) \
-    uint32_t name(__VA_ARGS__); \
-    static uint32_t (*const use_##name)(__VA_ARGS__) __attribute__((used)) = name;
-#define HELPER(type, name, ...) \
-    type name(__VA_ARGS__); \
-    static type (*const use_##name)(__VA_ARGS__) __attribute__((used)) = name;
-#define SIZE(type, bytes) _Static_assert(sizeof(type) == (bytes), "the size of " #type);
-#define FIELD(type, field, place, kind) \
-    _Static_assert(offsetof(type, field) == (place), "the place of " #type "." #field); \
-    _Static_assert(_Generic(((type *)0)->field, kind: 1, default: 0), "the type of " #type "." #field);
-#define NUMBER(name, value) _Static_assert(name == (value), "the number of " #name);
 
 /* Version 0.1.0. */
 CALL(bes_open, uint64_t, uint64_t, uint64_t, bes_pass *)
@@ -276,6 +265,7 @@ HELPER(bool, bes_next_comparison, const char *, size_t, size_t *, bes_comparison
 HELPER(bool, bes_next_never_true, const bes_index_list *, const char *, size_t, size_t *, bes_comparison *)
 HELPER(uint32_t, bes_uncovered, bes_pass *, const char *, size_t, size_t *)
 HELPER(uint32_t, bes_pairs, bes_pass *, const char *, uint64_t *)
+HELPER(uint32_t, bes_carry_on, bes_pass *, uint64_t, uint64_t, uint64_t, bes_pass *)
 HELPER(uint32_t, bes_reindex, bes_pass *, const char *, uint32_t, uint64_t *)
 HELPER(size_t, bes_escape, const char *, char *, size_t)
 HELPER(size_t, bes_any_case, const char *, char *, size_t)
@@ -295,6 +285,19 @@ HELPER(bool, bes_wait_for_turn_, bes_retry *)
 HELPER(void, bes_wake_next_, bes_turn *)
 NUMBER(BES_NESTED, 81)
 HELPER(bool, bes_wrote_since_, bes_pass *, uint64_t, uint64_t)
+CALL(bes_ways, bes_pass *, const uint8_t *, size_t, uint8_t *, size_t, uint64_t *)
+
+SIZE(bes_builder, 16)
+FIELD(bes_builder, live, 0, bool)
+FIELD(bes_builder, at, 8, void *)
+CALL(bes_build, uint64_t, uint64_t, uint64_t, bes_builder *)
+CALL(bes_build_index, bes_builder *, const uint8_t *, size_t, uint32_t)
+CALL(bes_build_node, bes_builder *, uint64_t)
+CALL(bes_build_attribute, bes_builder *, const uint8_t *, size_t, uint32_t, uint64_t, const uint8_t *, size_t, uint32_t)
+CALL(bes_build_finish, bes_builder *, uint64_t, bes_pass *)
+CALL(bes_build_close, bes_builder *)
+CALL(bes_move_builder, bes_builder *, bes_builder *)
+CALL(bes_is_held, bes_pass *, uint64_t, const uint8_t *, size_t, uint32_t *)
 
 int main(void)
 {

@@ -19,9 +19,11 @@ enum {
     HUGE = 4 << 20,  /* a block of at least this many bytes gets huge pages */
 };
 
-/* Whether this thread is opening a store, and the large block that it requested last for it, or NULL. */
+/* Whether this thread is opening or building a store, whether all large blocks are kept meanwhile, and the large block that it
+ * requested last, or NULL. */
 static _Thread_local struct {
     bool is_begun;
+    bool are_kept;
     unsigned char *block;
     size_t size;
 } opening;
@@ -60,11 +62,19 @@ static void return_zeros(unsigned char *block, size_t size)
     }
 }
 
-/* Makes this block the last one. The zeros of the one before have been written. */
-static void follow(unsigned char *block, size_t size)
+/* Returns the memory of the zeros in the last block. */
+static void return_last(void)
 {
     if (opening.block != NULL)
         return_zeros(opening.block, opening.size);
+    opening.block = NULL;
+}
+
+/* Makes this block the last one. The zeros of the one before have been written. */
+static void follow(unsigned char *block, size_t size)
+{
+    if (opening.are_kept)
+        return_last();
     opening.block = block;
     opening.size = size;
 }
@@ -85,15 +95,16 @@ void *bes_request_memory(size_t size)
     return size < LARGE ? malloc(size) : request_large(size);
 }
 
-void bes_begin_opening(void)
+void bes_begin_opening(bool are_kept)
 {
     opening.is_begun = true;
+    opening.are_kept = are_kept;
 }
 
 void bes_end_opening(bool is_open)
 {
     if (is_open)
-        follow(NULL, 0);
+        return_last();
     opening.block = NULL;
     opening.is_begun = false;
 }

@@ -10,10 +10,11 @@
  * wait for the processor's address translation. */
 void *bes_request_memory(size_t size);
 
-/* Called before and after this thread opens a store, with whether it is open. In between, a large block must still be in use when
- * the thread requests the next one, and the last one until `bes_end_opening`, if the store is open. No other thread may know them.
- * Their zeros then take no memory until they are written. */
-void bes_begin_opening(void);
+/* Called before and after this thread opens or builds a store, with whether it did. In between, the last large block that the
+ * thread requests must stay in use until `bes_end_opening`, if it did. With `are_kept`, each other large block must still be in use
+ * when the thread requests the next one. No other thread may know these blocks. Their zeros then take no memory until they are
+ * written. */
+void bes_begin_opening(bool are_kept);
 void bes_end_opening(bool is_open);
 
 #endif

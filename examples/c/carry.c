@@ -32,28 +32,13 @@ static void stop_at(const char *what, uint32_t error)
     }
 }
 
-/* Writes the pinned snapshot's state into a new store. */
-static void carry_on(bes_pass *old, bes_pass *next)
-{
-    bes_batch batch;
-    bes_place place = BES_PLACE_INIT;
-    uint64_t made[64], number = 0;
-    stop_at("state", bes_batch_state(old, &place, &batch));
-    while (batch.count > 0) {
-        stop_at("carry on", bes_batch_apply(next, &batch, 1, made, 64, &number));
-        stop_at("state", bes_batch_state(old, &place, &batch));
-    }
-    bes_leave(&place);
-}
-
 /* Gives the writers passes of a new store. No writer may be writing. */
 static void move(office *it)
 {
     bes_pass next = BES_PASS_INIT;
     uint64_t number = 0;
-    stop_at("open", bes_open(1024, WRITERS, COMMITS, &next));
     stop_at("pin", bes_pin(&it->passes[0], &number));
-    carry_on(&it->passes[0], &next);
+    stop_at("carry on", bes_carry_on(&it->passes[0], 1024, WRITERS, COMMITS, &next));
     stop_at("keep", it->stores == 1 ? bes_move(&it->passes[0], &it->first) : bes_close(&it->passes[0]));
     for (int i = 1; i < WRITERS; i++) {
         stop_at("close", bes_close(&it->passes[i]));

@@ -6,11 +6,11 @@
  * run once all mails have been written. If a mail doesn't fit into the store, reading stops: the queries find only the mails before it,
  * and the program returns 1. */
 #include "bestore.h"
+#include "mails.h"
 #include <pthread.h>
-#include <stdio.h>
 #include <stdlib.h>
 
-enum { MOST = 1000, TEXTS = 3 };
+enum { MOST = 1000 };
 
 static void stop_at(const char *what, uint32_t error)
 {
@@ -53,63 +53,17 @@ static void *watcher(void *arg)
     return NULL;
 }
 
-/* The fields of a mail that are stored. A header may have any length and contain any bytes; a text has only what a value can hold. */
-typedef struct mail {
-    char texts[TEXTS][256];
-    bool has_text[TEXTS];
-    int64_t when; /* seconds since 1970, or -1 */
-} mail;
-
-static const char *const headers[TEXTS][2] = {
-    {"From: ", "MAIL:from"}, {"To: ", "MAIL:to"}, {"Subject: ", "MAIL:subject"}
-};
-
-/* Returns the text after the name of a header line, or NULL if the line has another name. */
-static const char *after(const char *line, const char *name)
-{
-    size_t length = strlen(name);
-    return strncmp(line, name, length) == 0 ? line + length : NULL;
-}
-
-/* Returns the seconds since 1970 for a date such as "Mon, 3 Mar 2025 09:12:00 +0000", or -1 if the text isn't a date. */
-static int64_t seconds(const char *date)
-{
-    static const char months[] = "JanFebMarAprMayJunJulAugSepOctNovDec";
-    const char *comma = strchr(date, ','), *found;
-    char name[4] = "";
-    int64_t year, month, days;
-    int day, shown_year, hour, minute, second, zone;
-    if (sscanf(comma ? comma + 1 : date, "%2d %3s %4d %2d:%2d:%2d %5d", &day, name, &shown_year, &hour, &minute, &second, &zone) != 7)
-        return -1;
-    found = strstr(months, name);
-    if (!found || strlen(name) != 3)
-        return -1;
-    month = (found - months) / 3 - 2; /* counted from March, so that a leap day is the last day of its year */
-    year = month < 0 ? shown_year - 1 : shown_year;
-    month = month < 0 ? month + 12 : month;
-    days = 365 * year + year / 4 - year / 100 + year / 400 + (153 * month + 2) / 5 + day - 719469;
-    return ((days * 24 + hour) * 60 + minute - zone / 100 * 60 - zone % 100) * 60 + second;
-}
-
-/* Stores the contents of a header line. Only the first line with each name counts. */
-static void read_header(mail *it, const char *line)
-{
-    const char *date = after(line, "Date: ");
-    if (date && it->when < 0)
-        it->when = seconds(date);
-    for (size_t i = 0; i < TEXTS; i++) {
-        const char *text = after(line, headers[i][0]);
-        if (!text || it->has_text[i])
-            continue;
-        bes_to_utf8(text, strcspn(text, "\r"), it->texts[i], sizeof it->texts[i]);
-        it->has_text[i] = true;
-    }
-}
+/* What writes mails. */
+typedef struct clerk {
+    bes_pass pass;
+    const mail *mail;
+    uint64_t number; /* the number of the last write */
+} clerk;
 
 /* Creates the node for a mail, whose number will be `next`. */
 static uint32_t make_mail(bes_pass *pass, bes_batch *batch, uint64_t next, void *with)
 {
-    const mail *it = with;
+    const mail *it = ((const clerk *)with)->mail;
     uint32_t error = bes_batch_new_node(batch);
     (void)pass;
     if (error == BES_OK)
@@ -122,47 +76,14 @@ static uint32_t make_mail(bes_pass *pass, bes_batch *batch, uint64_t next, void 
     return error;
 }
 
-/* Reads a line without its newline, truncated to the array's size. A zero byte becomes a space. Returns whether there was a line. */
-static bool read_line(FILE *file, char *line, size_t room)
+static uint32_t write_mail(const mail *it, void *with)
 {
-    size_t length = 0;
-    int c = getc(file);
-    if (c == EOF)
-        return false;
-    for (; c != EOF && c != '\n'; c = getc(file))
-        if (length + 1 < room)
-            line[length++] = c == 0 ? ' ' : (char)c;
-    line[length] = 0;
-    return true;
-}
-
-/* Writes the mails up to the first that the store refuses. Returns the error, and stores the number of the last write in *number. */
-static uint32_t read_mails(bes_pass *pass, FILE *file, uint64_t *mails, uint64_t *number)
-{
-    char line[4096] = "";
-    mail it = {{{0}}, {false}, -1};
-    bool in_head = false, has_mail = false, has_line = true;
-    while (has_line) {
-        has_line = read_line(file, line, sizeof line);
-        bool begins = has_line && after(line, "From ");
-        if (has_mail && (begins || !has_line)) {
-            uint64_t written = 0;
-            uint32_t error = bes_change(pass, BES_TRIES, make_mail, &it, &written);
-            if (error != BES_OK)
-                return error;
-            *number = written;
-            ++*mails;
-        }
-        if (begins) {
-            it = (mail){{{0}}, {false}, -1};
-            has_mail = in_head = true;
-        } else if (line[0] == 0 || line[0] == '\r') {
-            in_head = false;
-        } else if (in_head) {
-            read_header(&it, line);
-        }
-    }
-    return BES_OK;
+    clerk *by = with;
+    uint64_t written = 0;
+    by->mail = it;
+    uint32_t error = bes_change(&by->pass, BES_TRIES, make_mail, by, &written);
+    by->number = error == BES_OK ? written : by->number;
+    return error;
 }
 
 static void print(bes_pass *pass, const char *query)
@@ -189,10 +110,10 @@ static void open_store(bes_pass *pass, bes_pass *other)
 
 int main(int argc, char **argv)
 {
-    bes_pass pass = BES_PASS_INIT;
+    clerk clerk = {BES_PASS_INIT, NULL, TEXTS + 1};
     watch watch = {BES_PASS_INIT, argv[argc > 2 ? 2 : 0], 0, PTHREAD_MUTEX_INITIALIZER, 0};
     pthread_t running;
-    uint64_t mails = 0, number = TEXTS + 1;
+    uint64_t mails = 0, number = 0;
     uint32_t error;
     FILE *file = argc > 2 ? fopen(argv[1], "r") : NULL;
     if (argc <= 2) {
@@ -203,22 +124,22 @@ int main(int argc, char **argv)
         perror(argv[1]);
         return 1;
     }
-    open_store(&pass, &watch.pass);
+    open_store(&clerk.pass, &watch.pass);
     if (pthread_create(&running, NULL, watcher, &watch) != 0)
         return 1;
-    error = read_mails(&pass, file, &mails, &number);
+    error = read_mails(file, bes_to_utf8, write_mail, &clerk, &mails);
     fclose(file);
     if (error != BES_OK)
         fprintf(stderr, "the store takes no more after %llu mails: %s\n", (unsigned long long)mails, bes_strerror(error));
     pthread_mutex_lock(&watch.lock);
-    watch.last = number;
+    watch.last = clerk.number;
     pthread_mutex_unlock(&watch.lock);
     pthread_join(running, NULL);
     printf("watched %s: %zu\n", watch.query, watch.found);
-    stop_at("pin", bes_pin(&pass, &number));
+    stop_at("pin", bes_pin(&clerk.pass, &number));
     for (int i = 2; i < argc; i++)
-        print(&pass, argv[i]);
+        print(&clerk.pass, argv[i]);
     stop_at("close", bes_close(&watch.pass));
-    stop_at("close", bes_close(&pass));
+    stop_at("close", bes_close(&clerk.pass));
     return error == BES_OK ? 0 : 1;
 }

@@ -1,4 +1,4 @@
-"""Follows a query and the journal, and carries the store's state over to a new store."""
+"""Follows a query and the journal, and carries the store's contents over to a new store."""
 
 import bestore
 
@@ -16,12 +16,11 @@ def print_changes(store: bestore.Pass, unread: bestore.Prepared, seen: int) -> i
 
 
 def carry_on(store: bestore.Pass) -> bestore.Pass:
-    """Returns a store with the same contents and its own journal."""
-    other = bestore.open()
-    with store.pin() as version:
-        for batch in version.state():
-            other.apply(batch)
-    return other
+    """Returns a store with the same contents and an empty journal."""
+    with store.pin() as version, bestore.Builder() as builder:
+        for batch in version.listing():
+            builder.batch(batch)
+        return builder.finish(version.next_node)
 
 
 def main() -> None:
@@ -33,7 +32,7 @@ def main() -> None:
         seen = print_changes(store, unread, seen)
         store.set(letters[0], "MAIL:status", "Read")
         with carry_on(store) as other:
-            print_changes(other, unread, other.committed)
+            print_changes(other, unread, 0)
 
 
 if __name__ == "__main__":

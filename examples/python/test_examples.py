@@ -9,6 +9,7 @@ HERE = os.path.dirname(os.path.abspath(__file__))
 
 PRINTED = {
     "first.py": "1 ann\n",
+    "build.py": "2 photo.jpg\n",
     "counter.py": "200 100 100\n",
     "newest.py": """\
 20 letters, Letter 98 to Letter 60, and more

@@ -1,24 +1,34 @@
 //! Opens a kept file with the rows from the input. A file that opens must open again as it was left. If it doesn't open, the error
 //! must say where the fault is.
 //!
-//! An input consists of the two numbers in the table `about`, the number of batches in `state`, and these batches. Then come the
-//! entries: for each, a byte that is added to the next number, and the entry's batch.
+//! An input consists of the two numbers in the table `about`, a byte with the number of batches in `state`, and these batches. Then come the
+//! entries: for each, a byte that is added to the next number, and the entry's batch. If the byte has its highest bit, the file has the
+//! current format, whose state is a listing, with the right checksums; otherwise it has the first one.
 #![no_main]
 
 use bestore::saved::{self, Error, Saved};
 use bestore::{Batch, Limits};
 use bestore_fuzz::Input;
+use bestore_types::raw::crc32;
 use rusqlite::Connection;
 use std::cell::RefCell;
 use std::path::{Path, PathBuf};
 
 const TABLES: &str = "
     PRAGMA application_id = 1650815860;
-    PRAGMA user_version = 1;
     PRAGMA synchronous = OFF;
-    CREATE TABLE about (what TEXT PRIMARY KEY, number INTEGER NOT NULL) WITHOUT ROWID;
-    CREATE TABLE state (place INTEGER PRIMARY KEY, batch BLOB NOT NULL);
-    CREATE TABLE entry (number INTEGER PRIMARY KEY, pass INTEGER NOT NULL, batch BLOB NOT NULL);
+    CREATE TABLE about (what TEXT PRIMARY KEY, number INTEGER NOT NULL, checksum INTEGER) WITHOUT ROWID;
+    CREATE TABLE state (place INTEGER PRIMARY KEY, batch BLOB NOT NULL, checksum INTEGER);
+    CREATE TABLE entry (number INTEGER PRIMARY KEY, pass INTEGER NOT NULL, batch BLOB NOT NULL, checksum INTEGER);
+    CREATE TABLE token (number INTEGER PRIMARY KEY, token TEXT NOT NULL, nodes BLOB NOT NULL, checksum INTEGER);
+";
+
+const FIRST_FORMAT: &str = "
+    PRAGMA user_version = 1;
+    ALTER TABLE about DROP COLUMN checksum;
+    ALTER TABLE state DROP COLUMN checksum;
+    ALTER TABLE entry DROP COLUMN checksum;
+    ALTER TABLE token DROP COLUMN checksum;
 ";
 
 bestore_fuzz::target!(|input| {
@@ -39,21 +49,45 @@ bestore_fuzz::target!(|input| {
     }
 });
 
+fn number(number: i64) -> [u8; 8] {
+    number.to_le_bytes()
+}
+
+/// A text or blob as it is encoded for a checksum.
+fn bytes(bytes: &[u8]) -> Vec<u8> {
+    [&(bytes.len() as u64).to_le_bytes()[..], bytes].concat()
+}
+
+fn add_about(file: &Connection, what: &str, value: i64) -> rusqlite::Result<usize> {
+    let sum = crc32(&[&bytes(what.as_bytes())[..], &number(value)].concat());
+    file.execute("INSERT INTO about VALUES (?, ?, ?)", (what, value, sum))
+}
+
 fn write_file(path: &Path, input: &mut Input<'_>) -> rusqlite::Result<()> {
     let file = Connection::open(path)?;
     file.execute_batch(TABLES)?;
     let entries = input.number() as i64;
     let next = input.number() as i64;
-    file.execute("INSERT INTO about VALUES ('entries', ?), ('next', ?)", (entries, next))?;
-    for place in 0..i64::from(input.byte() % 4) {
-        file.execute("INSERT INTO state VALUES (?, ?)", (place, input.part()))?;
+    let form = input.byte();
+    for (what, value) in [("entries", entries), ("next", next), ("file", 1)] {
+        add_about(&file, what, value)?;
+    }
+    for place in 0..i64::from(form % 4) {
+        let batch = input.part();
+        let sum = crc32(&[&number(place)[..], &bytes(batch)].concat());
+        file.execute("INSERT INTO state VALUES (?, ?, ?)", (place, batch, sum))?;
     }
     let mut due = entries;
     while !input.is_empty() {
         due = due.wrapping_add(1).wrapping_add(i64::from(input.byte() as i8));
-        file.execute("INSERT INTO entry VALUES (?, 0, ?)", (due, input.part()))?;
+        let batch = input.part();
+        let sum = crc32(&[&number(due)[..], &number(0), &bytes(batch)].concat());
+        file.execute("INSERT INTO entry VALUES (?, 0, ?, ?)", (due, batch, sum))?;
     }
-    Ok(())
+    match form < 128 {
+        true => file.execute_batch(FIRST_FORMAT),
+        false => file.execute_batch("PRAGMA user_version = 3"),
+    }
 }
 
 fn open(path: &Path) -> saved::Result<Saved> {
@@ -76,12 +110,12 @@ fn goes_on(saved: Saved, path: &Path) {
     assert_eq!(shown(&saved), before, "after the write {written:?}");
 }
 
-/// Returns the current snapshot as batches.
-fn shown(saved: &Saved) -> Vec<Batch> {
+/// Returns the current snapshot's listing.
+fn shown(saved: &Saved) -> Vec<Vec<u8>> {
     let mut pass = saved.pass().expect("there is a pass");
     let snapshot = pass.pin().expect("the pass is pinned");
     snapshot
-        .state()
+        .listing()
         .map(|batch| batch.expect("the state is read"))
         .collect()
 }

@@ -1,4 +1,4 @@
-//! Sends lines to a server. Each line must get exactly one reply, with the line's id. The first byte gives the number of volumes.
+//! Sends lines to a server. Each line must get exactly one reply, with the line's id.
 #![no_main]
 
 use bestore_client::wire::{id_of, Command, Request};
@@ -8,16 +8,12 @@ use serde_json::Value;
 const MOST: usize = 1 << 14;
 
 bestore_fuzz::target!(|input| {
-    let Some((volumes, input)) = input.split_first() else {
-        return;
-    };
-    let volumes = 1 + u32::from(volumes % 3);
     let lines: Vec<&[u8]> = input[..input.len().min(MOST)]
         .split(|byte| *byte == b'\n')
         .filter(|line| !waits(line))
         .collect();
     let sent: Vec<u8> = lines.iter().flat_map(|line| [line, &b"\n"[..]].concat()).collect();
-    let replies = bestored::in_process::replies_to(&sent, volumes).expect("the server ends as the client does");
+    let replies = bestored::in_process::replies_to(&sent).expect("the server ends as the client does");
     let replies = String::from_utf8(replies).expect("replies are UTF-8");
     let replies: Vec<&str> = replies.split_terminator('\n').collect();
     assert_eq!(replies.len(), lines.len(), "{replies:#?}");

@@ -16,7 +16,7 @@ bestore_fuzz::target!(|input| {
 });
 
 /// A reader for each kind of reply. The first bytes of the inputs in the corpus depend on the order, so append new readers.
-const READERS: [fn(&[u8]); 19] = [
+const READERS: [fn(&[u8]); 20] = [
     goes_there_and_back::<wire::Hello>,
     goes_there_and_back::<wire::Written>,
     goes_there_and_back::<wire::LogStatus>,
@@ -36,6 +36,7 @@ const READERS: [fn(&[u8]); 19] = [
     refuses,
     has_length,
     goes_there_and_back::<wire::Comparisons>,
+    goes_there_and_back::<wire::Restored>,
 ];
 
 fn goes_there_and_back<T: DeserializeOwned + Serialize + PartialEq + Debug>(line: &[u8]) {

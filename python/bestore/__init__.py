@@ -18,7 +18,7 @@ docs/PYTHON.md lists all. `from bestore import *` doesn't import them.
 
 For a store that programs share through the server bestored, use `connect` instead of `open`: see `help(bestore.connected)`. A
 function that takes a `Pass` or a `Version` works with either kind of store. The module `bestore.saved` keeps a store in a file.
-`open_shelf` opens several stores, all of which a single query searches: see `help(bestore.shelf)`.
+A `Builder` makes a store that begins with given contents.
 
 A store belongs to the process that opened it. In a forked child its passes, versions and prepared queries are dead: their calls
 raise `Forked`, closing them does nothing, and the parent's handles are unaffected. The child can open its own stores.
@@ -42,6 +42,7 @@ from ._connected_errors import (
 )
 from ._saved_errors import NotSaved as NotSaved, Stopped as Stopped
 from ._surface import ErrorClass, ErrorNumber
+from .builder import Builder
 from .change import Change, ChangedAttributes
 from .connected import connect
 from .errors import (
@@ -58,20 +59,16 @@ from .errors import (
     TooMany as TooMany, TooManyAttributes as TooManyAttributes, TooManyIndices as TooManyIndices,
     WrongKind as WrongKind,
     # surface.toml: end
-    BadBytes as BadBytes, Error as Error, Forked as Forked, NotReached as NotReached, NoVolume as NoVolume,
-    OtherStore as OtherStore, OtherVolume as OtherVolume, PartialIndex as PartialIndex, QueryError as QueryError,
-    QueryNotUTF8 as QueryNotUTF8, Refusal as Refusal, TooManyAttempts as TooManyAttempts,
+    BadBytes as BadBytes, Error as Error, Forked as Forked, NotReached as NotReached, OtherStore as OtherStore,
+    QueryError as QueryError, QueryNotUTF8 as QueryNotUTF8, Refusal as Refusal, TooManyAttempts as TooManyAttempts,
 )
 from .language import Comparison, Hint, any_case, escape
 from .opening import open
-from .nodes import node_in, number_of, volume_of
 from .operations import (
     MOST_OPERATIONS, Batch, MakeIndex, NewNode, Operation, RemoveIndex, RemoveNode, SetAttribute, UnsetAttribute,
 )
 from .pages import Cursor, Order, Page
 from .queries import Item, Name, Operator, Prepared, prepare, prepare_items
-from .shelf import Shelf, ShelfVersion
-from .shelf import open as open_shelf
 from .store import Entry, Held, Pass, Status, Witness
 from .values import (
     # surface.toml: classes of integers
@@ -96,9 +93,9 @@ __all__ = [
     "INT32", "INT64", "Int32", "Int64", "MIME", "RAW", "STRING", "UINT32", "UINT64", "UInt32",
     "UInt64",
     # surface.toml: end
-    "Attributes", "Batch", "Change", "ChangedAttributes", "Changes", "Comparison", "Cursor", "Entry", "ErrorClass",
+    "Attributes", "Batch", "Builder", "Change", "ChangedAttributes", "Changes", "Comparison", "Cursor", "Entry", "ErrorClass",
     "ErrorNumber", "Held", "Hint", "Integer", "Item", "Kind", "MOST_OPERATIONS", "MakeIndex", "Name", "NewNode",
     "Operation", "Operator", "Order", "Page", "Pass", "Prepared", "RemoveIndex", "RemoveNode", "SetAttribute",
-    "Shelf", "ShelfVersion", "Status", "Typed", "UnsetAttribute", "Value", "Version", "Watch", "Witness", "any_case",
-    "connect", "escape", "node_in", "number_of", "open", "open_shelf", "prepare", "prepare_items", "volume_of",
+    "Status", "Typed", "UnsetAttribute", "Value", "Version", "Watch", "Witness", "any_case", "connect", "escape", "open",
+    "prepare", "prepare_items",
 ]

@@ -5,8 +5,7 @@ from __future__ import annotations
 from typing import Dict, Iterable, List, Optional, Set
 
 from .change import Change
-from .errors import BadCount, NoAttribute, NoNode, NotPinned, OtherVolume, encoded
-from .nodes import node_number, volume_of
+from .errors import BadCount, NoAttribute, NoNode, NotPinned, encoded
 from .operations import MOST_OPERATIONS, SET, Batch
 from .values import KIND_OF, Encoded, Kind, Typed, Value, encode_value, kind_mismatch, typed_value
 from .versions import Version
@@ -15,10 +14,8 @@ from .versions import Version
 class ConnectedChange(Change):
     """A change that reads a version of a server's store."""
 
-    def __init__(self, snapshot: Version, check_kinds: bool, volume: Optional[int], has_volumes: bool) -> None:
+    def __init__(self, snapshot: Version, check_kinds: bool) -> None:
         super().__init__(snapshot)
-        self._volume = volume  # the volume of all operations, once one that names a volume has been collected
-        self._has_volumes = has_volumes
         self._batch, self._check_kinds = Batch(), check_kinds
         self._next: Optional[int] = None
         self._kinds: Optional[Dict[str, int]] = None
@@ -33,57 +30,34 @@ class ConnectedChange(Change):
     def _collected(self) -> Batch:
         return self._batch
 
-    def _collecting(self, node: Optional[int] = None) -> Batch:
-        """Returns the batch, ready for one more operation. If `node` is given, the operation is on this node. Raises `NoNode` if
-        there is no such volume, and `OtherVolume` if the node isn't in the same volume as the earlier operations' nodes."""
+    def _collecting(self) -> Batch:
+        """Returns the batch, ready for one more operation."""
         if not self._snapshot._is_pinned:
             raise NotPinned()
         if len(self._batch) >= MOST_OPERATIONS:
             raise BadCount()
-        if self._has_volumes and node is not None:
-            volume = volume_of(node_number(node))
-            if not 0 <= volume < len(self.numbers):
-                raise NoNode(node)
-            if self._volume is not None and volume != self._volume:
-                raise OtherVolume(self._volume, len(self._batch))
         return self._batch
-
-    def _decide_volume(self, node: int) -> None:
-        """Records that an operation on this node has been collected, so later ones have to be in the same volume."""
-        if self._has_volumes and self._volume is None:
-            self._volume = volume_of(node)
-
-    def _first_new(self) -> int:
-        """Returns the number of the first node that the change creates."""
-        if self._volume is not None:
-            return self._snapshot._next_in(self._volume)
-        node = self.next_node
-        if self._has_volumes:
-            self._volume = volume_of(node)
-        return node
 
     def new(self) -> int:
         batch = self._collecting()
         if self._next is None:
-            self._next = self._first_new()
+            self._next = self.next_node
         node, self._next = self._next, self._next + 1
         batch.new_node()
         self._made.add(node)
         return node
 
     def remove(self, node: int) -> None:
-        self._collecting(node).remove_node(node)
-        self._decide_volume(node)
+        self._collecting().remove_node(node)
         self._made.discard(node)
         self._set.pop(node, None)
         self._removed.add(node)
 
     def set(self, node: int, name: str, value: Value, kind: Optional[int] = None) -> None:
         code, number, taken = encode_value(value, kind)
-        batch = self._collecting(node)
+        batch = self._collecting()
         self._check_kind(name, code)
         batch._add_encoded(SET, node, encoded(name), code, number, taken)
-        self._decide_volume(node)
         self._set.setdefault(node, {})[name] = code, number, taken
 
     def _check_kind(self, name: str, kind: Kind) -> None:
@@ -100,8 +74,7 @@ class ConnectedChange(Change):
         return self._kinds
 
     def unset(self, node: int, name: str) -> None:
-        self._collecting(node).unset(node, name)
-        self._decide_volume(node)
+        self._collecting().unset(node, name)
         self._set.setdefault(node, {})[name] = None
 
     def make_index(self, name: str, kind: int) -> None:

@@ -3,11 +3,11 @@
 from __future__ import annotations
 
 from dataclasses import dataclass
-from typing import Callable, Dict, List, Optional, Tuple
+from typing import Dict, Optional, Tuple
 
 from . import _saved_errors
 from ._surface import SERVER_MEANINGS, ErrorClass, ErrorNumber
-from .errors import BadCursor, Error, NotCovered, NotReached, NoVolume, OtherVolume, PartialIndex, Refusal, _OfPath, refusal
+from .errors import BadCursor, Error, NotCovered, NotReached, Refusal, _OfPath, refusal
 
 
 class ServerError(_OfPath):
@@ -185,25 +185,11 @@ def _number(details: Dict[str, object], key: str) -> Optional[int]:
     return found if isinstance(found, int) else None
 
 
-def _numbers(details: Dict[str, object], key: str) -> List[int]:
-    found = details.get(key)
-    return [found] if isinstance(found, int) else list(found) if isinstance(found, list) else []
-
-
-_OF_VOLUMES: Dict[str, Callable[[Dict[str, object]], Error]] = {
-    "NoVolume": lambda details: NoVolume(_number(details, "volume"), _number(details, "volumes") or 0),
-    "OtherVolume": lambda details: OtherVolume(_number(details, "volume") or 0, _number(details, "operation")),
-    "PartialIndex": lambda details: PartialIndex(_number(details, "operation")),
-    "NotReached": lambda details: NotReached(_numbers(details, "expected"), _numbers(details, "found")),
-}
-
-
 def _of_library(number: int, details: Dict[str, object], query: Optional[str]) -> Refusal:
     """Returns the library error with this number."""
     key, listed = _CARRIED.get(number, ("", None))
     carried = details.get(key)
     refused = refusal(number, carried if isinstance(carried, int) else None, query, listed)
-    refused.volume = _number(details, "volume")
     refused.error_class = _said_class(details) or refused.error_class
     if isinstance(refused, NotCovered):
         missing = details.get("missing")
@@ -218,8 +204,8 @@ def error_of(path: str, details: Dict[str, object], query: Optional[str] = None)
     number, name, message = details.get("number"), str(details.get("name")), str(details.get("message"))
     if isinstance(number, int):
         return _of_library(number, details, query)
-    if name in _OF_VOLUMES:
-        return _OF_VOLUMES[name](details)
+    if name == "NotReached":
+        return NotReached(_number(details, "expected") or 0, _number(details, "found") or 0)
     if name == "Protocol":
         return ProtocolError(path, f"{message}; it knows {details.get('known')}")
     refused = _REFUSALS.get(name, ServerRefusal)(path, name, message, _said_class(details))

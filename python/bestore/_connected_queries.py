@@ -27,18 +27,9 @@ _MOST_OF_A_PAGE = 50_000  # nodes per reply
 class QueriedVersion(Version):
     """A version that is queried through a server."""
 
-    @property
-    @abstractmethod
-    def _features(self) -> Tuple[str, ...]:
-        """Returns which features this server has that older servers lack."""
-
     @abstractmethod
     def _ask(self, command: str, parameters: JSON, read: Callable[[JSON], _Result], query: Optional[str] = None) -> _Result:
         """Makes a call on the pass, if the pass still has this pin."""
-
-    def _takes(self, parameter: str) -> bool:
-        """Returns whether the server accepts this query parameter. Older servers don't."""
-        return parameter in self._features
 
     def _ask_query(self, command: str, asked: Query, text: str, others: JSON, read: Callable[[JSON], _Result]) -> _Result:
         """Sends the server a request about a query, with `text` as the query."""
@@ -52,16 +43,12 @@ class QueriedVersion(Version):
     def _named(self, error: NotCovered, asked: Query, text: str) -> NotCovered:
         """Returns the error for a query that needs another index, with the position that the server reported."""
         if isinstance(asked, tuple) or error.missing is None:
-            named = self._not_covered(asked)
-            named.volume = error.volume
-            return named
+            return self._not_covered(asked)
         error.query, error.indices = text, tuple(self.indices())
         return error
 
     def hints(self, query: Asked) -> List[Hint]:
         """Works as for a store in this process, but the server parses the query's text."""
-        if not self._takes("text"):
-            return super().hints(query)
         compared = self._ask_query("text", query, _text_of(query), {}, read_comparisons)
         indices = self.indices() if any(one.never for one in compared) else {}
         return [Hint(one.name, one.value, indices[one.name], one.offset, one.is_number)
@@ -84,12 +71,10 @@ class QueriedVersion(Version):
         parameters: JSON = {"from": first} if first else {}
         if limit < _ALL:
             parameters["limit"] = min(limit - had, _MOST_OF_A_PAGE)
-        if parameters and self._takes("uncounted"):
-            parameters["uncounted"] = True
-        return parameters
+        return {**parameters, "uncounted": True} if parameters else {}
 
     def _any_of(self, asked: Query, limit: int) -> List[int]:
-        if limit > _MOST_OF_A_PAGE or not self._takes("any"):
+        if limit > _MOST_OF_A_PAGE:
             return self._first_of(asked, 0, limit)
         return self._ask_query("query", asked, _text_of(asked), {"any": limit}, lambda ok: read_nodes(ok["nodes"]))
 
@@ -108,12 +93,10 @@ class QueriedVersion(Version):
         return rows
 
     def _page_of(self, asked: Asked, order: Order, after: Optional[Cursor], limit: Optional[int]) -> Page[int]:
-        if not self._takes("by"):
-            return super()._page_of(asked, order, after, limit)
         return self._pages(asked, order, after, limit, {}, lambda ok: read_nodes(ok["nodes"]))
 
     def _page_of_rows(self, query: Asked, names: List[str], order: Order, after: Optional[Cursor], most: int) -> Page[Row]:
-        if not self._takes("by") or len(names) > MOST_NAMES:
+        if len(names) > MOST_NAMES:
             return super()._page_of_rows(query, names, order, after, most)
         for name in names:
             encoded(name)
@@ -141,14 +124,16 @@ class QueriedVersion(Version):
         """Requests a page. If the index is missing, the error lists the indices that exist."""
         try:
             return self._ask_query("query", asked, text, others, read)
-        except NoIndex as error:
-            named = no_index(order.by, self.indices())
-            named.volume = error.volume
-            raise named from None
+        except NoIndex:
+            raise no_index(order.by, self.indices()) from None
 
     def explain(self, text: str) -> str:
         encoded_query(text)
         return self._ask_query("explain", text, text, {}, lambda ok: str(ok["text"]))
+
+    def ways(self, text: str) -> str:
+        encoded_query(text)
+        return self._ask_query("ways", text, text, {}, lambda ok: str(ok["text"]))
 
 
 def _text_of(asked: Query) -> str:

@@ -77,7 +77,7 @@ class ConnectedWatch(Watch):
     def _check_room(self, nodes: int) -> None:
         """Raises a ValueError if the server's store doesn't have room for this number of nodes. Each node takes at least one word of a
         page."""
-        pages = self._user.server.pages * self._user.server.volumes
+        pages = self._user.server.pages
         if nodes > pages * _WORDS:
             raise ValueError(f"the server pushed more nodes than its {pages:,} pages have room for")
 

@@ -11,7 +11,7 @@ from ._library import Handle, Operation
 from .handles import Owner
 from .operations import Batch
 
-PASS, PREPARED, CURSOR, WITNESS = 1, 2, 3, 4
+PASS, PREPARED, BUILDER, WITNESS = 1, 2, 3, 4
 """The types of the library's handles."""
 
 

@@ -7,7 +7,7 @@ import os
 from typing import Any, List, Optional
 
 from ._version import VERSION
-from .errors import Forked, encoded_query, refusal
+from .errors import BadBytes, Forked, encoded_query, refusal
 from .values import Kind, Typed, encode_value, kind_mismatch
 
 try:
@@ -23,7 +23,7 @@ SONAME = "libbestore.so.0"
 
 
 class Handle(ctypes.Structure):
-    """A bes_pass, a bes_prepared, a bes_place or a bes_witness, which all have the same layout."""
+    """A bes_pass, a bes_prepared, a bes_builder or a bes_witness, which all have the same layout."""
 
     _fields_ = [("live", ctypes.c_bool), ("at", ctypes.c_void_p)]
 
@@ -139,6 +139,12 @@ def _arguments() -> dict[str, List[Any]]:
     listed = [ctypes.POINTER(Counts), ctypes.POINTER(Operation), size, text, size]
     return {
         "bes_open": [word, word, word, handle],
+        "bes_build": [word, word, word, handle],
+        "bes_build_index": [handle, text, size, ctypes.c_uint32],
+        "bes_build_node": [handle, word],
+        "bes_build_attribute": [handle, text, size, ctypes.c_uint32, word, text, size, ctypes.c_uint32],
+        "bes_build_finish": [handle, word, handle],
+        "bes_build_close": [handle],
         "bes_another": [handle, handle],
         "bes_close": [handle],
         "bes_finish": [handle, text, size, words],
@@ -169,6 +175,7 @@ def _arguments() -> dict[str, List[Any]]:
         "bes_refresh_changed": [handle, handle, ctypes.POINTER(Updates)],
         "bes_changes": [handle, words, size, words, size],
         "bes_explain": [handle, text, size, text, size, words],
+        "bes_ways": [handle, text, size, text, size, words],
         "bes_nodes": [handle, word, *put_out],
         "bes_status": [handle, ctypes.POINTER(Usage), words],
         "bes_get": [handle, word, text, size, ctypes.POINTER(Attribute), text, size],
@@ -176,8 +183,7 @@ def _arguments() -> dict[str, List[Any]]:
         "bes_columns": [handle, words, size, ctypes.POINTER(HeldName), size, ctypes.POINTER(Cell), size, text, size, words],
         "bes_attributes": [handle, word, *listed],
         "bes_indices": [handle, *listed],
-        "bes_state": [handle, handle, *listed],
-        "bes_leave": [handle],
+        "bes_is_held": [handle, word, text, size, ctypes.POINTER(ctypes.c_uint32)],
         "bes_journal": [handle, text, size, words],
         "bes_journal_from": [handle, word, words, *listed, words],
         "bes_begin_change": [handle, handle, words, words],
@@ -248,7 +254,7 @@ def addresses() -> dict[str, int]:
 _native.use(addresses())
 _native.know(
     refusal=refusal, forked=Forked, encoded_query=encoded_query, kinds=tuple(Kind), typed=Typed, encode_value=encode_value,
-    wrong_kind=kind_mismatch)
+    wrong_kind=kind_mismatch, bad_bytes=BadBytes)
 os.register_at_fork(after_in_child=_native.after_fork)
 
 

@@ -3,10 +3,11 @@
 from __future__ import annotations
 
 from dataclasses import dataclass
-from typing import TYPE_CHECKING, Optional
+from typing import TYPE_CHECKING, Optional, Tuple
 
 from ._surface import ErrorClass
 from .errors import CommitsSpent, Error, Full, NoMemory, _OfPath
+from .values import Kind
 
 if TYPE_CHECKING:
     import sqlite3
@@ -74,25 +75,38 @@ class DiskFull(SavedError):
 
 
 class NoFile(SavedError):
-    """A volume's file is missing, but a later volume's file exists."""
+    """A folder of volumes, which an earlier version wrote, lacks this volume's file, but has a later volume's."""
 
     _summary = "the file of this volume is missing, and a later volume has one; put it back"
 
 
 @dataclass(eq=False, repr=False)
-class Fewer(SavedError):
-    """A shelf can't be opened with fewer volumes than its folder has, or without any volumes."""
+class Exists(SavedError):
+    """A folder of volumes, which an earlier version wrote, can't become one file, because its new name is taken. Nothing has changed."""
 
-    found: int
-    """The number of volumes in the folder."""
-    wanted: int
-    """The number of volumes that was requested, or `found` if no number was given."""
+    _summary = "the folder of volumes would become one file, and be kept as {other}, which exists; move that away"
+
+    other: str
+    """What the folder would be called."""
+
+
+@dataclass(eq=False, repr=False)
+class OtherKind(SavedError):
+    """A folder of volumes, which an earlier version wrote, can't become one file, because an index has different kinds in two
+    volumes. Nothing has changed."""
+
+    name: str
+    """The index's name."""
+    first: Tuple[int, Kind]
+    """A volume that has the index, and its kind there."""
+    second: Tuple[int, Kind]
+    """Another volume that has it with another kind."""
 
     @property
     def summary(self) -> str:
-        if self.found == 0:
-            return "the folder has no volumes; say how many to make"
-        return f"the folder has {self.found} volumes, and can't be opened with {self.wanted}"
+        (first, kind), (second, other) = self.first, self.second
+        return (f'the index "{self.name}" has kind {kind.name} in volume {first}, and kind {other.name} in volume {second}; open one of '
+                "these volumes by itself, and remove the index from it")
 
 
 @dataclass(eq=False, repr=False)
@@ -139,13 +153,6 @@ class TooLarge(_AtPlace):
     """The file's contents exceed the store's limits. The store's error is in `__cause__`."""
 
     error_class = ErrorClass.FULL
-
-    pages: Optional[int] = None
-    """How many pages are enough to open the file. None if the file needs something else, or more pages than a store can have."""
-
-    @property
-    def summary(self) -> str:
-        return super().summary if self.pages is None else f"{super().summary}; open it with pages={self.pages} or more"
 
 
 @dataclass(eq=False, repr=False)
@@ -257,7 +264,7 @@ def of_reading(path: str, error: sqlite3.Error, entry: Optional[int] = None, bat
 def refused(path: str, error: Error, entry: Optional[int] = None, batch: Optional[int] = None) -> SavedError:
     """Converts an error from the store that is replaying the file's contents to one of this module's errors."""
     if isinstance(error, Full):
-        return TooLarge(path, "the file needs more pages than the store has", entry, batch)
+        return TooLarge(path, "the file needs more pages than the store has; open it with more", entry, batch)
     if isinstance(error, (CommitsSpent, NoMemory)):
         return TooLarge(path, f"the file doesn't fit the limits of the store: {error}", entry, batch)
     return Differs(path, f"the file contains something that no store wrote: {error}", entry, batch)

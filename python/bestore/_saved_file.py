@@ -19,9 +19,9 @@ from ._saved_errors import CutOff, Damaged, Differs, Foreign, Held, Moved, Newer
 
 APPLICATION = 0x62657374
 """"best" in ASCII: the number in SQLite's header that identifies the file."""
-FORMAT = 2
-"""The version of the format."""
-_WITHOUT_CHECKSUMS = 1  # the previous version, whose rows have no checksums
+FORMAT = 3
+"""The version of the format, in which the state is a listing. In the earlier ones, the state consists of operations."""
+_WITHOUT_CHECKSUMS = 1  # the first version, whose rows have no checksums
 
 _TRIES = 6  # how many more times a file is tried that is held, or was moved while it was opened
 _PAUSE = 0.04  # the longest pause before each of these tries, in seconds
@@ -90,8 +90,8 @@ class File:
         self._connection: Optional[sqlite3.Connection] = None
         self._reading: List[sqlite3.Cursor] = []
         self._last: Optional[LastEntry] = None
-        self.has_checksums = True
-        """Whether the file's rows have checksums. Rows in the earlier format have none."""
+        self.format = FORMAT
+        """The version of the file's format, at most `FORMAT`."""
         self._entry_bytes, self._due_bytes = 0, _LEAST_DUE
         for _ in range(_TRIES):
             # Programs that open the file at the same moment can keep each other from locking it. After pauses of different
@@ -176,8 +176,8 @@ class File:
         application, version = self._number("PRAGMA application_id"), self._number("PRAGMA user_version")
         if application == APPLICATION and version > FORMAT:
             raise Newer(self.path, version, FORMAT)
-        if application == APPLICATION and version in (FORMAT, _WITHOUT_CHECKSUMS):
-            self.has_checksums = version == FORMAT
+        if application == APPLICATION and version >= _WITHOUT_CHECKSUMS:
+            self.format = version
             return False
         if (application, version) == (0, 0) and not has_tables:
             return True
@@ -203,6 +203,11 @@ class File:
         if self._connection is not None and self._connection.in_transaction:
             with self._translated():
                 self._run("ROLLBACK")
+
+    @property
+    def has_checksums(self) -> bool:
+        """Whether the file's rows have checksums."""
+        return self.format > _WITHOUT_CHECKSUMS
 
     def about(self) -> About:
         """What the file says about its state."""
@@ -263,13 +268,8 @@ class File:
 
     def commits_within(self, commits: int) -> int:
         """Returns how many of `commits` transactions a store opened from this file may accept without running out of entry
-        numbers. The transactions that rebuild the state are included in the count. Returns 0 if no number is left and the state
-        is empty."""
-        left = _LAST_NUMBER - self.about().entries
-        if left >= commits:
-            return commits
-        with self._translated():
-            return min(commits, left + int(self._number("SELECT count(*) FROM state")))
+        numbers."""
+        return min(commits, _LAST_NUMBER - self.about().entries)
 
     def state(self) -> Iterator[Tuple[int, bytes]]:
         """Yields each batch of the state in order, with its index."""
@@ -340,8 +340,8 @@ class File:
             raise of_sqlite(self.path, error) from error
 
     def write_state(self, number: int, next_node: int, batches: Iterable[bytes]) -> None:
-        """Replaces the old state and the entries up to `number` with this state, which includes them. After an error the file
-        is unchanged."""
+        """Replaces the old state and the entries up to `number` with this state, which includes them and is a listing. After an
+        error the file is unchanged."""
         self._due_bytes = max(self._due_bytes, self._entry_bytes) + _LEAST_DUE  # so that another attempt isn't due at once
         with self._transaction():
             assert self._connection is not None
@@ -349,10 +349,12 @@ class File:
             self._run("DELETE FROM entry WHERE number <= ?", number)
             if not self.has_checksums:
                 self._add_checksums()
+            if self.format != FORMAT:
+                self._run(f"PRAGMA user_version = {FORMAT}")
             rows = ((place, batch, of_state(place, batch)) for place, batch in enumerate(batches))
             self._connection.executemany("INSERT INTO state VALUES (?, ?, ?)", rows)
             self._set_about(entries=number, next=next_node)
-        self.has_checksums = True
+        self.format = FORMAT
         self.measure()
 
     def _add_checksums(self) -> None:
@@ -361,7 +363,6 @@ class File:
         has_tokens = self._number("SELECT count(*) FROM sqlite_master WHERE name = 'token'") > 0
         for table in ("about", "state", "entry") + (("token",) if has_tokens else ()):
             self._run(f"ALTER TABLE {table} ADD COLUMN checksum INTEGER")
-        self._run(f"PRAGMA user_version = {FORMAT}")
         self._set_identity()
         rows = self._run("SELECT number, pass, batch FROM entry").fetchall()
         self._connection.executemany(

@@ -14,7 +14,7 @@ from .operations import (
 from .store import Entry
 from .values import KIND_OF, RANGES, Kind, Typed, Value, decode_value
 
-PROTOCOL = 1
+PROTOCOL = 2
 """The version of the protocol."""
 MOST_BYTES = 1 << 20
 """The maximum number of bytes in a request, including its line end."""

@@ -20,7 +20,7 @@ class Change(Version):
 
     Operations are only collected; they are written after the function has returned. The number of a node that `new` creates is
     known immediately. `change[node]`, `get`, `kind`, `attributes` and `node in change` read the collected operations first, and
-    then the snapshot. Queries, lists of nodes, `count`, `pairs`, `indices` and `state` read only the snapshot. Refresh a live
+    then the snapshot. Queries, lists of nodes, `count`, `pairs`, `indices` and `listing` read only the snapshot. Refresh a live
     query outside a change, because the function may run again. A 65th operation raises `BadCount`. A call that raises collects
     nothing, and the operations collected earlier are unaffected."""
 
@@ -46,8 +46,7 @@ class Change(Version):
 
     @abstractmethod
     def new(self) -> int:
-        """Creates a node and returns its number. With several volumes, the node is created in the volume that the change
-        writes: see `Pass.change`."""
+        """Creates a node and returns its number."""
 
     @abstractmethod
     def remove(self, node: int) -> None:
@@ -85,10 +84,6 @@ class Change(Version):
         return self._snapshot.number
 
     @property
-    def numbers(self) -> Tuple[int, ...]:
-        return self._snapshot.numbers
-
-    @property
     def _is_pinned(self) -> bool:
         return self._snapshot._is_pinned
 
@@ -111,9 +106,6 @@ class Change(Version):
     def _page_of(self, asked: Asked, order: Order, after: Optional[Cursor], limit: Optional[int]) -> Page[int]:
         return self._snapshot._page_of(asked, order, after, limit)
 
-    def _indexed_column(self, nodes: Iterable[int], name: str) -> List[Optional[Value]]:
-        return self._snapshot._indexed_column(nodes, name)
-
     def _count_of(self, asked: Query) -> int:
         return self._snapshot._count_of(asked)
 
@@ -129,17 +121,17 @@ class Change(Version):
     def explain(self, text: str) -> str:
         return self._snapshot.explain(text)
 
+    def ways(self, text: str) -> str:
+        return self._snapshot.ways(text)
+
     def hints(self, query: Asked) -> List[Hint]:
         return self._snapshot.hints(query)
 
     def indices(self) -> Dict[str, Kind]:
         return self._snapshot.indices()
 
-    def partial_indices(self) -> Dict[str, List[int]]:
-        return self._snapshot.partial_indices()
-
-    def state(self, volume: Optional[int] = None) -> Iterator[Batch]:
-        return self._snapshot.state(volume)
+    def listing(self) -> Iterator[bytes]:
+        return self._snapshot.listing()
 
 
 _RUN_LATER = CO_GENERATOR | CO_COROUTINE | CO_ASYNC_GENERATOR

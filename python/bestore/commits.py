@@ -5,13 +5,10 @@ from __future__ import annotations
 import os
 import threading
 from contextlib import contextmanager, suppress
-from typing import Iterator, Optional, Sequence, Tuple
+from typing import Iterator, Optional, Tuple
 from weakref import WeakSet
 
 from ._waits import Waits
-
-PAUSE = 0.002
-"""The number of seconds between checks of a store whose commits wake no threads."""
 
 
 class Waiter:
@@ -20,8 +17,8 @@ class Waiter:
     The thread waits by acquiring a lock that the waking thread releases. Releasing that lock acquires no other lock, so a write
     may happen anywhere, even in a signal handler or while Python collects an object."""
 
-    def __init__(self, most: Optional[float]) -> None:
-        self._most, self._sleep = most, threading.Lock()
+    def __init__(self) -> None:
+        self._sleep = threading.Lock()
 
     def begin(self) -> None:
         """Call this before each check, so that later commits end the next wait."""
@@ -34,8 +31,8 @@ class Waiter:
 
     def wait(self, left: Optional[float]) -> None:
         """Waits for a commit, up to `left` seconds, or forever if `left` is None."""
-        times = (time for time in (self._most, left, threading.TIMEOUT_MAX) if time is not None)
-        self._sleep.acquire(timeout=max(min(times), 0))
+        most = threading.TIMEOUT_MAX
+        self._sleep.acquire(timeout=most if left is None else min(max(left, 0), most))
 
 
 class Commits:
@@ -63,13 +60,17 @@ class Commits:
             if has_turn:
                 turn.release()
 
-    def _add(self, waiter: Waiter) -> None:
-        with self._lock:
-            self._waiting += (waiter,)
-
-    def _remove(self, waiter: Waiter) -> None:
-        with self._lock:
-            self._waiting = tuple(it for it in self._waiting if it is not waiter)
+    @contextmanager
+    def waiter(self) -> Iterator[Waiter]:
+        """Yields a waiter for commits in the store."""
+        waiter = Waiter()
+        try:
+            with self._lock:
+                self._waiting += (waiter,)
+            yield waiter
+        finally:
+            with self._lock:
+                self._waiting = tuple(it for it in self._waiting if it is not waiter)
 
 
 _all: "WeakSet[Commits]" = WeakSet()
@@ -83,16 +84,3 @@ def _unlock_in_child() -> None:
 
 
 os.register_at_fork(after_in_child=_unlock_in_child)
-
-
-@contextmanager
-def waiting(stores: Sequence[Commits], volumes: int) -> Iterator[Waiter]:
-    """Yields a waiter for commits in any of these stores. If some volumes have no such list, the waiter checks again at intervals."""
-    waiter = Waiter(None if len(stores) == volumes else PAUSE)
-    try:
-        for store in stores:
-            store._add(waiter)
-        yield waiter
-    finally:
-        for store in stores:
-            store._remove(waiter)

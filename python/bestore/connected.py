@@ -21,13 +21,15 @@ says whether the write may have been applied.
 
 from __future__ import annotations
 
+import base64
 import math
 import operator
 import os
+import threading
 import time
 from contextlib import suppress
 from functools import partial
-from typing import Any, Callable, Dict, Iterable, Iterator, List, NamedTuple, Optional, Sequence, Tuple, TypeVar, Union
+from typing import Any, Callable, Dict, Iterable, Iterator, List, NamedTuple, Optional, Tuple, TypeVar, Union
 from uuid import uuid4
 from weakref import WeakValueDictionary, ref
 
@@ -45,18 +47,17 @@ from ._saved_errors import NotSaved, Stopped
 from ._socket_path import SocketPath
 from ._waits import Waits
 from ._wire import (
-    JSON, PROTOCOL, operations_of, read_comparisons, read_entry, read_indices, read_nodes, read_operation, read_row, read_value)
+    JSON, PROTOCOL, operations_of, read_comparisons, read_entry, read_indices, read_nodes, read_row, read_value)
 from .errors import (
-    BadCount, Closed, Error, Forked, NameLength, NoAttribute, NoNode, NoPass, NotPinned, NotReached, NoVolume, PartialIndex,
-    Pinned, TooLong, encoded, encoded_query)
+    BadCount, Closed, Error, Forked, NameLength, NoAttribute, NoNode, NoPass, NotPinned, NotReached, Pinned, TooLong, encoded,
+    encoded_query)
 from .change import Change
 from .handles import LockOwner
-from .nodes import indices_in, node_number, within
+from .nodes import node_number
 from .operations import MOST_OPERATIONS, NEW, Batch
 from .queries import Prepared
-from .store import ATTEMPTS, CHANGE_WITHIN, TRIES, WITHIN, Entry, Held, Status, ThreadPass, Witness, numbers_of_volumes
+from .store import ATTEMPTS, CHANGE_WITHIN, TRIES, WITHIN, Entry, Held, Pass, Status, Witness
 from .values import RANGES, Kind, Typed, Value
-from .versions import Version
 from .watches import Changes, Watch
 
 __all__ = [
@@ -93,11 +94,6 @@ class Server(NamedTuple):
     commits: int
     watches: int
     """How many watches a pass may have."""
-    volumes: int = 1
-    """How many volumes the store has. `pages` and `commits` are per volume."""
-    features: Tuple[str, ...] = ()
-    """The features that older servers lack, such as a query's parameter `by`. If the server doesn't accept `by`, the client
-    cuts ordered pages out of the whole answer."""
 
 
 def _read_server(hello: JSON) -> Tuple[Server, int]:
@@ -105,7 +101,7 @@ def _read_server(hello: JSON) -> Tuple[Server, int]:
     limits = hello["limits"]
     server = Server(
         hello["server"], hello["library"], hello["run"], hello["kept"], limits["pages"], limits["passes"], limits["commits"],
-        limits["watches"], hello.get("volumes", 1), tuple(hello.get("features", ())))
+        limits["watches"])
     return server, hello["pass"]
 
 
@@ -117,7 +113,7 @@ class ConnectedVersion(QueriedVersion):
     def __init__(self, user: ConnectedPass) -> None:
         self._user = user
         try:
-            self._number, self._next, self._numbers, self._nexts = user._pin(self)
+            self._number, self._next = user._pin(self)
         except BaseException:
             self.unpin()  # which does nothing unless the pin was interrupted
             raise
@@ -125,10 +121,6 @@ class ConnectedVersion(QueriedVersion):
     @property
     def number(self) -> int:
         return self._number
-
-    @property
-    def numbers(self) -> Tuple[int, ...]:
-        return self._numbers
 
     def __del__(self) -> None:
         if self._is_pinned:
@@ -152,20 +144,11 @@ class ConnectedVersion(QueriedVersion):
             return user._ask(command, parameters, read, query=query)
 
     @property
-    def _features(self) -> Tuple[str, ...]:
-        return self._user.server.features
-
-    @property
     def next_node(self) -> int:
         if not self._is_pinned:
             raise NotPinned()
         self._user._check_process()
         return self._next
-
-    def _next_in(self, volume: int) -> int:
-        if not 0 <= volume < len(self._nexts):
-            raise NoVolume(volume, len(self._nexts))
-        return self._nexts[volume]
 
     def refresh(self, prepared: Prepared) -> Tuple[List[int], List[int]]:
         """Works as in a version of a store in this process, up to this version. All nodes that match the query are sent through
@@ -176,13 +159,10 @@ class ConnectedVersion(QueriedVersion):
     def indices(self) -> Dict[str, Kind]:
         return self._ask("indices", {}, read_indices)
 
-    def partial_indices(self) -> Dict[str, List[int]]:
-        return self._ask("indices", {}, lambda ok: dict(ok.get("partial", {})))
-
-    def state(self, volume: Optional[int] = None) -> Iterator[Batch]:
+    def listing(self) -> Iterator[bytes]:
         more: Optional[int] = 0
         while more is not None:
-            batches, more = self._ask("state", {"from": more, **_in_volume(volume, len(self._numbers))}, _read_state)
+            batches, more = self._ask("state", {"from": more}, _read_state)
             for batch in batches:
                 if not self._is_pinned:
                     raise NotPinned()
@@ -264,8 +244,8 @@ def _asked_name(name: str) -> str:
     return name
 
 
-def _read_state(ok: JSON) -> Tuple[List[Batch], Optional[int]]:
-    return [Batch(map(read_operation, batch)) for batch in ok["batches"]], ok.get("more")
+def _read_state(ok: JSON) -> Tuple[List[bytes], Optional[int]]:
+    return [base64.b64decode(batch, validate=True) for batch in ok["batches"]], ok.get("more")
 
 
 def _read_attribute(ok: JSON) -> Optional[Typed]:
@@ -277,21 +257,8 @@ def _read_attributes(ok: JSON) -> Dict[str, Typed]:
     return {name: read_value(value) for name, value in ok["attributes"].items()}
 
 
-def _in_volume(volume: Optional[int], volumes: int) -> JSON:
-    """Returns the volume parameter, if a volume is given. Raises `NoVolume` if its value can't be a volume. `volumes` is the number of
-    volumes."""
-    if volume is not None and operator.index(volume) not in RANGES[Kind.UINT32]:
-        raise NoVolume(volume, volumes)
-    return {} if volume is None else {"volume": volume}
-
-
-def _read_pin(ok: JSON) -> Tuple[int, int, Tuple[int, ...], Tuple[int, ...]]:
-    commit, following = int(ok["commit"]), int(ok["next"])
-    return commit, following, tuple(ok.get("commits", (commit,))), tuple(ok.get("nexts", (following,)))
-
-
-def _read_statuses(ok: JSON) -> List[Status]:
-    return [_read_status(volume) for volume in ok.get("volumes", [ok])]
+def _read_pin(ok: JSON) -> Tuple[int, int]:
+    return int(ok["commit"]), int(ok["next"])
 
 
 def _read_status(ok: JSON) -> Status:
@@ -312,9 +279,11 @@ def _take_push(watches: "WeakValueDictionary[int, ConnectedWatch]", push: JSON) 
         watch._take(push)
 
 
-class ConnectedPass(LockOwner, ThreadPass):
+class ConnectedPass(LockOwner, Pass):
     """A pass of a server's store, which is a connection. Calls from several threads wait for each other, so give each thread
     its own pass."""
+
+    _changing: Optional[int] = None  # the thread that is running a change's function
 
     def __init__(self, path: SocketPath, timeout: Optional[float], run: Optional[str] = None, repeat: Optional[float] = None,
                  confirmed: bool = False) -> None:
@@ -413,8 +382,8 @@ class ConnectedPass(LockOwner, ThreadPass):
         connection = self._connection
         return not self._is_closed and connection is not None and connection.is_open
 
-    def _pin(self, version: ConnectedVersion) -> Tuple[int, int, Tuple[int, ...], Tuple[int, ...]]:
-        """Pins the pass for a version. Returns the commit number, the next node, and both of these for each volume."""
+    def _pin(self, version: ConnectedVersion) -> Tuple[int, int]:
+        """Pins the pass for a version. Returns the commit number and the next node."""
         self._check_process()
         with self._lock:
             self._unpin_left()
@@ -460,8 +429,12 @@ class ConnectedPass(LockOwner, ThreadPass):
         return self._number
 
     @property
-    def volumes(self) -> int:
-        return self.server.volumes
+    def _is_changing(self) -> bool:
+        return self._changing == threading.get_ident()
+
+    @_is_changing.setter
+    def _is_changing(self, is_changing: bool) -> None:
+        self._changing = threading.get_ident() if is_changing else None
 
     def another(self) -> ConnectedPass:
         """Returns a pass of the same store for another thread, which is a new connection. Any thread may call this. Raises
@@ -512,51 +485,27 @@ class ConnectedPass(LockOwner, ThreadPass):
             version.unpin()
 
     def change(self, function: Callable[[Change], _Result], attempts: int = ATTEMPTS, *, check_kinds: bool = True,
-               tries: int = TRIES, volume: Optional[int] = None, within: float = CHANGE_WITHIN) -> _Result:
+               tries: int = TRIES, within: float = CHANGE_WITHIN) -> _Result:
         def run() -> _Result:
             # The server itself retries on Busy and Full.
-            return super(ConnectedPass, self).change(function, attempts, check_kinds=check_kinds, tries=1, volume=volume,
-                                                     within=within)
+            return super(ConnectedPass, self).change(function, attempts, check_kinds=check_kinds, tries=1, within=within)
         return self._until_answered(run, has_token=False)
 
-    def _begin_change(self, check_kinds: bool, volume: Optional[int]) -> Change:
-        if volume is not None and not 0 <= volume < self.volumes:
-            raise NoVolume(volume, self.volumes)
-        return ConnectedChange(self.pin(), check_kinds, volume, self.volumes > 1)
-
-    def _change_on(self, version: Version, check_kinds: bool) -> Change:
-        return ConnectedChange(version, check_kinds, None, self.volumes > 1)
+    def _begin_change(self, check_kinds: bool) -> Change:
+        return ConnectedChange(self.pin(), check_kinds)
 
     def _commit(self, change: Change) -> int:
-        assert isinstance(change, ConnectedChange)
-        batch, volume = change._collected(), change._volume
+        batch = change._collected()
         change.unpin()
-        if self.volumes == 1:
-            return self.apply_if(change.number, batch)[0]
-        if volume is None:
-            raise PartialIndex(0)
-        return self.apply_if(change.numbers[volume], batch, volume=volume)[0]
+        return self.apply_if(change.number, batch)[0]
 
     def _write(self, batch: Batch, waits: Waits, expected: Optional[int]) -> Tuple[int, List[int]]:
-        if expected is None or self.server.volumes == 1:
-            return self._write_batch(batch, expected)
-        volume, _ = within(batch)
-        if volume is None:
-            raise NoVolume(None, self.server.volumes)
-        return self._write_batch(batch, expected, volume)
-
-    def _write_in(self, volume: int, batch: Batch, waits: Waits, expected: Optional[int]) -> Tuple[int, List[int]]:
-        return self._write_batch(batch, expected, volume)
-
-    def _write_batch(self, batch: Batch, expected: Optional[int], volume: Optional[int] = None) -> Tuple[int, List[int]]:
         if not 1 <= len(batch) <= MOST_OPERATIONS:
             raise BadCount()
-        parameters: JSON = {"operations": operations_of(batch), **_in_volume(volume, self.volumes)}
+        parameters: JSON = {"operations": operations_of(batch)}
         if expected is not None:
             parameters["expected"] = expected if expected in RANGES[Kind.UINT64] else 2**64 - 1  # a number that no journal has
-        # The server writes such a batch to all volumes, and refuses a token for it.
-        is_for_all = volume is None and self.volumes > 1 and len(indices_in(batch)) == len(batch)
-        has_token = self._repeat is not None and not is_for_all
+        has_token = self._repeat is not None
         if has_token:
             parameters["token"] = uuid4().hex
             if expected is not None:
@@ -574,25 +523,21 @@ class ConnectedPass(LockOwner, ThreadPass):
     def journal(self, tries: int = TRIES, *, within: float = WITHIN) -> str:
         return "".join(map(line_of, self.journal_from()))
 
-    def journal_from(self, number: int = 0, tries: int = TRIES, volume: Optional[int] = None, *,
-                     within: float = WITHIN) -> Iterator[Entry]:
+    def journal_from(self, number: int = 0, tries: int = TRIES, *, within: float = WITHIN) -> Iterator[Entry]:
         """Yields the journal entries after the first `number` entries, up to the last entry that exists when the last page is
         read. So `store.journal_from(version.number)` yields what was written after a snapshot. Each round trip reads a page of
         a few thousand entries."""
         more: Optional[int] = max(operator.index(number), 0)
         while more is not None and more < 2**64:
-            entries, more = self._ask("journal", {"from": more, **_in_volume(volume, self.volumes)}, _read_journal)
+            entries, more = self._ask("journal", {"from": more}, _read_journal)
             yield from entries
 
     def status(self, tries: int = TRIES, *, within: float = WITHIN) -> Status:
         return self._ask("status", {}, _read_status)
 
-    def statuses(self, tries: int = TRIES, *, within: float = WITHIN) -> List[Status]:
-        return self._ask("status", {}, _read_statuses)
-
-    def reach(self, numbers: Union[int, Sequence[int]], within: float = 5) -> Tuple[int, ...]:
+    def reach(self, number: int, within: float = 5) -> int:
         """Works as for a store in this process. The server waits, and the request is repeated before its reply would time out."""
-        wanted = [min(max(number, 0), 2**64 - 1) for number in numbers_of_volumes(numbers, self.volumes)]
+        wanted = min(max(operator.index(number), 0), 2**64 - 1)
         most = _MOST_WAITED if self._timeout is None else min(self._timeout / 2, _MOST_WAITED)
         until = time.monotonic() + within
         while True:
@@ -603,10 +548,9 @@ class ConnectedPass(LockOwner, ThreadPass):
                 if left <= most:
                     raise
 
-    def _reach(self, wanted: List[int], within: float) -> Tuple[int, ...]:
+    def _reach(self, wanted: int, within: float) -> int:
         """Makes the server wait once."""
-        parameters = {"commit": wanted[0] if len(wanted) == 1 else wanted, "within": math.ceil(within * 1000)}
-        return self._ask("reach", parameters, lambda ok: tuple(ok.get("commits", (ok["commit"],))))
+        return self._ask("reach", {"commit": wanted, "within": math.ceil(within * 1000)}, lambda ok: int(ok["commit"]))
 
     def flush(self) -> None:
         """Returns once everything written before the call is in the server's file. Raises `NotKept` if the server has no file,
@@ -619,8 +563,6 @@ class ConnectedPass(LockOwner, ThreadPass):
 
     def prepare(self, text: str) -> Prepared:
         encoded_query(text)
-        if "text" not in self.server.features:
-            return super().prepare(text)
         try:
             compared = self._ask("text", {"query": text}, read_comparisons, query=text)
         except LineTooLong:
@@ -693,12 +635,10 @@ def connect(path: Union[str, bytes, "os.PathLike[Any]", None] = None, timeout: O
     `repeat` lets writes survive a restart of the server. If a write's reply doesn't arrive, or if the server temporarily can't
     save the write, the write is sent again for up to `repeat` seconds, on a new connection if necessary. The write is applied
     only once. `change` runs its function again. A write isn't repeated while the pass is pinned or has watches, because a new
-    connection would have neither the pin nor the watches. A batch that creates or removes indices in several volumes is repeated
-    only if nothing was written. Numbers for `apply_if` are valid only in the server run that `server.run` names.
+    connection would have neither the pin nor the watches. Numbers for `apply_if` are valid only in the server run that `server.run` names.
 
     With `confirmed`, a read returns only once everything that it shows is in the server's file or log, and raises `NotSaved` if it
-    can't be. Otherwise, a read may show a write that is lost when the server is killed or another server takes over its log. An
-    earlier server, whose `server.features` lack `confirmed`, refuses the connection.
+    can't be. Otherwise, a read may show a write that is lost when the server is killed or another server takes over its log.
 
     Raises `NoServer`; `OtherUser` if the socket wasn't named explicitly and the server runs neither as the effective user nor as root;
     `NoPass` if the server has reached its maximum number of clients; `NotAllowed` if the server refuses this user;

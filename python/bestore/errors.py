@@ -4,7 +4,7 @@ from __future__ import annotations
 
 import unicodedata
 from dataclasses import dataclass, fields
-from typing import ClassVar, Dict, Iterable, Optional, Sequence, Tuple, Type
+from typing import ClassVar, Dict, Iterable, Optional, Tuple, Type
 
 from ._surface import KIND_MEMBERS, MEANINGS, ErrorClass, ErrorNumber
 
@@ -65,48 +65,6 @@ class TooManyAttempts(_Detailed):
                 "shorten the function, or allow more time (within) or more attempts")
 
 
-@dataclass(eq=False, repr=False)
-class NoVolume(_Detailed):
-    """The store has no such volume, or the call must name a volume because the store has several volumes."""
-
-    volume: Optional[int]
-    """The volume, or None if the call doesn't name one."""
-    volumes: int
-    """How many volumes there are."""
-
-    def __str__(self) -> str:
-        if self.volume is None:
-            return f"the call has to name one of the {self.volumes} volumes, counted from 0"
-        return f"there is no volume {self.volume}; there are {self.volumes}, counted from 0"
-
-
-@dataclass(eq=False, repr=False)
-class OtherVolume(_Detailed, ValueError):
-    """An operation names a node in a volume other than the one being written. Each write goes to a single volume."""
-
-    volume: int
-    """The volume being written."""
-    operation: Optional[int]
-    """The operation, counting from 0."""
-
-    def __str__(self) -> str:
-        return (f"a node isn't in volume {self.volume}, which the batch is for (operation {self.operation}, counted from 0); "
-                "a batch can only have nodes of one volume")
-
-
-@dataclass(eq=False, repr=False)
-class PartialIndex(_Detailed, ValueError):
-    """An index must be created in all volumes, by a batch with no other operations. To create an index in only one volume, name
-    that volume in the write."""
-
-    operation: Optional[int]
-    """The first operation that creates or removes an index, counting from 0."""
-
-    def __str__(self) -> str:
-        return (f"an index has to be made or removed in all volumes (operation {self.operation}, counted from 0); it needs a batch without "
-                "other operations")
-
-
 class OtherStore(Error):
     """The witness belongs to a pass of another store."""
 
@@ -114,20 +72,19 @@ class OtherStore(Error):
         return "the witness belongs to another store; join one of this store"
 
 
-class NotReached(Error):
-    """The journals were still shorter than expected when the timeout expired."""
+@dataclass(eq=False, repr=False)
+class NotReached(_Detailed):
+    """The journal was still shorter than expected when the timeout expired."""
 
     error_class = ErrorClass.RETRY
 
-    def __init__(self, expected: Sequence[int], found: Sequence[int]) -> None:
-        super().__init__(expected, found)
-        self.expected = tuple(expected)
-        """The number of entries that each volume's journal should have had."""
-        self.found = tuple(found)
-        """How many entries it had."""
+    expected: int
+    """The number of entries that the journal should have had."""
+    found: int
+    """How many entries it had."""
 
     def __str__(self) -> str:
-        return f"the journals have {list(self.found)} entries, and not {list(self.expected)} yet; ask again"
+        return f"the journal has {self.found} entries, and not {self.expected} yet; ask again"
 
 
 @dataclass(eq=False, repr=False)
@@ -177,8 +134,6 @@ class Refusal(Error):
         from 0."""
         self.operation: Optional[int] = None
         """For a batch that can't be read: the index of the first invalid operation, counting from 0."""
-        self.volume: Optional[int] = None
-        """The volume in which the error occurred, if the store has several."""
         self._carry(carried, listed)
 
     def _carry(self, carried: Optional[int], listed: Optional[str]) -> None:
@@ -194,13 +149,8 @@ class Refusal(Error):
         """What was wrong and what would be right, in one line."""
         return f"{self._what}; {self.advice}" if self.advice else self._what
 
-    @property
-    def _shown(self) -> str:
-        """Returns the summary, with the volume if known."""
-        return self.summary if self.volume is None else f"volume {self.volume}: {self.summary}"
-
     def __str__(self) -> str:
-        return self._shown
+        return self.summary
 
 
 def refusal(number: int, carried: Optional[int] = None, query: Optional[str] = None, listed: Optional[str] = None) -> Refusal:
@@ -266,7 +216,7 @@ class QueryError(Refusal):
 
     def __str__(self) -> str:
         shown = self.shown()
-        return self._shown if shown is None else f"{self._shown}\n  " + shown.replace("\n", "\n  ")
+        return self.summary if shown is None else f"{self.summary}\n  " + shown.replace("\n", "\n  ")
 
 
 class _AtPlace(QueryError, _OfList):

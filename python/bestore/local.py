@@ -4,12 +4,12 @@ from __future__ import annotations
 
 import ctypes
 import operator
-import sys
+import time
 from typing import Any, Callable, Dict, Iterator, List, Optional, Tuple, TypeVar
 from weakref import ref
 
 from . import _native
-from ._engine import CURSOR, PASS, WITNESS, HandleOwner, NativeBatch, native
+from ._engine import BUILDER, PASS, WITNESS, HandleOwner, native
 from ._library import Usage, calls, check
 from ._local_change import LocalChange
 from ._prepared import encode_items
@@ -19,36 +19,21 @@ from ._waits import Waits
 from .change import Change
 from .commits import Commits
 from .errors import (
-    BadCursor, BadLimits, Conflict, Full, NoAttribute, NoIndex, NoNode, NoVolume, OtherStore, Refusal, encoded,
-    encoded_query, no_index, refusal)
+    BadCursor, BadLimits, Conflict, Full, NoAttribute, NoIndex, NoNode, NotReached, OtherStore, Refusal, encoded_query, no_index,
+    refusal)
 from .nodes import name_missing
+from ._listings import BEGINNING
 from .operations import Batch
 from .pages import Cursor, Order, Page
 from .queries import Prepared, prepare
 from .store import PASSES, TRIES, WITHIN, Entry, Held, Pass, Status, Witness
 from .values import RANGES, Kind, Typed, Value
 from .versions import Asked, Query, Row, Version
+from .watches import LocalWatch
 
 _Answered = TypeVar("_Answered", bound=Tuple[Any, ...])
 
 _BUSY, _FULL = int(ErrorNumber.BUSY), int(ErrorNumber.FULL)
-
-
-def check_one_volume(volume: Optional[int]) -> None:
-    """Raises `NoVolume` if a call names a volume other than the store's only volume."""
-    if volume:
-        raise NoVolume(volume, 1)
-
-
-class _Cursor(HandleOwner):
-    """The position in the sequence of operations that rebuilds a version."""
-
-    def __init__(self) -> None:
-        super().__init__(CURSOR)
-
-    def close(self) -> None:
-        """Releases the cursor if it has been started."""
-        self._give_up(calls.bes_leave)
 
 
 class LocalVersion(_native.Reader, Version):
@@ -160,10 +145,17 @@ class LocalVersion(_native.Reader, Version):
             return came, went
 
     def explain(self, text: str) -> str:
+        return self._text_about(calls.bes_explain, text)
+
+    def ways(self, text: str) -> str:
+        return self._text_about(calls.bes_ways, text)
+
+    def _text_about(self, call: Callable[..., int], text: str) -> str:
+        """Returns the text that a call writes about a query."""
         taken, count, room = encoded_query(text), ctypes.c_uint64(), 256
         while True:
             written = ctypes.create_string_buffer(room)
-            answer = self._call(calls.bes_explain, taken, len(taken), written, room, ctypes.byref(count))
+            answer = self._call(call, taken, len(taken), written, room, ctypes.byref(count))
             if answer != 0:
                 raise self._query_error(answer, count.value, text)
             if count.value <= room:
@@ -173,14 +165,13 @@ class LocalVersion(_native.Reader, Version):
     def _listed(self, node: int) -> Dict[str, Typed]:
         return self.attributes(node, True)
 
-    def state(self, volume: Optional[int] = None) -> Iterator[Batch]:
-        check_one_volume(volume)
-        with _Cursor() as cursor:
-            while True:
-                batch = self._state(cursor)
-                if batch is None:
-                    return
-                yield batch
+    def listing(self) -> Iterator[bytes]:
+        batch, node, records = self._listing_from(0, 0)
+        while len(batch) > len(BEGINNING):
+            yield batch
+            if node == 0:
+                return
+            batch, node, records = self._listing_from(node, records)
 
 
 class LocalWitness(HandleOwner, Witness):
@@ -248,19 +239,13 @@ class LocalPass(HandleOwner, Pass):
             raise refusal(answer, number, listed="operation")
         return number, made
 
-    def _begin_change(self, check_kinds: bool, volume: Optional[int]) -> Change:
-        if volume:
-            check_one_volume(volume)
+    def _begin_change(self, check_kinds: bool) -> Change:
         version = LocalVersion(self)
         try:
             return LocalChange(version, check_kinds)
         except BaseException:  # an interrupt, whose traceback would keep the version pinned
             version.unpin()
             raise
-
-    def _change_on(self, version: Version, check_kinds: bool) -> Change:
-        assert isinstance(version, LocalVersion)
-        return LocalChange(version, check_kinds)
 
     def _commit(self, change: Change) -> int:
         assert isinstance(change, LocalChange)
@@ -289,10 +274,6 @@ class LocalPass(HandleOwner, Pass):
             return False
         oldest = status.oldest
         return oldest is None or oldest.pass_number != self.number and (self._pinned is None or self._pinned > oldest.version)
-
-    @property
-    def _commits(self) -> Tuple[Commits, ...]:
-        return (self._store,)
 
     def _wake(self) -> None:
         if self._store._waiting:
@@ -360,9 +341,7 @@ class LocalPass(HandleOwner, Pass):
                 return written.raw[:count.value].decode()
             room = 2 * count.value
 
-    def journal_from(self, number: int = 0, tries: int = TRIES, volume: Optional[int] = None, *,
-                     within: float = WITHIN) -> Iterator[Entry]:
-        check_one_volume(volume)
+    def journal_from(self, number: int = 0, tries: int = TRIES, *, within: float = WITHIN) -> Iterator[Entry]:
         number = max(operator.index(number), 0)
         while number < 2**64:
             answer, carried, by, batch = self._repeated(Waits(tries, within), self._journal_entry, number)
@@ -378,15 +357,60 @@ class LocalPass(HandleOwner, Pass):
         oldest = Held(usage.oldest, usage.holder) if usage.is_held else None
         return Status(usage.pages, usage.free, usage.retired, usage.entries, usage.commits, oldest)
 
+    def reach(self, number: int, within: float = 5) -> int:
+        wanted, until = operator.index(number), time.monotonic() + within
+        with self._store.waiter() as waiter:
+            while True:
+                waiter.begin()
+                found = self.status().entries
+                if found >= wanted:
+                    return found
+                left = until - time.monotonic()
+                if left <= 0:
+                    raise NotReached(wanted, found)
+                waiter.wait(left)
+
+    def watch(self, query: Optional[str] = None) -> LocalWatch:
+        return LocalWatch(self, query)
+
 
 _native.know(user=LocalPass, page=Page)
 
 
-def open(pages: int = 16_384, passes: int = PASSES, commits: int = 2**32 - 1) -> LocalPass:
-    """Like `opening.open`."""
-    if not all(0 <= operator.index(limit) < 2**64 for limit in (pages, passes, commits)):
+def _check_limits(*limits: int) -> None:
+    """Raises `BadLimits` if a limit doesn't fit in 64 bits."""
+    if not all(0 <= operator.index(limit) < 2**64 for limit in limits):
         raise BadLimits()
+
+
+def _first_pass() -> LocalPass:
+    """Returns the first pass of a new store, whose handle isn't open yet."""
     user = LocalPass()
     user._store, user._opener = Commits(), ref(user)
+    return user
+
+
+class LocalBuilder(HandleOwner):
+    """The library's builder of a store."""
+
+    def __init__(self, pages: int, passes: int, commits: int) -> None:
+        super().__init__(BUILDER)
+        _check_limits(pages, passes, commits)
+        check(calls.bes_build(pages, passes, commits, self._pointer))
+
+    def close(self) -> None:
+        self._give_up(calls.bes_build_close)
+
+    def finish(self, next_node: int) -> LocalPass:
+        """Like `Builder.finish`."""
+        user, number = _first_pass(), operator.index(next_node)
+        check(self._call(calls.bes_build_finish, min(max(number, 0), 2**64 - 1), user._pointer))
+        return user
+
+
+def open(pages: int = 16_384, passes: int = PASSES, commits: int = 2**32 - 1) -> LocalPass:
+    """Like `opening.open`."""
+    _check_limits(pages, passes, commits)
+    user = _first_pass()
     check(calls.bes_open(pages, passes, commits, user._pointer))
     return user

@@ -235,8 +235,18 @@ class Batch:
     def from_bytes(cls, data: bytes) -> Batch:
         """Returns the batch that `to_bytes` encoded as these bytes. Raises `BadBytes` if the bytes aren't a batch that a store
         could accept, or if anything follows it."""
-        reader, batch = _Reader(data), cls()
-        reader.read_beginning()
+        data, batch = bytes(memoryview(data)), cls()  # bytes of an int would be that many zeros
+        return batch if batch._take_bytes(data) else cls._read(data)
+
+    def _take_bytes(self, data: bytes, /) -> bool:
+        """Adds the operations in a batch's bytes, which only the extension's class does. Returns False if these aren't valid."""
+        return False
+
+    @classmethod
+    def _read(cls, data: bytes) -> Batch:
+        """Does what `from_bytes` does, in more time, and finds the first wrong byte."""
+        reader, batch = Reader(data), cls()
+        reader.read_beginning(BEGINNING)
         for _ in range(reader.read_count()):
             reader.read_operation(batch)
         reader.read_end()
@@ -296,33 +306,40 @@ _BYTES = [bytes([byte]) for byte in range(256)]
 _RAW = struct.Struct("=2I2Q4I")  # an operation in the library's form
 
 
-class _Reader:
-    """Reads a batch from bytes."""
+class Reader:
+    """Reads the parts of a batch from bytes."""
 
     def __init__(self, data: bytes) -> None:
-        self._data, self._at = bytes(memoryview(data)), 0  # bytes of an int would be that many zeros
+        self._data, self.at = data, 0
+        """How many bytes have been read."""
 
     def _take(self, count: int, what: str) -> bytes:
         """Returns the next `count` bytes."""
-        taken = self._data[self._at:self._at + count]
+        taken = self._data[self.at:self.at + count]
         if len(taken) < count:
-            raise BadBytes(self._at, f"{what} is cut off")
-        self._at += count
+            raise BadBytes(self.at, f"{what} is cut off")
+        self.at += count
         return taken
 
-    def _number(self, count: int, what: str) -> int:
+    @property
+    def is_at_end(self) -> bool:
+        """Whether everything has been read."""
+        return self.at == len(self._data)
+
+    def read_number(self, count: int, what: str) -> int:
+        """Reads a number of this many bytes."""
         return int.from_bytes(self._take(count, what), "little")
 
     def _counted(self, what: str) -> bytes:
         """Reads a length, and returns that many bytes. If they are cut off, the error is at the length."""
-        begin, count = self._at, self._number(1, f"the length of {what}")
-        if len(self._data) - self._at < count:
+        begin, count = self.at, self.read_number(1, f"the length of {what}")
+        if len(self._data) - self.at < count:
             raise BadBytes(begin, f"{what} is cut off")
         return self._take(count, what)
 
     def _text(self, text: bytes, what: str) -> bytes:
         """Returns the name or text that has just been read. If it has a wrong byte, the error is at that byte."""
-        begin, (valid, zero, _) = self._at - len(text), text.partition(b"\0")
+        begin, (valid, zero, _) = self.at - len(text), text.partition(b"\0")
         try:
             valid.decode()
         except UnicodeDecodeError as error:
@@ -331,48 +348,59 @@ class _Reader:
             raise BadBytes(begin + len(valid), f"{what} has a zero byte")
         return text
 
-    def _name(self) -> bytes:
+    def read_name(self) -> bytes:
+        """Reads a name with its length."""
         name = self._counted("a name")
         if not 1 <= len(name) <= MOST_OF_A_NAME:
-            raise BadBytes(self._at - len(name) - 1, f"a name has 1 to {MOST_OF_A_NAME} bytes, and this one {len(name)}")
+            raise BadBytes(self.at - len(name) - 1, f"a name has 1 to {MOST_OF_A_NAME} bytes, and this one {len(name)}")
         return self._text(name, "a name")
 
+    def read_code(self) -> int:
+        """Reads a type code."""
+        code = self.read_number(4, "a type code")
+        if code not in KIND_OF:
+            raise BadBytes(self.at - 4, f"no kind has the type code {code:#x}")
+        return code
+
+    def read_value(self, code: int) -> Tuple[int, bytes]:
+        """Reads a value of the kind with this type code. Returns its number and its bytes."""
+        return (self._integer(code), b"") if code in RANGES else (0, self._value(code))
+
     def _integer(self, code: int) -> int:
-        number = self._number(8, "a number")
+        number = self.read_number(8, "a number")
         value = decode_value(code, number, b"")
         if value not in RANGES[Kind(code)]:
-            raise BadBytes(self._at - 8, f"the number {value!r} doesn't fit its kind")
+            raise BadBytes(self.at - 8, f"the number {value!r} doesn't fit its kind")
         return number
 
     def _value(self, code: int) -> bytes:
         value = self._counted("a value")
         return value if code == Kind.RAW else self._text(value, "a text")
 
-    def read_beginning(self) -> None:
-        for at, expected in enumerate(BEGINNING):
-            if self._number(1, "the beginning") != expected:
-                raise BadBytes(at, "they don't begin with BEB" if at < 3 else "the format has a version other than 1")
+    def read_beginning(self, beginning: bytes) -> None:
+        """Reads these bytes, the last of which is the format's version."""
+        for at, expected in enumerate(beginning):
+            if self.read_number(1, "the beginning") != expected:
+                name = beginning[:-1].decode()
+                raise BadBytes(at, f"they don't begin with {name}" if at < len(name) else "the format has a version other than 1")
 
     def read_count(self) -> int:
-        count = self._number(1, "the number of operations")
+        count = self.read_number(1, "the number of operations")
         if not 1 <= count <= MOST_OPERATIONS:
-            raise BadBytes(self._at - 1, f"a batch has 1 to 64 operations, and this one {count}")
+            raise BadBytes(self.at - 1, f"a batch has 1 to 64 operations, and this one {count}")
         return count
 
     def read_operation(self, batch: Batch) -> None:
         """Reads an operation, and adds it to the batch."""
-        kind = self._number(1, "an operation")
+        kind = self.read_number(1, "an operation")
         if kind > REMOVE_INDEX:
-            raise BadBytes(self._at - 1, f"no operation has the number {kind}")
-        node = self._number(8, "a node") if kind in _WITH_NODE else 0
-        name = self._name() if kind in _WITH_NAME else b""
-        code = self._number(4, "a type code") if kind in _WITH_CODE else 0
-        if kind in _WITH_CODE and code not in KIND_OF:
-            raise BadBytes(self._at - 4, f"no kind has the type code {code:#x}")
-        number = self._integer(code) if kind == SET and code in RANGES else 0
-        value = self._value(code) if kind == SET and code not in RANGES else b""
+            raise BadBytes(self.at - 1, f"no operation has the number {kind}")
+        node = self.read_number(8, "a node") if kind in _WITH_NODE else 0
+        name = self.read_name() if kind in _WITH_NAME else b""
+        code = self.read_code() if kind in _WITH_CODE else 0
+        number, value = self.read_value(code) if kind == SET else (0, b"")
         batch._add_encoded(kind, node, name, code, number, value)
 
     def read_end(self) -> None:
-        if self._at < len(self._data):
-            raise BadBytes(self._at, "the batch ends, and more bytes follow")
+        if not self.is_at_end:
+            raise BadBytes(self.at, "the batch ends, and more bytes follow")

@@ -4,12 +4,11 @@ from __future__ import annotations
 
 import enum
 import threading
-from typing import Callable, List, Optional, Set, TypeVar, Union
+from typing import List, Optional, Set, Union
 
 from .handles import Owner
 from .language import Comparison, comparisons
 
-_Returned = TypeVar("_Returned")
 
 
 class Name(str):
@@ -81,14 +80,6 @@ def prepare(text: str) -> Prepared:
     closed."""
     from . import _prepared  # needs the library
     return _prepared.prepare(text)
-
-
-def with_prepared(asked: Union[str, Prepared], call: Callable[[Prepared], _Returned]) -> _Returned:
-    """Makes a call with a prepared query, and returns the call's result. A query given as text is prepared just for this call."""
-    if isinstance(asked, Prepared):
-        return call(asked)
-    with prepare(asked) as prepared:
-        return call(prepared)
 
 
 def prepare_items(*items: Item) -> Prepared:

@@ -7,10 +7,10 @@
         store.set(letter, "MAIL:from", "ann")
 
 The store is in memory, and each accepted write is saved in the file before its call returns. The write survives `kill -9`.
-It also survives a power failure, provided that the disk stores data before confirming it. Opening the file rebuilds the store by
-replaying each write. If an outcome differs, the file is refused. Only one store at a time can have a file open. docs/KEPT.md
-describes the promises and the format, which is the same as the Rust crate's. If the open file was removed, moved or replaced, the
-next write fails like a failed commit, because the next opening wouldn't find it.
+It also survives a power failure, provided that the disk stores data before confirming it. Opening the file builds the store's last
+state, and repeats the writes since then. If an outcome differs, the file is refused. Only one store at a time can have a file open.
+docs/KEPT.md describes the promises and the format, which is the same as the Rust crate's. If the open file was removed, moved or
+replaced, the next write fails like a failed commit, because the next opening wouldn't find it.
 
 Concurrent writers share a commit: one writer saves what all of them have written, in the journal's order. While a write's call
 waits, a snapshot may already show the write, although the write isn't in the file yet. Call `flush` before you pass a
@@ -30,31 +30,27 @@ import operator
 import os
 import threading
 from contextlib import ExitStack, suppress
-from functools import partial
 from types import TracebackType
-from typing import Any, Dict, List, Optional, Sequence, Tuple, Type, Union
+from typing import Any, Dict, Iterator, List, Optional, Tuple, Type, Union
 
 from . import local as _local
-from . import shelf as _shelf
 from ._library import check
 from ._saved_errors import (
-    CutOff, Damaged, Differs, DiskFull, Fewer, Foreign, Held, Moved, Newer, NoFile, NotSaved, SavedError, SqliteError, Stopped,
-    TooLarge, is_of_writing, refused, said)
-from ._saved_file import File, Row
+    CutOff, Damaged, Differs, DiskFull, Exists, Foreign, Held, Moved, Newer, NoFile, NotSaved, OtherKind, SavedError, SqliteError,
+    Stopped, TooLarge, is_of_writing, refused, said)
+from ._saved_file import FORMAT, File, Row
 from ._saved_line import Line, Turn
-from ._saved_rows import Repeater
+from ._saved_volumes import join_volumes, state_of, whole_of
 from ._waits import Waits
 from .change import Change
-from .errors import BadLimits, CommitsSpent, Error, Full, NoMemory
-from .operations import Batch
+from .errors import BadLimits, CommitsSpent, Error, Full
+from .operations import NEW, Batch
 from .store import PASSES
 
 __all__ = [
-    "CutOff", "Damaged", "Differs", "DiskFull", "Fewer", "Foreign", "Held", "Moved", "Newer", "NoFile", "NotSaved", "Saved",
-    "SavedError", "SavedPass", "SavedShelf", "SqliteError", "Stopped", "TooLarge", "open", "open_shelf",
+    "CutOff", "Damaged", "Differs", "DiskFull", "Exists", "Foreign", "Held", "Moved", "Newer", "NoFile", "NotSaved", "OtherKind", "Saved",
+    "SavedError", "SavedPass", "SqliteError", "Stopped", "TooLarge", "open",
 ]
-
-_ENDING = ".bestore"  # the suffix of a volume's file
 
 _MOST_ROWS = 1024  # the maximum number of entries in a commit
 _TRIES = 2**63 - 1  # as long as other passes are writing, because an unread entry would end all saving
@@ -204,7 +200,7 @@ class _Saver:
                 self._check_place()
                 assert self._file is not None
                 number = self.number_in_file(version.number)
-                self._file.write_state(number, version.next_node, (batch.to_bytes() for batch in version.state()))
+                self._file.write_state(number, version.next_node, version.listing())
 
     def _save_now_and_then(self, every: float) -> None:
         """In a loop, saves what was written, `every` seconds after the first unsaved write. Closes the file at the end."""
@@ -364,13 +360,18 @@ class Saved(SavedPass):
 
 def open(path: Union[str, bytes, "os.PathLike[Any]"], pages: int = 16_384, passes: int = PASSES, commits: int = 2**32 - 1,
          every: Optional[float] = None) -> Saved:
-    """Opens or creates the file, and rebuilds the store. The limits are those of `bestore.open`, except that `passes` is at
-    most 63. The journal begins with the file's contents, so `commits` must allow for them.
+    """Opens or creates the file, and builds the store. The limits are those of `bestore.open`, except that `passes` is at most
+    63. The journal begins with the entries that are newer than the file's state, so `commits` must allow for them. Takes time
+    and memory for everything in the file.
 
     With `every`, a write returns immediately and is saved `every` seconds later, or earlier by `flush` or `close`.
 
-    If the file has entries that are newer than its state, the state is rewritten. The file is left unchanged if the disk is full
-    or, since Python 3.11, if the user's quota is used up or the file may not grow.
+    If the file has entries that are newer than its state, or an earlier format, the state is rewritten. The file is left
+    unchanged if the disk is full or, since Python 3.11, if the user's quota is used up or the file may not grow.
+
+    If the path is a folder of volumes, in which an earlier version kept a shelf, a file with the contents of all volumes takes
+    its place, and the folder is renamed: docs/KEPT.md says how. Raises `NoFile`, `OtherKind`, `Exists` or an OSError if that
+    isn't possible.
 
     Raises `Foreign`, `Newer` or `Held`; `Damaged` or `CutOff` if part of the file was changed or lost; `Differs` or `TooLarge`,
     with the position in the file; `DiskFull` or `SqliteError`; the errors of `bestore.open`; and a ValueError if `every` is
@@ -379,21 +380,25 @@ def open(path: Union[str, bytes, "os.PathLike[Any]"], pages: int = 16_384, passe
         raise BadLimits()
     if every is not None and not every >= 0:
         raise ValueError(f"the file can't be written every {every} seconds; give 0 or more")
+    name = os.fsdecode(path)
+    name = name.rstrip(os.sep) or name  # because a folder may become a file
     with ExitStack() as opened:
-        own = opened.enter_context(_local.open(pages, passes + 1, commits))
-        file = File(os.fsdecode(path))
+        builder = opened.enter_context(_local.LocalBuilder(pages, passes + 1, commits))
+        join_volumes(os.path.realpath(name))
+        file = File(name)
         opened.callback(file.close)
         most = file.commits_within(commits)
         if most < commits:
-            own.close()
-            own = opened.enter_context(_few_commits(file, pages, passes + 1, most))
-        last = _load_or_advise(file, own, pages, passes + 1, min(most, commits))
+            builder.close()
+            builder = opened.enter_context(_few_commits(file, pages, passes + 1, most))
+        own, last = _load(file, builder, (pages, passes + 1, most))
+        opened.callback(own.close)
         file.check(last)
         file.measure()
         has_entries = last != file.about().entries
         saver = _Saver(file, own, last, every)
         opened.callback(saver.close)
-        if has_entries or not file.has_checksums:
+        if has_entries or file.format != FORMAT:
             _renew(saver)
         file.keep_last(last)
         store = Saved(saver)
@@ -411,176 +416,66 @@ def _renew(saver: _Saver) -> None:
             raise
 
 
-def _few_commits(file: File, pages: int, passes: int, commits: int) -> _local.LocalPass:
-    """Opens a store for a file that has only a few entry numbers left. Raises `TooLarge` if the store couldn't accept even one
+def _few_commits(file: File, pages: int, passes: int, commits: int) -> _local.LocalBuilder:
+    """Begins a store for a file that has only a few entry numbers left. Raises `TooLarge` if the store couldn't accept even one
     transaction."""
     if commits == 0:
         spent = CommitsSpent()
         raise refused(file.path, spent, entry=file.about().entries) from spent
-    return _local.open(pages, passes, commits)
+    return _local.LocalBuilder(pages, passes, commits)
 
 
-class SavedShelf(_shelf.Shelf):
-    """A pass of a shelf whose volumes are kept in files. Closing the first pass closes the files."""
-
-    def __init__(self, passes: Sequence[SavedPass]) -> None:
-        super().__init__(passes)
-        self._saved = tuple(passes)
-
-    def another(self) -> SavedShelf:
-        """Returns a pass of the same shelf for another thread. Any pass can do this, in any thread. Raises `NoPass` if no pass is left."""
-        return SavedShelf(_shelf.taken(user.another for user in self._saved))
-
-    def flush(self) -> None:
-        """Returns once everything written before the call is in the files. Raises `Stopped` for the first volume that can't be
-        saved, after saving the other volumes."""
-        with ExitStack() as calls_of_all:
-            for user in self._saved:  # the last volume first, so that the first volume's error is the one raised
-                calls_of_all.callback(user.flush)
-
-    def compact(self) -> None:
-        """Writes the current snapshots into the files, as `SavedPass.compact` does for each volume. Raises the error from the
-        first volume that fails, after compacting the other volumes."""
-        with ExitStack() as calls_of_all:
-            for user in self._saved:  # as in `flush`
-                calls_of_all.callback(user.compact)
-
-    @property
-    def is_due(self) -> bool:
-        """Whether it is time to call `compact`, as `SavedPass.is_due` says of each volume."""
-        return any(user.is_due for user in self._saved)
-
-    def _index_new(self) -> None:
-        """In volumes that have never had a node, creates the indices that all other volumes have."""
-        new, common = [], None
-        for user in self._saved:
-            with user.pin() as version:
-                if version.next_node == 1:
-                    new.append((user, version.indices()))
-                elif common is None:
-                    common = set(version.indices().items())
-                else:
-                    common &= set(version.indices().items())
-        for user, indices in new:
-            for name, kind in sorted((common or set()) - set(indices.items())):
-                user.make_index(name, kind)
+def _state(file: File) -> Iterator[Tuple[int, bytes]]:
+    """Yields the batches of the state's listing, with their indices."""
+    return file.state() if file.format == FORMAT else enumerate(state_of(file).listing())
 
 
-def _volumes_in(folder: str) -> int:
-    """Returns how many volumes a folder has. Raises `NoFile` if a volume is missing and a later volume exists."""
-    names = [name[:-len(_ENDING)] for name in os.listdir(folder) if name.endswith(_ENDING)]
-    found = sorted(int(name) for name in names if name.isdecimal() and str(int(name)) == name)
-    for expected, volume in enumerate(found):
-        if volume != expected:
-            raise NoFile(_file_of(folder, expected))
-    return len(found)
+def _load(file: File, builder: _local.LocalBuilder, limits: Tuple[int, int, int]) -> Tuple[_local.LocalPass, int]:
+    """Builds the store from the file's contents. Returns its first pass, and the number of the last entry.
 
-
-def _file_of(folder: str, volume: int) -> str:
-    return os.path.join(folder, f"{volume}{_ENDING}")
-
-
-def open_shelf(folder: Union[str, bytes, "os.PathLike[Any]"], volumes: Optional[int] = None, pages: int = 4096, passes: int = PASSES,
-               commits: int = 2**32 - 1, every: Optional[float] = None) -> SavedShelf:
-    """Opens the volumes in the folder, each in its own file: `0.bestore`, `1.bestore` and so on. If `volumes` (1 to 64) is
-    given, creates the folder and any missing volumes; a new volume gets the indices that the other volumes have. The other
-    parameters are those of `open` and apply to each volume. The Rust crate and bestored can open the same folder.
-
-    Raises what `open` raises; `Fewer` if the folder has more volumes than `volumes`, or has none and `volumes` is None;
-    `NoFile` if a volume is missing and a later volume exists; an OSError if the folder can't be read or created."""
-    path = os.fsdecode(folder)
-    if volumes is not None:
-        if not 1 <= volumes <= _shelf.MOST_VOLUMES:
-            raise BadLimits()
-        os.makedirs(path, 0o700, exist_ok=True)
-    found = _volumes_in(path)
-    wanted = found if volumes is None else volumes
-    if found > wanted or wanted == 0:
-        raise Fewer(path, found, wanted)
-    files = (_file_of(path, volume) for volume in range(wanted))
-    store = SavedShelf(_shelf.taken(partial(open, file, pages, passes, commits, every) for file in files))
+    A built store has as few pages in use as possible, so an entry can need more new pages than it did when it was written. If there are too
+    few pages, what all entries lead to is built instead. The store that wrote the file had room for that."""
+    about = file.about()
+    own = _built(file, builder, _state(file), about.next_node)
     try:
-        store._index_new()
+        return own, _repeat_entries(file, own, about.entries)
+    except TooLarge as error:
+        own.close()
+        if not isinstance(error.__cause__, Full):
+            raise
     except BaseException:
-        with suppress(SavedError):  # which would say the same again
-            store.close()
+        own.close()
         raise
-    return store
+    volume, last = whole_of(file)
+    with _local.LocalBuilder(*limits) as again:
+        return _built(file, again, enumerate(volume.listing()), volume.next_node), last
 
 
-def _load(file: File, own: _local.LocalPass) -> int:
-    """Applies the file's contents to an empty store. Returns the number of the last entry."""
-    about, repeater = file.about(), Repeater(own)
-    for place, data in file.state():
-        _repeat(file.path, repeater, data, batch=place)
-    with own.pin() as version:
-        if version.next_node != about.next_node:
-            raise Differs(file.path, "its next node number differs from the recorded one")
-    last = about.entries
+def _built(file: File, builder: _local.LocalBuilder, batches: Iterator[Tuple[int, bytes]], next_node: int) -> _local.LocalPass:
+    """Returns the first pass of a store with these contents."""
+    place: Optional[int] = None
+    try:
+        for place, data in batches:
+            builder._build_batch(data)
+        place = None
+        return builder.finish(next_node)
+    except SavedError:
+        raise
+    except Error as error:
+        raise refused(file.path, error, batch=place) from error
+
+
+def _repeat_entries(file: File, own: _local.LocalPass, last: int) -> int:
+    """Applies the entries after this one. Returns the number of the last entry."""
     for number, data in file.entries(last):
         if number != last + 1:
             raise Differs(file.path, "the entry is missing", entry=last + 1)
-        kept, made = _repeat(file.path, repeater, data, entry=number)
-        if made != kept:
+        try:
+            batch = Batch.from_bytes(data)
+            made = own.apply(batch, tries=1)[1]
+        except Error as error:
+            raise refused(file.path, error, number) from error
+        if any(made) and made != [node if kind == NEW else 0 for kind, _, node, *_ in batch._parts()]:
             raise Differs(file.path, "it makes different nodes now", entry=number)
         last = number
     return last
-
-
-def _load_or_advise(file: File, own: _local.LocalPass, pages: int, passes: int, commits: int) -> int:
-    """Does the same. If the store has too few pages, the error says how many are enough."""
-    try:
-        return _load(file, own)
-    except TooLarge as error:
-        if isinstance(error.__cause__, Full):
-            own.close()
-            error.pages = _enough_pages(file, pages, passes, commits)
-            if error.pages is None:
-                error.reason += ", and than a store can have"
-        raise
-
-
-def _enough_pages(file: File, few: int, passes: int, commits: int) -> Optional[int]:
-    """Returns how many pages are enough to open the file, or None if no store can have so many. A fifth fewer aren't enough. `few`
-    pages aren't. Rebuilds the store with several numbers of pages, because nothing else shows how many it takes."""
-    above: Optional[int] = None  # enough, or more than a store can have
-    enough: Optional[int] = None
-    while above is None or above - few > max(few // (100 if enough is None else 5), 1):
-        tried = 2 * few if above is None else (few + above) // 2
-        try:
-            fits = _fits(file, tried, passes, commits)
-        except (BadLimits, NoMemory):
-            above = tried
-            continue
-        if fits:
-            above = enough = tried
-        else:
-            few = tried
-    return enough
-
-
-def _fits(file: File, pages: int, passes: int, commits: int) -> bool:
-    """Returns whether this many pages are enough to open the file, and to open it again once its state was rewritten."""
-    try:
-        with _local.open(pages, passes, commits) as own:
-            if _load(file, own) != file.about().entries:
-                with own.pin() as version, _local.open(pages) as other:
-                    for batch in version.state():
-                        other.apply(batch)
-        return True
-    except Full:
-        return False
-    except TooLarge as error:
-        if isinstance(error.__cause__, Full):
-            return False
-        raise
-
-
-def _repeat(path: str, repeater: Repeater, data: bytes, entry: Optional[int] = None,
-            batch: Optional[int] = None) -> Tuple[List[int], List[int]]:
-    """Applies a batch from the file. Returns two lists of the nodes that the operations created, with 0 for operations that
-    created no node. The first list is the one recorded in the file, and the second has the nodes created now."""
-    try:
-        return repeater.repeat(data)
-    except Error as error:
-        raise refused(path, error, entry, batch) from error

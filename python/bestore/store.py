@@ -3,25 +3,21 @@
 from __future__ import annotations
 
 import operator
-import threading
-import time
 from abc import ABC, abstractmethod
 from functools import partial
-from itertools import groupby
-from typing import Callable, Iterator, List, NamedTuple, Optional, Sequence, Tuple, TypeVar, Union
+from typing import Callable, Iterator, List, NamedTuple, Optional, Tuple, TypeVar
 
 from ._waits import Waits
 from .change import Change, check_function
-from .commits import Commits, waiting
-from .errors import Busy, Conflict, Full, Nested, NoAttribute, NoIndex, NoNode, NotReached, NoVolume, Refusal, TooManyAttempts
+from .errors import Busy, Conflict, Full, Nested, NoAttribute, NoIndex, NoNode, Refusal, TooManyAttempts
 from .handles import Owner
 from .language import all_in
-from .nodes import name_missing, volume_of
+from .nodes import name_missing
 from .operations import MOST_OPERATIONS, Batch, Operation
 from .queries import Prepared, prepare
 from .values import Kind, Value
 from .versions import Version
-from .watches import LocalWatch, Watch
+from .watches import Watch
 
 _Result = TypeVar("_Result")
 
@@ -97,20 +93,13 @@ class Pass(Owner, ABC):
 
     @property
     def committed(self) -> int:
-        """The commit number of this pass's last write, or 0 before its first. With several volumes, it is the commit number in
-        the volume that was written."""
+        """The commit number of this pass's last write, or 0 before its first."""
         return self._committed
 
     @property
     @abstractmethod
     def number(self) -> int:
-        """The pass's number, as used by `Busy`, `Status` and the journal. With several volumes, it is the number in the first
-        volume."""
-
-    @property
-    def volumes(self) -> int:
-        """How many volumes the store has: 1, unless it is a shelf. `help(bestore.shelf)` says what a shelf promises."""
-        return 1
+        """The pass's number, as used by `Busy`, `Status` and the journal."""
 
     @abstractmethod
     def another(self) -> Pass:
@@ -167,46 +156,21 @@ class Pass(Owner, ABC):
         Retries like `apply` while another pass is writing. Uses memory for the whole journal. In the meantime, other writes raise
         `Busy`."""
 
-    def _write_in(self, volume: int, batch: Batch, waits: Waits, expected: Optional[int]) -> Tuple[int, List[int]]:
-        """Writes a batch to this volume, like `_write`. Raises `NoVolume` if there is no such volume."""
-        if volume != 0:
-            raise NoVolume(volume, 1)
-        return self._write(batch, waits, expected)
-
     @abstractmethod
-    def journal_from(self, number: int = 0, tries: int = TRIES, volume: Optional[int] = None, *,
-                     within: float = WITHIN) -> Iterator[Entry]:
+    def journal_from(self, number: int = 0, tries: int = TRIES, *, within: float = WITHIN) -> Iterator[Entry]:
         """Yields the journal entries after the first `number` entries, until there are no more. So
         `store.journal_from(version.number)` yields what was written after a snapshot. Each entry is read by a separate call,
-        which retries like `apply` while another pass is writing, and then raises `Busy`. If there are several volumes,
-        reads the journal of `volume`, and raises `NoVolume` if that isn't given."""
+        which retries like `apply` while another pass is writing, and then raises `Busy`."""
 
     @abstractmethod
     def status(self, tries: int = TRIES, *, within: float = WITHIN) -> Status:
         """Returns how full the store is, and which pass is the oldest active reader. Retries like `apply` while another
-        pass is writing. With several volumes, the numbers are sums, and the reader is that of the first volume that has a
-        reader."""
+        pass is writing."""
 
-    def statuses(self, tries: int = TRIES, *, within: float = WITHIN) -> List[Status]:
-        """Returns how full each volume is."""
-        return [self.status(tries, within=within)]
-
-    def reach(self, numbers: Union[int, Sequence[int]], within: float = 5) -> Tuple[int, ...]:
-        """Waits up to `within` seconds until the journal, or each volume's journal, has at least the given number of entries.
-        Returns how many entries each journal has. Versions that the pass pins from then on include these entries. Raises
-        `NotReached` if the timeout expires first."""
-        wanted = numbers_of_volumes(numbers, self.volumes)
-        until = time.monotonic() + within
-        with waiting(self._commits, self.volumes) as waiter:
-            while True:
-                waiter.begin()
-                found = tuple(status.entries for status in self.statuses())
-                if all(map(operator.le, wanted, found)):
-                    return found
-                left = until - time.monotonic()
-                if left <= 0:
-                    raise NotReached(wanted, found)
-                waiter.wait(left)
+    @abstractmethod
+    def reach(self, number: int, within: float = 5) -> int:
+        """Waits up to `within` seconds until the journal has at least `number` entries. Returns how many it has. Versions that
+        the pass pins from then on include these entries. Raises `NotReached` if the timeout expires first."""
 
     def prepare(self, text: str) -> Prepared:
         """Prepares this query text for repeated use in versions of this store, like `bestore.prepare`. For a server's store,
@@ -214,14 +178,14 @@ class Pass(Owner, ABC):
         errors are those of `bestore.prepare`."""
         return prepare(text)
 
+    @abstractmethod
     def watch(self, query: Optional[str] = None) -> Watch:
         """Begins to follow what a query finds, or every commit if `query` is None. `Watch.wait` then waits for changes. For a
         store in this process, the watch pins the pass for each check, and uses memory for the nodes that the query finds.
         Raises a `QueryError` or `Pinned`."""
-        return LocalWatch(self, query)
 
     def change(self, function: Callable[[Change], _Result], attempts: int = ATTEMPTS, *, check_kinds: bool = True,
-               tries: int = TRIES, volume: Optional[int] = None, within: float = CHANGE_WITHIN) -> _Result:
+               tries: int = TRIES, within: float = CHANGE_WITHIN) -> _Result:
         """Makes a write that depends on reads. Runs the function on a new snapshot, and commits the operations that the
         function collected, but only if nothing else has been written since that snapshot. Otherwise, runs the function again on
         a newer snapshot.
@@ -238,11 +202,6 @@ class Pass(Owner, ABC):
         repeated. The last run begins within `within` seconds after the first one that failed, and there are at most `attempts`
         runs. If the function raises, nothing is written.
 
-        With several volumes, a change reads all volumes and writes to one: `volume` if it is given, otherwise the volume of the
-        first operation. If the change creates a node before that volume is known, it does so in the volume with the most free
-        pages. The change is committed if nothing else was written to its volume; what it read from other volumes may have
-        changed. Raises `OtherVolume` if the function writes to a different volume.
-
         The function also runs again if another pass is writing, up to `tries` times. With more than one try, it also runs again
         on `Full` while another pass has the oldest snapshot.
 
@@ -252,7 +211,7 @@ class Pass(Owner, ABC):
         check_function(function)
         waits = Waits(attempts, within)
         while True:
-            change = self._begin_change(check_kinds, volume)
+            change = self._begin_change(check_kinds)
             try:
                 self._is_changing = True
                 try:
@@ -279,21 +238,15 @@ class Pass(Owner, ABC):
                 raise TooManyAttempts(waits.failed) from failed
             raise failed
 
-    def _begin_change(self, check_kinds: bool, volume: Optional[int]) -> Change:
-        """Begins a change on the current version. Raises `NoVolume` if there is no such volume to write to."""
-        if volume:
-            raise NoVolume(volume, 1)
-        return self._change_on(self.pin(), check_kinds)
-
     @abstractmethod
-    def _change_on(self, version: Version, check_kinds: bool) -> Change:
-        """Returns a change on a version of this pass, which has one volume."""
+    def _begin_change(self, check_kinds: bool) -> Change:
+        """Begins a change on the current version."""
 
     @abstractmethod
     def _commit(self, change: Change) -> int:
-        """Writes what a change has collected, if nothing else has been written to its volume since its snapshot, and unpins
-        that snapshot. Returns the commit number. Doesn't wait, but raises `Busy` immediately if another pass is writing, and
-        `Full` if no page is free."""
+        """Writes what a change has collected, if nothing else has been written since its snapshot, and unpins that snapshot.
+        Returns the commit number. Doesn't wait, but raises `Busy` immediately if another pass is writing, and `Full` if no page
+        is free."""
 
     def _may_succeed_later(self, error: Refusal, tries: int) -> bool:
         """Returns whether another attempt at a change may succeed after this error, if another pass is writing at most this often."""
@@ -305,8 +258,7 @@ class Pass(Owner, ABC):
         """Returns whether pages may become free for a write that found no free page, because another pass can still unpin its snapshot."""
         return False
 
-    def apply(self, batch: Batch, tries: int = TRIES, volume: Optional[int] = None, *,
-              within: float = WITHIN) -> Tuple[int, List[int]]:
+    def apply(self, batch: Batch, tries: int = TRIES, *, within: float = WITHIN) -> Tuple[int, List[int]]:
         """Applies all operations of a batch or none, whatever other passes have written in the meantime. Returns the commit
         number and, for each operation, the new node's number or 0. For a write that depends on reads, use `change`.
 
@@ -314,50 +266,32 @@ class Pass(Owner, ABC):
         `tries` times in all. It gives up `within` seconds after the first failed try. Uses memory for the operations, and new
         pages on the path to each change in a tree.
 
-        With several volumes the batch is written to one of them: `volume` if it is given, otherwise the volume of the nodes
-        that the batch names, otherwise the volume with the most free pages. The commit number is that volume's. A batch with
-        only `make_index` and `remove_index` operations is written to one volume after another: to each that lacks the index to
-        create, or has the index to remove. If a volume refuses the batch, the earlier volumes have already been written.
-        Applying the same batch again writes the others. For such a batch, the commit number is the sum of the volumes' numbers.
-
         Raises `Busy`, `BadCount` or `NoMemory`; `NameLength`, `DataLength`, `HasNul`, `NotUTF8`, `NoKind` or `NoValue`, with
         the first invalid operation; `NoNode`, `NoAttribute`, `TooManyAttributes`, `IndexExists`, `NoIndex`, `TooManyIndices` or
-        `NotIndexable`; `CommitsSpent` or `Full`. With several volumes, may also raise `NoVolume`, `OtherVolume` or
-        `PartialIndex`."""
-        return self._written(batch, Waits(tries, within), volume=volume)
+        `NotIndexable`; `CommitsSpent` or `Full`."""
+        return self._written(batch, Waits(tries, within))
 
-    def apply_if(self, number: int, batch: Batch, tries: int = TRIES, volume: Optional[int] = None, *,
-                 within: float = WITHIN) -> Tuple[int, List[int]]:
+    def apply_if(self, number: int, batch: Batch, tries: int = TRIES, *, within: float = WITHIN) -> Tuple[int, List[int]]:
         """Applies a batch like `apply`, but only if the journal has exactly `number` entries, that is, if nothing was written
-        after the snapshot with this number. Otherwise raises `Conflict`, and nothing is written. With several volumes, the
-        journal is that of the batch's volume. Raises `NoVolume` if the batch names no node and `volume` isn't given."""
+        after the snapshot with this number. Otherwise raises `Conflict`, and nothing is written."""
         expected = operator.index(number)
         try:
-            return self._written(batch, Waits(tries, within), expected, volume)
+            return self._written(batch, Waits(tries, within), expected)
         except Conflict as conflict:
             conflict.expected = expected
             raise
 
-    def _written(self, batch: Batch, waits: Waits, expected: Optional[int] = None,
-                 volume: Optional[int] = None) -> Tuple[int, List[int]]:
+    def _written(self, batch: Batch, waits: Waits, expected: Optional[int] = None) -> Tuple[int, List[int]]:
         if self._is_changing:
             raise Nested()
         try:
-            if volume is None:
-                written = self._write(batch, waits, expected)
-            else:
-                written = self._write_in(volume, batch, waits, expected)
+            written = self._write(batch, waits, expected)
         except (NoNode, NoAttribute) as error:
             name_missing(error, batch)
             raise
         self._committed = written[0]
         self._wake()
         return written
-
-    @property
-    def _commits(self) -> Tuple[Commits, ...]:
-        """Returns the threads waiting for commits, for each volume whose passes wake them."""
-        return ()
 
     def _wake(self) -> None:
         """Wakes the threads that are waiting for this pass's writes."""
@@ -410,31 +344,8 @@ class Pass(Owner, ABC):
                 raise NoIndex()
             held = set(version.query(all_in(name, kind)))
             lacking = [node for node in version if node not in held and version.kind(node, name) == kind]
-        volumes = (list(nodes) for _, nodes in groupby(lacking, volume_of))
-        parts = [nodes[first:first + MOST_OPERATIONS] for nodes in volumes for first in range(0, len(nodes), MOST_OPERATIONS)]
+        parts = [lacking[first:first + MOST_OPERATIONS] for first in range(0, len(lacking), MOST_OPERATIONS)]
         return sum(self.change(partial(_set_again, name, kind, part)) for part in parts)
-
-
-class ThreadPass(Pass):
-    """A pass that isn't one of the library's handles. It remembers which thread is running a change's function."""
-
-    _changing: Optional[int] = None  # the thread that is running it
-
-    @property
-    def _is_changing(self) -> bool:
-        return self._changing == threading.get_ident()
-
-    @_is_changing.setter
-    def _is_changing(self, is_changing: bool) -> None:
-        self._changing = threading.get_ident() if is_changing else None
-
-
-def numbers_of_volumes(numbers: Union[int, Sequence[int]], volumes: int) -> Tuple[int, ...]:
-    """Returns each volume's commit number. Raises a ValueError unless there is one number per volume."""
-    found = (numbers,) if isinstance(numbers, int) else tuple(numbers)
-    if len(found) != volumes:
-        raise ValueError(f"{len(found)} commit numbers for {volumes} volumes")
-    return found
 
 
 def _set_again(name: str, kind: Kind, nodes: List[int], change: Change) -> int:

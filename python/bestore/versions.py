@@ -9,12 +9,11 @@ from types import TracebackType
 from typing import Dict, Iterable, Iterator, List, Literal, Mapping, Optional, Tuple, Type, TypeVar, Union, overload
 
 from ._typed_reads import TypedReads
-from .errors import Error, NoAttribute, NoNode, NotCovered, NoVolume, no_index, no_room
+from .errors import Error, NoAttribute, NoNode, NotCovered, no_index, no_room
 from .handles import Uncopied
 from .language import Hint, all_in, comparisons, hints_in
-from .operations import Batch
-from .pages import After, Cursor, Order, Page, cursor_of, decode_key, encode_key, order_by
-from .queries import Item, Name, Prepared, with_prepared
+from .pages import After, Cursor, Order, Page, cursor_of, order_by
+from .queries import Item, Name, Prepared
 from .values import Kind, Typed, Value
 
 _Self = TypeVar("_Self", bound="Version")
@@ -58,11 +57,6 @@ class Version(TypedReads, Uncopied, ABC):
         """The commit number of the last write that the version includes. This is also the number of writes that it includes."""
 
     @property
-    def numbers(self) -> Tuple[int, ...]:
-        """Each volume's commit number. Their sum is `number`. A store without volumes has a single commit number."""
-        return (self.number,)
-
-    @property
     @abstractmethod
     def _is_pinned(self) -> bool:
         """Whether the version is still pinned."""
@@ -85,12 +79,6 @@ class Version(TypedReads, Uncopied, ABC):
     @abstractmethod
     def next_node(self) -> int:
         """The number that the next new node gets, unless another write comes first."""
-
-    def _next_in(self, volume: int) -> int:
-        """Returns the number that the next new node in a volume gets. Raises `NoVolume` if there is no such volume."""
-        if volume != 0:
-            raise NoVolume(volume, 1)
-        return self.next_node
 
     @abstractmethod
     def _nodes_of(self, asked: Query) -> List[int]:
@@ -130,28 +118,9 @@ class Version(TypedReads, Uncopied, ABC):
         """Returns any nodes that match a query, up to `limit` of them."""
         return self._nodes_of(asked)[:limit]
 
+    @abstractmethod
     def _page_of(self, asked: Asked, order: Order, after: Optional[Cursor], limit: Optional[int]) -> Page[int]:
         """Returns a page in this order, which has all nodes if `limit` is None."""
-        if not isinstance(asked, Prepared):
-            return with_prepared(asked, lambda prepared: self._page_of(prepared, order, after, limit))
-        if after is None:
-            after = Cursor(order, asked._check)
-        else:
-            after.check_fits(order, asked._check)
-        return self._page_after(asked, after, limit)
-
-    def _page_after(self, asked: Prepared, after: Cursor, limit: Optional[int]) -> Page[int]:
-        """Returns the page after one of this query's cursors. This implementation cuts the page out of the whole answer; a
-        store that can traverse an index overrides it."""
-        order = after.order
-        kind = self._order_kind(order.by)
-        if after.kind not in (None, kind):
-            raise after.of_other_kind(kind)
-        keys = self._keys_of(asked, order, kind)
-        rest = [key for key in keys if after.kind is None or (key < after.key if order.descending else key > after.key)]
-        page = rest if limit is None else rest[:limit]
-        cursor = Cursor.of_key(order, asked._check, kind, page[-1]) if page else after
-        return Page([decode_key(kind, key)[1] for key in page], len(page) < len(rest), cursor)
 
     def _order_kind(self, name: str) -> Kind:
         """Returns the kind of the index that an order uses. Raises `NoIndex` if there is no such index."""
@@ -159,13 +128,6 @@ class Version(TypedReads, Uncopied, ABC):
         if name not in indices:
             raise no_index(name, indices)
         return indices[name]
-
-    def _keys_of(self, asked: Query, order: Order, kind: Kind) -> List[bytes]:
-        """Returns the index keys of the nodes that match a query, in this order."""
-        indexed = set(self._nodes_of(all_in(order.by, kind)))
-        nodes = [node for node in self._nodes_of(asked) if node in indexed]
-        found = zip(nodes, self.column(nodes, order.by))
-        return sorted((encode_key(kind, value, node) for node, value in found if value is not None), reverse=order.descending)
 
     def _part_of(self, asked: Asked, by: Optional[str], descending: bool, limit: Optional[int], after: After, start: int) -> List[int]:
         """Returns what `query` returns, for a query given as text or prepared."""
@@ -259,13 +221,21 @@ class Version(TypedReads, Uncopied, ABC):
     def refresh_changed(self, prepared: Prepared) -> Tuple[List[int], List[int]]:
         """Returns the same as `refresh`. In an in-process store, it checks only the nodes that were written since the last
         refresh. This takes less time if the answer has 96 nodes or more and few nodes were written. Other passes' writes raise
-        `Busy` during the call. Otherwise, and in a shelf or a server's store, it runs the whole query."""
+        `Busy` during the call. Otherwise, and in a server's store, it runs the whole query."""
         return self.refresh(prepared)
 
     @abstractmethod
     def explain(self, text: str) -> str:
-        """Returns how the query would be run: the comparisons for which an index would be read, and a cost. Reads no nodes. The
-        errors are those of `query`."""
+        """Returns comparisons whose indices cover the query, and a score that depends only on the operators. Running the query may
+        read other indices, whose ranges have fewer keys. Reads no nodes. The errors are those of `query`."""
+
+    @abstractmethod
+    def ways(self, text: str) -> str:
+        """Runs the query, and says why it takes as long as it does: returns a line for each range of index keys that the answer
+        walked, such as `"size"  500 .. <600  about 90 keys, 100 walked`. It has the name of the index, the lowest and the highest
+        value of the range, about how many keys the range was estimated to have, and how many it has. A value that the range
+        excludes has `<` or `>` before it, an open end is left out, and `"ann"*` stands for the last string that begins with
+        `ann`. Takes the time of `query`, and that of listing each range once more. The errors are those of `query`."""
 
     @overload
     def attributes(self, node: int) -> Dict[str, Value]: ...
@@ -289,23 +259,19 @@ class Version(TypedReads, Uncopied, ABC):
 
     @abstractmethod
     def indices(self) -> Dict[str, Kind]:
-        """Returns the indices as a dict from names to kinds, in ascending order of names. With several volumes, returns only
-        the indices that every volume has with the same kind."""
-
-    def partial_indices(self) -> Dict[str, List[int]]:
-        """Returns the indices that some volumes lack or have with a different kind, as a dict from names to the volumes that
-        have the index."""
-        return {}
+        """Returns the indices as a dict from names to kinds, in ascending order of names."""
 
     @abstractmethod
-    def state(self, volume: Optional[int] = None) -> Iterator[Batch]:
-        """Yields the operations that rebuild the version in an empty store, as batches of 1 to 64 operations for `Pass.apply`:
+    def listing(self) -> Iterator[bytes]:
+        """Yields what the version contains, as batches of about 64 KiB that `Builder.batch` takes: the indices, and each node with
+        its attributes. Takes one tree search per node, and two per attribute whose name has an index. docs/KEPT.md describes the
+        batches.
 
-            for batch in version.state():
-                other.apply(batch)
-
-        If there are several volumes, yields the batches for `volume`, and raises `NoVolume` if that isn't given. Apply them
-        with the same `volume`."""
+            with bestore.Builder() as builder:
+                for batch in version.listing():
+                    builder.batch(batch)
+                copy = builder.finish(version.next_node)
+        """
 
     def typed(self, node: int, name: str) -> Optional[Typed]:
         """Returns a node's attribute with its kind, or None if the node has no such attribute. Takes one tree search."""
@@ -335,10 +301,6 @@ class Version(TypedReads, Uncopied, ABC):
         five attributes each."""
         read = list(nodes)
         return [self.column(read, name) for name in names]
-
-    def _indexed_column(self, nodes: Iterable[int], name: str) -> List[Optional[Value]]:
-        """Returns a column as queries and pages see it. In a change, these don't see the collected operations."""
-        return self.column(nodes, name)
 
     @overload
     def rows(self, query: Asked, names: Iterable[str], first: int = ..., most: int = ...) -> List[Row]: ...

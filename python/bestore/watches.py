@@ -6,13 +6,12 @@ import time
 from abc import ABC, abstractmethod
 from typing import TYPE_CHECKING, Iterator, List, NamedTuple, Optional
 
-from .commits import waiting
 from .errors import Closed
 from .handles import Uncopied
 from .queries import prepare
 
 if TYPE_CHECKING:
-    from .store import Pass
+    from .local import LocalPass
 
 
 class Changes(NamedTuple):
@@ -79,14 +78,14 @@ class LocalWatch(Watch):
     pass, and raises `Pinned` if the pass is already pinned. The check runs the query with `Version.refresh_changed`, because
     little is written between two checks."""
 
-    def __init__(self, user: Pass, query: Optional[str]) -> None:
+    def __init__(self, user: LocalPass, query: Optional[str]) -> None:
         super().__init__(query)
         self._user, self._is_open = user, True
         with user.pin() as version:
             if query is not None:
                 version.explain(query)  # raises the error if the query isn't valid
             self.commit = version.number
-            self._seen = None if query is not None else version.numbers
+        self._seen = None if query is not None else self.commit
         self._live = None if query is None else prepare(query)
 
     def _look(self) -> Optional[Changes]:
@@ -94,10 +93,10 @@ class LocalWatch(Watch):
         if not self._is_open:
             raise Closed()
         with self._user.pin() as version:
-            if version.numbers == self._seen:
+            if version.number == self._seen:
                 return None
             changes = Changes([], []) if self._live is None else Changes(*version.refresh_changed(self._live))
-            self._seen, self.commit = version.numbers, version.number
+            self._seen = self.commit = version.number
         return changes
 
     def refresh(self) -> Changes:
@@ -105,7 +104,7 @@ class LocalWatch(Watch):
 
     def wait(self, timeout: Optional[float] = None) -> Optional[Changes]:
         until = None if timeout is None else time.monotonic() + timeout
-        with waiting(self._user._commits, self._user.volumes) as waiter:
+        with self._user._store.waiter() as waiter:
             while True:
                 waiter.begin()
                 changes = self._look()
@@ -120,5 +119,4 @@ class LocalWatch(Watch):
         self._is_open = False
         if self._live is not None:
             self._live.close()
-        for store in self._user._commits:
-            store.wake()  # a thread waiting with this watch finds it closed
+        self._user._store.wake()  # a thread waiting with this watch finds it closed

@@ -18,7 +18,7 @@ from bestore.pages import Order
 from . import columns, find
 from .places import PLACE_NAMES, Places
 from .sorted_hits import Hit, Node
-from .sources import LiveAnswer, Numbers, Session, Source, reason_of
+from .sources import LiveAnswer, Session, Source, reason_of
 
 SLICE = 1_000   # hits to read from one snapshot
 REPORTED = 100  # hits in one report, so that the window spends little time on it
@@ -168,14 +168,14 @@ class _Following:
         self._ahead: List[Node] = []  # hits reported from a snapshot that is newer than the answer
         self.waiting: Dict[Node, None] = {}
         self.gone: List[Node] = []  # hits that have left but haven't been reported yet
-        self.seen: Optional[Numbers] = None
+        self.seen: Optional[int] = None  # the commit number of the last snapshot
         self.is_named = False
         self.is_checked = False  # whether the query has found something, or its names have been looked for
 
     def refresh(self, version: bestore.Version, changed: Iterable[Node]) -> None:
         """Advances to a snapshot in which these nodes' attributes may have changed."""
         came, went = self.live.refresh(version)
-        self.seen = version.numbers
+        self.seen = version.number
         self.known.difference_update(went)
         self.known.update(came)
         gone = {node for node in (*went, *self._ahead) if node in self.reported and node not in self.known}
@@ -456,7 +456,7 @@ class Asker(threading.Thread):
     def _follow(self, session: Session, following: _Following, version: bestore.Version) -> List[Report]:
         """Returns the reports that are due from a snapshot. If this raises, the next call returns the same reports again."""
         turn = following.ask.turn
-        if version.numbers != following.seen:
+        if version.number != following.seen:
             following.refresh(version, self._changed(session, following, version))
         hits = self._read(following, version) if following.waiting else []
         reports: List[Report] = []

@@ -17,7 +17,7 @@ INDICES = {
     "MAIL:when": bestore.INT64, "MAIL:status": bestore.STRING,
 }
 RESERVE = 48
-"""The number of pages in a volume that new files must not use, so that files can still be changed and removed."""
+"""The number of pages that new files must not use, so that files can still be changed and removed."""
 
 
 def type_of(name: str) -> str:
@@ -157,7 +157,8 @@ class FolderReader(threading.Thread):
         files, self._waiting = self._waiting, []
         try:
             self._commit(files)
-            self._is_full = all(it.free + it.retired < RESERVE for it in self._user.statuses())
+            status = self._user.status()
+            self._is_full = status.free + status.retired < RESERVE
         except bestore.Full:
             self._is_full = True
             for file in files:
@@ -177,16 +178,7 @@ class FolderReader(threading.Thread):
                 self._remove(gone[half:])
 
     def _commit(self, files: List[Waiting]) -> None:
-        """Writes files, with one change per volume. New files go to the volume with the most free pages."""
-        parts: Dict[Optional[int], List[Waiting]] = {}
-        for file in files:
-            known = self._known.get(file.path)
-            parts.setdefault(None if known is None else bestore.volume_of(known.node), []).append(file)
-        for part in parts.values():
-            self._commit_part(part)
-
-    def _commit_part(self, files: List[Waiting]) -> None:
-        """Writes the files in one volume."""
+        """Writes files, with one change."""
         nodes = self._user.change(lambda change: [self._file(change, it) for it in files])
         for file, node in zip(files, nodes):
             if file.about is None:

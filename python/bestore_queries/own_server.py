@@ -4,13 +4,12 @@ from __future__ import annotations
 
 import ctypes
 import os
-import re
 import shutil
 import signal
 import subprocess
 import tempfile
 import time
-from typing import Callable, Optional
+from typing import Callable
 
 import bestore
 from bestore.connected import SocketPath
@@ -21,6 +20,8 @@ PATIENCE_PER_BYTE = 5e-6
 """The number of seconds that it may take longer for each byte of its file."""
 PAGES = 16_384
 """The number of pages in the store, unless its file needs more."""
+MOST_PAGES = 16_777_216
+"""The number of pages that a store can have."""
 REPLYING = 1.0
 """The number of seconds that a server that listens may take to reply before the window opens without its reply."""
 
@@ -28,11 +29,11 @@ _PR_SET_PDEATHSIG = 1  # from <linux/prctl.h>
 
 
 class CannotStart(Exception):
-    """No server is running, and none can be started. `pages` is how many pages its store needs, if it has too few."""
+    """No server is running, and none can be started. `is_full` says whether its store has too few pages for the file."""
 
-    def __init__(self, why: str, pages: Optional[int] = None) -> None:
+    def __init__(self, why: str, is_full: bool = False) -> None:
         super().__init__(why)
-        self.pages = pages
+        self.is_full = is_full
 
 
 def kept_path() -> str:
@@ -71,13 +72,15 @@ class OwnServer:
             raise CannotStart(f"no server listens at {path}, and the program bestored isn't installed")
         self._path, self._kept = path, kept_path()
         os.makedirs(os.path.dirname(self._kept), exist_ok=True)
-        try:
-            self._start(program, PAGES)
-        except CannotStart as error:
-            # A server with more pages has written the file.
-            if error.pages is None:
-                raise
-            self._start(program, error.pages)
+        pages, is_started = PAGES, False
+        while not is_started:
+            try:
+                self._start(program, pages)
+                is_started = True
+            except CannotStart as error:
+                if not error.is_full or pages >= MOST_PAGES:
+                    raise
+                pages = min(2 * pages, MOST_PAGES)  # a server with more pages has written the file
 
     def _start(self, program: str, pages: int) -> None:
         self._said = tempfile.TemporaryFile()
@@ -99,8 +102,7 @@ class OwnServer:
             if self._process.poll() is not None:
                 self._said.seek(0)
                 said = self._said.read().decode(errors="replace").strip()
-                needed = re.search(r"can be opened with (\d+) pages", said)
-                raise CannotStart(f"bestored ended at once: {said or self._process.returncode}", int(needed[1]) if needed else None)
+                raise CannotStart(f"bestored ended at once: {said or self._process.returncode}", "more pages" in said)
             if time.monotonic() > end:
                 raise CannotStart(f"bestored still isn't listening at {self._path} after {patience:.0f} seconds")
             time.sleep(0.02)

@@ -5,18 +5,17 @@ from __future__ import annotations
 import math
 from abc import ABC, abstractmethod
 from contextlib import ExitStack
-from typing import Iterator, List, NamedTuple, Optional, Set, Tuple
+from typing import List, NamedTuple, Optional, Set, Tuple
 
 import bestore
 from bestore.connected import ConnectedPass, SocketPath, Watch
-from bestore.shelf import MOST_VOLUMES
 
 from . import own_server
 from .folder import INDICES, FolderReader, files_below
+from .own_server import MOST_PAGES
 from .sorted_hits import Node
 
 MANY = 5_000           # the maximum number of journal entries to read in order to find what was set
-MOST_PAGES = 16_777_216  # per volume
 PAGES_OF_A_FILE = 1.1    # for a file with five attributes, all indexed
 GROWTH = 1.3           # how much growth to allow for, as a multiple of the files at the start
 
@@ -31,10 +30,6 @@ class Condition(NamedTuple):
 
     text: str
     is_fault: bool = False
-
-
-Numbers = Tuple[int, ...]
-"""The commit number of each of a store's volumes."""
 
 
 class LiveAnswer(ABC):
@@ -67,27 +62,20 @@ class Session(ABC):
     def check(self) -> None:
         """Returns once the store has replied. A store in this process always replies."""
 
-    def written(self, since: Numbers, version: bestore.Version) -> Optional[Set[Node]]:
-        """Returns the nodes whose attributes were set after these commits, up to a snapshot, or None if there is too much to read,
+    def written(self, since: int, version: bestore.Version) -> Optional[Set[Node]]:
+        """Returns the nodes whose attributes were set after this commit, up to a snapshot, or None if there is too much to read,
         or if the server has freed some of it."""
-        now = version.numbers
-        if len(now) != len(since) or sum(now) - sum(since) > MANY:
+        if not 0 <= version.number - since <= MANY:
             return None
         nodes: Set[Node] = set()
         try:
-            for volume, (first, last) in enumerate(zip(since, now)):
-                for entry in self._entries(volume if len(now) > 1 else None, first, last):
-                    nodes.update(it.node for it in entry.operations if isinstance(it, (bestore.SetAttribute, bestore.UnsetAttribute)))
+            for entry in self.user.journal_from(since) if since < version.number else ():
+                if entry.number > version.number:
+                    break
+                nodes.update(it.node for it in entry.operations if isinstance(it, (bestore.SetAttribute, bestore.UnsetAttribute)))
         except bestore.Expired:
             return None
         return nodes
-
-    def _entries(self, volume: Optional[int], first: int, last: int) -> Iterator[bestore.Entry]:
-        """Yields what was written to a volume between two commits."""
-        for entry in self.user.journal_from(first, volume=volume) if first < last else ():
-            if entry.number > last:
-                break
-            yield entry
 
     def close(self) -> None:
         """Closes the store."""
@@ -171,15 +159,12 @@ class _ServerSession(Session):
         return self._commits.wait(0) is not None
 
     def check(self) -> None:
-        self._connected.statuses()
+        self._connected.status()
 
 
-def size_for(files: int) -> Tuple[int, int]:
-    """Returns the number of volumes that a store needs for a number of files plus some growth, and the number of pages that
-    each volume needs."""
-    pages = 4096 + math.ceil(files * PAGES_OF_A_FILE * GROWTH)
-    volumes = min(math.ceil(pages / MOST_PAGES), MOST_VOLUMES)
-    return volumes, min(math.ceil(pages / volumes), MOST_PAGES)
+def size_for(files: int) -> int:
+    """Returns how many pages a store needs for this many files plus some growth, or the most that a store can have."""
+    return min(4096 + math.ceil(files * PAGES_OF_A_FILE * GROWTH), MOST_PAGES)
 
 
 class FolderSource(Source):
@@ -200,9 +185,9 @@ class FolderSource(Source):
 
     def _begin(self) -> None:
         """Creates the store and starts its reader. If that fails, nothing is left of them, so the next call begins again."""
-        volumes, pages = size_for(sum(1 for _ in files_below(self._folder))) if self._pages is None else (1, self._pages)
+        pages = self._pages if self._pages is not None else size_for(sum(1 for _ in files_below(self._folder)))
         with ExitStack() as opened:
-            store = opened.enter_context(bestore.open_shelf(volumes, pages, 3))
+            store = opened.enter_context(bestore.open(pages, 3))
             for name, kind in INDICES.items():
                 store.make_index(name, kind)
             reader = FolderReader(opened.enter_context(store.another()), self._folder, self._pause)

@@ -177,21 +177,10 @@ static PyObject *batch_unset(PyObject *self, PyObject *const *given, Py_ssize_t 
 
 static PyObject *batch_make_index(PyObject *self, PyObject *const *given, Py_ssize_t count, PyObject *names)
 {
-    PyObject *read[2], *index;
+    PyObject *read[2];
     bes_operation operation = { .kind = BES_MAKE_INDEX };
-    unsigned long long code;
-    if (!read_arguments(&of_index, given, count, names, read))
+    if (!read_arguments(&of_index, given, count, names, read) || !read_code(read[1], &operation.code))
         return NULL;
-    index = PyNumber_Index(read[1]);
-    if (index == NULL)
-        return NULL;
-    code = PyLong_AsUnsignedLongLong(index);
-    Py_DECREF(index);
-    if (code > UINT32_MAX) {
-        PyErr_Clear();
-        return refused(BES_NO_KIND);
-    }
-    operation.code = (uint32_t)code;
     return added(self, operation, read[0], NULL, 0);
 }
 
@@ -266,6 +255,38 @@ static PyObject *batch_put(PyObject *self, PyObject *arguments)
             return NULL;
     }
     Py_RETURN_NONE;
+}
+
+/* Reads an operation, and adds it to a batch. */
+static bool take_operation(Bytes *it, Batch *batch)
+{
+    Field field = { .value = NULL };
+    uint64_t kind, node = 0;
+    bool has_value, is_taken = take_kind(it, BES_NEW_NODE, BES_REMOVE_INDEX, &kind);
+    is_taken = is_taken && (kind > BES_UNSET || take_number(it, 8, &node)) && (kind < BES_SET || take_name(it, &field));
+    has_value = is_taken && kind == BES_SET;
+    is_taken = is_taken && ((!has_value && kind != BES_MAKE_INDEX) || take_code(it, &field)) && (!has_value || take_value(it, &field));
+    return is_taken && add_operation(batch, (bes_operation){ .kind = (uint32_t)kind, .code = field.code, .node = node, .number = field.number },
+                                     field.name, field.name_length, field.value, field.value_length);
+}
+
+/* Adds the operations in a batch's bytes. Returns False if these aren't valid. */
+static PyObject *batch_take_bytes(PyObject *self, PyObject *data)
+{
+    Bytes it = { .at = 0 };
+    char *all;
+    Py_ssize_t length;
+    uint64_t count = 0;
+    bool is_taken;
+    if (PyBytes_AsStringAndSize(data, &all, &length) < 0)
+        return NULL;
+    it.all = (const uint8_t *)all;
+    it.length = (size_t)length;
+    take_beginning(&it, OPERATIONS_BEGINNING);
+    is_taken = it.fault == NULL && take_number(&it, 1, &count) && count >= 1 && count <= MOST_OPERATIONS;
+    for (; is_taken && count > 0; count--)
+        is_taken = take_operation(&it, (Batch *)self);
+    return PyErr_Occurred() ? NULL : PyBool_FromLong(is_taken && it.at == it.length);
 }
 
 PyObject *batch_of(const Listed *listed)
@@ -350,6 +371,7 @@ static PyMethodDef methods[] = {
     { "remove_index", METHOD(batch_remove_index), "remove_index($self, /, name)\n--\n\nRemoves the index of this name." },
     { "_add_encoded", batch_add_encoded, METH_VARARGS,
       "Adds an operation from its parts: kind, node, name, code, number and value, the name and the value as bytes." },
+    { "_take_bytes", batch_take_bytes, METH_O, "Adds the operations in a batch's bytes. Returns False if these aren't valid." },
     { "_parts", batch_parts, METH_NOARGS, "The operations: kind, code, node, number, name and value of each." },
     { "_put", batch_put, METH_VARARGS,
       "Replaces what the batch had with operations in the library's form, and their bytes." },

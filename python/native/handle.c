@@ -121,7 +121,7 @@ void leave(Handle *handle)
 /* Returns the object as a handle if it is of this sort. */
 Handle *handle_of(PyObject *object, enum Sort sort)
 {
-    static const char *const names[] = { "handle", "pass", "prepared query", "cursor", "witness" };
+    static const char *const names[] = { "handle", "pass", "prepared query", "builder", "witness" };
     if (PyObject_TypeCheck(object, handle_type) && ((Handle *)object)->sort == sort)
         return (Handle *)object;
     PyErr_Format(PyExc_TypeError, "%R isn't a %s", object, names[sort]);
@@ -193,7 +193,7 @@ static int handle_init(PyObject *self, PyObject *arguments, PyObject *names)
     if (!PyArg_ParseTupleAndKeywords(arguments, names, "i:Handle", parameters, &sort))
         return -1;
     if (sort < OF_PASS || sort > OF_WITNESS || (handle->sort != NO_SORT && (int)handle->sort != sort)) {
-        PyErr_SetString(PyExc_ValueError, "a handle is a pass, a prepared query, a cursor or a witness, and stays that");
+        PyErr_SetString(PyExc_ValueError, "a handle is a pass, a prepared query, a builder or a witness, and stays that");
         return -1;
     }
     handle->sort = (enum Sort)sort;
@@ -209,8 +209,8 @@ static void end_handle(Handle *handle)
         library.close(&handle->held.pass);
     else if (handle->sort == OF_PREPARED)
         library.release(&handle->held.prepared);
-    else if (handle->sort == OF_CURSOR)
-        library.leave(&handle->held.place);
+    else if (handle->sort == OF_BUILDER)
+        library.build_close(&handle->held.builder);
     else if (handle->sort == OF_WITNESS)
         library.dismiss(&handle->held.witness);
 }
@@ -290,6 +290,13 @@ static PyMethodDef methods[] = {
     { "_journal_entry", handle_journal_entry, METH_O,
       "Reads an entry of the journal: the library's result, what goes with the error or the journal's length, the pass\n"
       "that wrote it, and its batch, or None if there is none." },
+    { "_build_index", (PyCFunction)(void (*)(void))handle_build_index, METH_FASTCALL,
+      "Gives a builder an index, with a name and a kind." },
+    { "_build_node", handle_build_node, METH_O, "Gives a builder a node." },
+    { "_build_attribute", (PyCFunction)(void (*)(void))handle_build_attribute, METH_FASTCALL,
+      "Gives a builder an attribute of its last node: a name, a value, a kind or None, and whether its index has it, or None if\n"
+      "an index of its kind does." },
+    { "_build_batch", handle_build_batch, METH_O, "Gives a builder the records of a batch of a listing." },
     { NULL, NULL, 0, NULL },
 };
 

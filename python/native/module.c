@@ -15,10 +15,10 @@ typedef struct Named {
 #define CALL(field) { "bes_" #field, offsetof(Library, field) }
 
 static const Named calls[] = {
-    CALL(pin), CALL(unpin), CALL(close), CALL(release), CALL(leave), CALL(dismiss), CALL(next), CALL(apply), CALL(apply_if),
+    CALL(pin), CALL(unpin), CALL(close), CALL(release), CALL(build_close), CALL(dismiss), CALL(next), CALL(apply), CALL(apply_if),
     CALL(query), CALL(query_items), CALL(query_prepared), CALL(ordered), CALL(first), CALL(any), CALL(found), CALL(refresh),
     CALL(refresh_changed), CALL(changes), CALL(nodes), CALL(get), CALL(check_name), CALL(columns), CALL(attributes), CALL(indices),
-    CALL(state), CALL(journal_from),
+    CALL(is_held), CALL(build_index), CALL(build_node), CALL(build_attribute), CALL(journal_from),
     CALL(begin_change), CALL(change_any_kind), CALL(change_add), CALL(change_get), CALL(change_batch), CALL(end_change),
     CALL(abandon_change),
 };
@@ -50,16 +50,16 @@ static void keep(PyObject **place, PyObject *object)
 static PyObject *know(PyObject *module, PyObject *arguments, PyObject *names)
 {
     static char *parameters[] = { "refusal", "forked", "encoded_query", "encode_value", "typed", "batch", "page",
-                                  "user", "wrong_kind", "kinds", NULL };
+                                  "user", "wrong_kind", "bad_bytes", "kinds", NULL };
     PyObject **places[] = {
         &known.refusal, &known.forked, &known.encoded_query, &known.encode_value, &known.typed, &known.batch, &known.page,
-        &known.user, &known.wrong_kind,
+        &known.user, &known.wrong_kind, &known.bad_bytes,
     };
     enum { PLACES = sizeof places / sizeof *places };
     PyObject *given[PLACES + 1] = { NULL };
     (void)module;
-    if (!PyArg_ParseTupleAndKeywords(arguments, names, "|$OOOOOOOOOO:know", parameters, &given[0], &given[1], &given[2], &given[3],
-                                     &given[4], &given[5], &given[6], &given[7], &given[8], &given[PLACES]))
+    if (!PyArg_ParseTupleAndKeywords(arguments, names, "|$OOOOOOOOOOO:know", parameters, &given[0], &given[1], &given[2], &given[3],
+                                     &given[4], &given[5], &given[6], &given[7], &given[8], &given[9], &given[PLACES]))
         return NULL;
     for (size_t at = 0; at < PLACES; at++)
         if (given[at] != NULL)

@@ -18,7 +18,8 @@
 
 enum {
     MOST_OPERATIONS = 64,
-    BYTES_OF_A_BATCH = MOST_OPERATIONS * (63 + 255),
+    MOST_OF_A_NAME = 63,
+    BYTES_OF_A_BATCH = MOST_OPERATIONS * (MOST_OF_A_NAME + 255),
     BYTES_OF_A_VALUE = 255,
     /* A write of up to this many operations keeps the GIL, because it takes microseconds. Getting the GIL back from a thread
      * that is computing takes milliseconds. */
@@ -32,7 +33,7 @@ typedef struct Library {
     uint32_t (*unpin)(bes_pass *);
     uint32_t (*close)(bes_pass *);
     uint32_t (*release)(bes_prepared *);
-    uint32_t (*leave)(bes_place *);
+    uint32_t (*build_close)(bes_builder *);
     uint32_t (*dismiss)(bes_witness *);
     uint32_t (*next)(bes_pass *, uint64_t *);
     uint32_t (*apply)(bes_pass *, const bes_operation *, size_t, const uint8_t *, size_t, uint64_t *, size_t, uint64_t *);
@@ -56,7 +57,11 @@ typedef struct Library {
         bes_pass *, const uint64_t *, size_t, const bes_name *, size_t, bes_cell *, size_t, uint8_t *, size_t, uint64_t *);
     uint32_t (*attributes)(bes_pass *, uint64_t, bes_counts *, bes_operation *, size_t, uint8_t *, size_t);
     uint32_t (*indices)(bes_pass *, bes_counts *, bes_operation *, size_t, uint8_t *, size_t);
-    uint32_t (*state)(bes_pass *, bes_place *, bes_counts *, bes_operation *, size_t, uint8_t *, size_t);
+    uint32_t (*is_held)(bes_pass *, uint64_t, const uint8_t *, size_t, uint32_t *);
+    uint32_t (*build_index)(bes_builder *, const uint8_t *, size_t, uint32_t);
+    uint32_t (*build_node)(bes_builder *, uint64_t);
+    uint32_t (*build_attribute)(
+        bes_builder *, const uint8_t *, size_t, uint32_t, uint64_t, const uint8_t *, size_t, uint32_t);
     uint32_t (*journal_from)(
         bes_pass *, uint64_t, uint64_t *, bes_counts *, bes_operation *, size_t, uint8_t *, size_t, uint64_t *);
     uint32_t (*begin_change)(bes_pass *, bes_draft *, uint64_t *, uint64_t *);
@@ -85,6 +90,7 @@ typedef struct Known {
     PyObject *page;          /* the class of pages, which is a list */
     PyObject *user;          /* the class of passes whose writes need nothing more */
     PyObject *wrong_kind;    /* makes the error for a value whose kind isn't its index's kind */
+    PyObject *bad_bytes;     /* makes the error for a batch of a listing that can't be read */
     PyObject *kinds[KINDS];  /* in the order of kind_index */
 } Known;
 
@@ -94,7 +100,7 @@ typedef struct Waiter Waiter;
 typedef struct Reader Reader;
 
 /* The sorts of library handles. */
-enum Sort { NO_SORT, OF_PASS, OF_PREPARED, OF_CURSOR, OF_WITNESS };
+enum Sort { NO_SORT, OF_PASS, OF_PREPARED, OF_BUILDER, OF_WITNESS };
 
 /* One of the library's handles and its guard. One thread uses the handle at a time, and that thread may enter again. */
 typedef struct Handle {
@@ -102,7 +108,7 @@ typedef struct Handle {
     union {
         bes_pass pass;
         bes_prepared prepared;
-        bes_place place;
+        bes_builder builder;
         bes_witness witness;
     } held;
     enum Sort sort;
@@ -158,6 +164,39 @@ void unpin(Handle *handle);
 PyObject *call_guarded(Handle *handle, PyObject *const *arguments, Py_ssize_t count);
 Handle *handle_of(PyObject *object, enum Sort sort);
 
+/* The beginnings of batches, and the numbers of a listing's records. */
+#define OPERATIONS_BEGINNING "BEB\1"
+#define LISTED_BEGINNING "BEV\1"
+enum { BEGINNING = 4, LISTED_INDEX = 1, LISTED_NODE, LISTED_ATTRIBUTE, LISTED_HELD };
+
+/* A batch that is being read. */
+typedef struct Bytes {
+    const uint8_t *all;
+    size_t length, at;
+    const char *fault; /* why it can't be read any further, or NULL */
+    size_t fault_at;
+} Bytes;
+
+/* A name, and the kind and the value that belong to it. The bytes are those of the batch. */
+typedef struct Field {
+    const uint8_t *name, *value;
+    size_t name_length, value_length;
+    uint32_t code;
+    uint64_t number;
+} Field;
+
+/* Reading: bytes.c. These functions read what comes next: a number of some bytes with the lowest first, the beginning of a batch, the number
+ * of a record or an operation, and the parts of one. They return false, and say so in `fault`, if it isn't valid. */
+bool take_number(Bytes *it, size_t count, uint64_t *number);
+void take_beginning(Bytes *it, const char *beginning);
+bool take_kind(Bytes *it, unsigned first, unsigned last, uint64_t *kind);
+bool take_name(Bytes *it, Field *field);
+bool take_code(Bytes *it, Field *field);
+bool take_value(Bytes *it, Field *field);
+
+bool is_kind(uint32_t code);
+bool is_number(uint32_t code);
+
 /* Values: values.c. If one of these functions fails, it raises an exception and returns NULL or false. */
 PyObject *refused(uint32_t answer);
 PyObject *refused_at(uint32_t answer, uint64_t carried, const char *listed);
@@ -166,6 +205,7 @@ bool read_in_range(PyObject *object, uint64_t *number);
 bool read_number(PyObject *object, uint64_t *number);
 bool read_node_in_range(PyObject *object, uint64_t *node);
 bool read_node(PyObject *object, uint64_t *node);
+bool read_code(PyObject *object, uint32_t *code);
 bool read_text(PyObject *object, const uint8_t **bytes, size_t *length);
 PyObject *value_object(uint32_t code, uint64_t number, const uint8_t *bytes, size_t length);
 PyObject *kind_object(uint32_t code);
@@ -197,7 +237,7 @@ bool add_operation(Batch *batch, bes_operation operation, const uint8_t *name, s
                    size_t value_length);
 PyObject *batch_of(const Listed *listed);
 
-/* The types' methods: handle.c, batch.c, reader.c, queries.c, drafts.c, writes.c. */
+/* The types' methods: handle.c, batch.c, reader.c, queries.c, drafts.c, writes.c, builder.c, listing.c. */
 extern PyType_Spec handle_spec, batch_spec, reader_spec;
 PyObject *after_fork(PyObject *module, PyObject *nothing);
 PyObject *handle_apply(PyObject *self, PyObject *const *given, Py_ssize_t count);
@@ -205,5 +245,9 @@ PyObject *handle_journal_entry(PyObject *self, PyObject *number);
 PyObject *handle_expect(PyObject *self, PyObject *text);
 PyObject *handle_set(PyObject *self, PyObject *const *given, Py_ssize_t count);
 PyObject *handle_unpin(PyObject *self, PyObject *nothing);
+PyObject *handle_build_index(PyObject *self, PyObject *const *given, Py_ssize_t count);
+PyObject *handle_build_node(PyObject *self, PyObject *number);
+PyObject *handle_build_attribute(PyObject *self, PyObject *const *given, Py_ssize_t count);
+PyObject *handle_build_batch(PyObject *self, PyObject *batch);
 
 #endif

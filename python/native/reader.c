@@ -172,30 +172,6 @@ static PyObject *reader_indices(PyObject *self, PyObject *nothing)
     return answer != BES_OK ? refused(answer) : dict_of(&listed, made_kind);
 }
 
-/* Returns the next batch that rebuilds the snapshot, or None after the last. */
-static PyObject *reader_state(PyObject *self, PyObject *given)
-{
-    Handle *cursor = handle_of(given, OF_CURSOR), *user;
-    Listed listed;
-    uint32_t answer;
-    if (cursor == NULL || !enter(cursor))
-        return NULL;
-    user = enter_pinned((Reader *)self);
-    if (user == NULL) {
-        leave(cursor);
-        return NULL;
-    }
-    Py_BEGIN_ALLOW_THREADS
-    answer = library.state(&user->held.pass, &cursor->held.place, &listed.counts, listed.operations, MOST_OPERATIONS, listed.bytes,
-                           BYTES_OF_A_BATCH);
-    Py_END_ALLOW_THREADS
-    leave(user);
-    leave(cursor);
-    if (answer != BES_OK)
-        return refused(answer);
-    return listed.counts.operations == 0 ? Py_NewRef(Py_None) : batch_of(&listed);
-}
-
 static PyObject *reader_call(PyObject *self, PyObject *const *arguments, Py_ssize_t count)
 {
     Handle *user = enter_pinned((Reader *)self);
@@ -418,7 +394,9 @@ static PyMethodDef methods[] = {
     { "_any", FAST(reader_any), "Any nodes that meet a prepared query, up to a limit." },
     { "_count_items", reader_count_items, METH_VARARGS, "How many nodes there are." },
     { "_nodes_from", reader_nodes_from, METH_VARARGS, "Up to this many nodes from a number on, in one call." },
-    { "_state", reader_state, METH_O, "The next of the batches that rebuild the snapshot, or None at their end." },
+    { "_listing_from", FAST(reader_listed),
+      "A batch of the snapshot's listing, from this node on, of which so many records are listed already; 0 and 0 for the first\n"
+      "batch. Returns it with the same two numbers for the next batch, the node 0 after the last one." },
     { "_take_any_kind", reader_take_any_kind, METH_NOARGS, "From now on its change sets values of any kind." },
     { "_new_node", reader_new_node, METH_NOARGS, "Collects: makes a node. Returns its number." },
     { "_remove_node", reader_remove_node, METH_O, "Collects: removes a node and all its attributes." },

@@ -32,6 +32,7 @@ PyObject *reader_count_items(PyObject *self, PyObject *arguments);
 PyObject *reader_refresh(PyObject *self, PyObject *const *given, Py_ssize_t count, PyObject *names);
 PyObject *reader_refresh_changed(PyObject *self, PyObject *prepared);
 PyObject *reader_nodes_from(PyObject *self, PyObject *arguments);
+PyObject *reader_listed(PyObject *self, PyObject *const *given, Py_ssize_t count);
 
 /* The operations that a change collects: drafts.c. */
 void abandon_draft(Reader *reader);

@@ -76,6 +76,15 @@ bool read_node(PyObject *object, uint64_t *node)
     return false;
 }
 
+bool read_code(PyObject *object, uint32_t *code)
+{
+    uint64_t number = UINT64_MAX;
+    if (!read_in_range(object, &number) && PyErr_Occurred())
+        return false;
+    *code = (uint32_t)number;
+    return number <= UINT32_MAX || refused(BES_NO_KIND) != NULL;
+}
+
 bool read_text(PyObject *object, const uint8_t **bytes, size_t *length)
 {
     Py_ssize_t size;
@@ -111,6 +120,8 @@ static int kind_index(uint32_t code)
     }
 }
 
+bool is_kind(uint32_t code) { return kind_index(code) >= 0; }
+
 PyObject *kind_object(uint32_t code)
 {
     int index = kind_index(code);
@@ -127,23 +138,38 @@ static PyObject *text_object(const uint8_t *bytes, size_t length)
     return text;
 }
 
-PyObject *value_object(uint32_t code, uint64_t number, const uint8_t *bytes, size_t length)
+/* Returns whether a kind is one of numbers with a sign. */
+static bool has_sign(uint32_t code)
 {
     switch (code) {
-    case BES_STRING_TYPE:
-    case BES_MIME_STRING_TYPE: return text_object(bytes, length);
     /* surface.toml: kinds with a sign */
     case BES_INT32_TYPE:
     case BES_INT64_TYPE:
     /* surface.toml: end */
-        return PyLong_FromLongLong((long long)number);
+        return true;
+    default: return false;
+    }
+}
+
+bool is_number(uint32_t code)
+{
+    switch (code) {
     /* surface.toml: kinds without a sign */
     case BES_UINT32_TYPE:
     case BES_UINT64_TYPE:
     /* surface.toml: end */
-        return PyLong_FromUnsignedLongLong(number);
-    default: return PyBytes_FromStringAndSize((const char *)bytes, (Py_ssize_t)length);
+        return true;
+    default: return has_sign(code);
     }
+}
+
+PyObject *value_object(uint32_t code, uint64_t number, const uint8_t *bytes, size_t length)
+{
+    if (code == BES_STRING_TYPE || code == BES_MIME_STRING_TYPE)
+        return text_object(bytes, length);
+    if (!is_number(code))
+        return PyBytes_FromStringAndSize((const char *)bytes, (Py_ssize_t)length);
+    return has_sign(code) ? PyLong_FromLongLong((long long)number) : PyLong_FromUnsignedLongLong(number);
 }
 
 /* Makes a Typed pair with tuple's constructor, which Typed's own constructor calls too. */

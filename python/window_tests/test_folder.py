@@ -10,6 +10,7 @@ from typing import Dict
 from unittest import mock
 
 import bestore
+from bestore.local import LocalPass
 from bestore_queries.folder import INDICES, FolderReader, type_of
 from bestore_queries.mail import cut, mail_attributes
 from bestore_queries.opening import CannotOpen, Opening
@@ -131,7 +132,7 @@ class Sources(unittest.TestCase):
     def test_attempt_that_fails(self) -> None:
         """If the store or its reader can't be created completely, the next attempt begins again."""
         for name, error in ("make_index", bestore.NoMemory()), ("another", bestore.NoPass()):
-            with mock.patch.object(bestore.Shelf, name, side_effect=error), self.assertRaises(type(error)):
+            with mock.patch.object(LocalPass, name, side_effect=error), self.assertRaises(type(error)):
                 self.source.open()
         with mock.patch.object(FolderReader, "start", side_effect=RuntimeError("can't start new thread")):
             self.assertRaises(RuntimeError, self.source.open)

@@ -109,10 +109,8 @@ class Sizes(unittest.TestCase):
     def test_size(self) -> None:
         """A folder's store has room for a third more files, but never more than a store can have."""
         for files in (0, 1, 1_000, 15_000, 60_000, 500_000):
-            volumes, pages = size_for(files)
-            self.assertGreaterEqual(volumes * pages, files * 1.1 * 1.3)
-            self.assertTrue(8 <= pages <= 16_777_216 and volumes == 1, (volumes, pages))
-        self.assertEqual(size_for(10**9), (64, 16_777_216))
+            self.assertTrue(max(8, files * 1.1 * 1.3) <= size_for(files) <= 16_777_216, size_for(files))
+        self.assertEqual(size_for(10**9), 16_777_216)
 
 
 if __name__ == "__main__":

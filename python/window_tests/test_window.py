@@ -743,7 +743,7 @@ class OverServer(OnDisplay):
             with mock.patch.object(own_server, "PAGES", 64):
                 source = ServerSource()
         with bestore.connect(socket) as connected:
-            self.assertGreater(connected.status().pages, 128)
+            self.assertGreater(connected.status().pages, 64)
         source.close()
 
     def test_own_server_of_a_killed_window(self) -> None:
@@ -757,25 +757,6 @@ class OverServer(OnDisplay):
                 window.send_signal(number)
                 window.wait()
             self.assertTrue(wait_for(lambda: not own_server.listens(SocketPath.find(socket))), f"signal {number}")
-
-
-class OverVolumes(OverServer):
-    """The same tests with a server that has several volumes."""
-
-    options = ["--volumes", 3]
-
-    def test_spread(self) -> None:
-        """The files are in several volumes, each of which is followed."""
-        self.make_files()
-        window = self.show(ServerSource(self.server.path), saved=self.saved)
-        names = [f"{number:02}" for number in range(12)]
-        made = [self.make_file(name, 50) for name in names]
-        window.ask("size==50")
-        self.shows(window, *names)
-        self.assertEqual({bestore.volume_of(node) for node in made}, {0, 1, 2})
-        for node, name in zip(made[:6], "abcdef"):
-            self.store.set(node, "name", name)
-        self.shows(window, *names[6:], *"abcdef")
 
 
 if __name__ == "__main__":

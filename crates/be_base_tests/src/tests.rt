@@ -1,5 +1,6 @@
 //! One file for each tested crate, or for each part of a crate.
 
+mod building;
 mod byte_pattern;
 mod counting_look;
 mod journal;

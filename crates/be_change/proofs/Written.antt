@@ -3,12 +3,13 @@ use Rattle.std.proofs.Common.{inr, [], ◌∷◌, ◌++◌, append_assoc, ◌≡
 use Rattle.std.proofs.lemmas.List.{length-map, length-take, take-append-le}
 use Rattle.be_core.specs.Machine.{InTime}
 use Rattle.be_core.specs.declared.event.Phase.TheVariants.{Pinned}
-use Rattle.be_journal.specs.Journal.{replay}
+use Rattle.be_journal.specs.Journal.{replay_from}
 use Rattle.be_table.specs.declared.pass.Commit.{Commit}
 use Rattle.be_table.specs.declared.pass.Knowledge.{Knowledge}
 use Rattle.be_table.specs.History.{StartsWith}
 use Rattle.be_table.specs.Rule.{entries}
 use Rattle.be_table.specs.Seats.{pinned_number}
+use Rattle.be_table.specs.Setting.{Setting as Limits}
 use Rattle.be_table.specs.Steps.{IsPass}
 use Rattle.be_table.proofs.Answers.{next_fits}
 use Rattle.be_table.proofs.Histories.{legal-front}
@@ -28,12 +29,12 @@ use Rattle.be_change.proofs.Outcomes.{outcomes_are}
 -- A pinned volume has enough numbers left for all nodes that a change can create.
 pub first_fits : (a : Knowledge) (n : ℕ) → IsPass a → IsPinnedTo a n → (volume_pinned a).next + 64 < 2 ^ 64
 first_fits a n pass pin =
-    let few : a.limits.commits < 4294967296 = pass.within.short in
+    let few : a.limits.commits < 4294967296 = pass.within.limits.short in
     let room : length a.seen ≤ a.limits.commits = pass.room in
     let long : length (entries a.seen) ≡ length a.seen = length-map a.seen (λ (c : Commit). c.entry) in
     let cut = length-take n (entries a.seen) in
     subst (λ (s : State). s.next + 64 < 2 ^ 64) (sym (volume_is a n pin))
-    (next_fits (take n (entries a.seen)) (legal-front (entries a.seen) (take n (entries a.seen)) (drop n (entries a.seen), sym (take-append-drop n (entries a.seen))) pass.legal)
+    (next_fits a.limits.volume (take n (entries a.seen)) pass.within.next (legal-front a.limits.volume (entries a.seen) (take n (entries a.seen)) (drop n (entries a.seen), sym (take-append-drop n (entries a.seen))) pass.legal)
     (omega (arith, few, room, long, cut)))
 
 pub first_is : (a : Knowledge) (n first : ℕ) → IsPass a → IsPinnedTo a n → first ≡ (volume_pinned a).next → first + 64 < 2 ^ 64
@@ -63,23 +64,24 @@ wrote_all change a c ops number n dones e f some h =
     inr (subst (λ (l : List Op). 1 ≤ length l) e some, dones, on, wrote change a c n dones on)
 
 -- A pass whose pin is unchanged reads the same volume, whatever it has seen since.
-same_volume : (a c : Knowledge) (n : ℕ) → IsPass a → c.phase ≡ a.phase → StartsWith c.seen a.seen → IsPinnedTo a n → volume_pinned c ≡ volume_pinned a
-same_volume a c n pass same more pin =
+same_volume : (a c : Knowledge) (n : ℕ) → IsPass a → c.limits ≡ a.limits → c.phase ≡ a.phase → StartsWith c.seen a.seen → IsPinnedTo a n → volume_pinned c ≡ volume_pinned a
+same_volume a c n pass limits same more pin =
     let at = pinned_phase a.phase n pin in
     let inside : InTime (length a.seen) (Pinned at.0 n) = subst (InTime (length a.seen)) at.1 pass.pin in
     let counted = length-map a.seen (λ (x : Commit). x.entry) in
     let below : n ≤ length (entries a.seen) = omega (arith, inside.1, counted) in
     let whole : entries c.seen ≡ entries a.seen ++ entries more.0 = ap entries more.1 ∙ entries_append a.seen more.0 in
     volume_is c n (ap pinned_number same ∙ pin)
-    ∙ ap replay (ap (take n) whole ∙ take-append-le n (entries a.seen) (entries more.0) below)
+    ∙ ap (λ (l : Limits). replay_from l.volume (take n (entries c.seen))) limits
+    ∙ ap (replay_from a.limits.volume) (ap (take n) whole ∙ take-append-le n (entries a.seen) (entries more.0) below)
     ∙ sym (volume_is a n pin)
 
-pub pin_stays : (change : Changing) (a c : Knowledge) → IsPass a → c.phase ≡ a.phase → StartsWith c.seen a.seen → IsChangeOf change a → IsChangeOf change c
-pin_stays change a c pass same more of =
-    (ap pinned_number same ∙ of.0, subst (Reads change) (sym (same_volume a c change.number pass same more of.0)) of.1)
+pub pin_stays : (change : Changing) (a c : Knowledge) → IsPass a → c.limits ≡ a.limits → c.phase ≡ a.phase → StartsWith c.seen a.seen → IsChangeOf change a → IsChangeOf change c
+pin_stays change a c pass limits same more of =
+    (ap pinned_number same ∙ of.0, subst (Reads change) (sym (same_volume a c change.number pass limits same more of.0)) of.1)
 
 pub stays_learning : (change : Changing) (a c : Knowledge) → IsPass a → Learns a c → IsChangeOf change a → IsChangeOf change c
-stays_learning change a c pass h of = pin_stays change a c pass h.pin h.more of
+stays_learning change a c pass h of = pin_stays change a c pass h.limits h.pin h.more of
 
 pub stays_writing : (change : Changing) (a c : Knowledge) (ops : List Op) (n : ℕ) (dones : List Done) → IsPass a → Accepts a c ops n dones → IsChangeOf change a → IsChangeOf change c
-stays_writing change a c ops n dones pass h of = pin_stays change a c pass h.pin (h.others ++ h.commit ∷ [], h.seen ∙ append_assoc a.seen h.others (h.commit ∷ [])) of
+stays_writing change a c ops n dones pass h of = pin_stays change a c pass h.limits h.pin (h.others ++ h.commit ∷ [], h.seen ∙ append_assoc a.seen h.others (h.commit ∷ [])) of

@@ -9,11 +9,12 @@ use Rattle.be_volume.specs.declared.ops.Done.TheVariants.{Node, Unit as Nothing}
 use Rattle.be_volume.specs.declared.ops.Op.{Op}
 use Rattle.be_volume.specs.declared.ops.Op.TheVariants.{New, Drop, Set, Unset, MkIndex, RmIndex}
 
--- The snapshot's number, the number of the first new node, the kinds of the snapshot's indices, the
--- collected operations, whether a set must have the kind of its index, and whether the change
--- itself has pinned its pass.
+-- The snapshot's number, the number of the pass that began the change, the number of the first new
+-- node, the kinds of the snapshot's indices, the collected operations, whether a set must have the
+-- kind of its index, and whether the change itself has pinned its pass.
 pub record Changing : Type 0 where
   pub number : ℕ
+  pub by : ℕ
   pub first : ℕ
   pub indices : List (List ℕ × Kind)
   pub ops : List Op

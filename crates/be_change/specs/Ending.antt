@@ -27,6 +27,7 @@ IsChangeOf change a = IsPinnedTo a change.number × Reads change (volume_pinned 
 -- was pinned before and has only read, or its pass wasn't pinned before and is pinned now.
 pub record Begins (change : Changing) (checks : Bool) (a c : Knowledge) : Type 0 where
   pub of : IsChangeOf change c
+  pub by : change.by ≡ c.number
   pub empty : change.ops ≡ []
   pub checks_are : change.checks ≡ checks
   pub pass : ((change.pins ≡ false) × HasRead a c)

@@ -25,6 +25,7 @@ pub const MOST_OPERATIONS: usize = 64;
 #[derive(Drop)]
 pub struct Change {
     number: u64,
+    by: u64,
     first: u64,
     /// How many nodes the operations create.
     made: u64,
@@ -44,6 +45,7 @@ impl Model for Change {
 
     ghost view = { λ c. record {
       number = c.number;
+      by = c.by;
       first = c.first;
       indices = c.indices.items;
       ops = c.ops.items;
@@ -56,10 +58,12 @@ impl Model for Change {
 }
 
 impl Change {
-    /// Creates a change that has collected nothing. `first` is the number of its first new node.
+    /// Creates a change that has collected nothing. `by` is the number of its pass, and `first` is
+    /// that of its first new node.
     pub(crate) fn new(
         alloc: Global,
         number: u64,
+        by: u64,
         first: u64,
         indices: Vec<(Name, Kind)>,
         checks_kinds: bool,
@@ -68,6 +72,7 @@ impl Change {
         requires { first + 64 < 2 ^ 64 }
         ensures { result ≡ record {
           number = number;
+          by = by;
           first = first;
           indices = indices.items;
           ops = [];
@@ -77,6 +82,7 @@ impl Change {
     {
         Change {
             number,
+            by,
             first,
             made: 0,
             indices,
@@ -91,6 +97,13 @@ impl Change {
         ensures { result ≡ self.now.number }
     {
         self.number
+    }
+
+    /// Returns the number of the pass that began the change.
+    pub fn by(&self) -> u64
+        ensures { result ≡ self.now.by }
+    {
+        self.by
     }
 
     /// Returns the number of the first new node.
@@ -155,7 +168,9 @@ impl Change {
         ensures kind { OnOk result (self.old.checks ≡ true
             → IsOfRightKind self.old name (kind_of value)) }
         ensures err { IfErr result (λ e. (self.new ≡ self.old)
-            × (HasNoRoom self.old e ⊎ IsOfWrongKind self.old name (kind_of value) e)) }
+            × ((HasNoRoom self.old e × (self.old.checks ≡ true
+            → IsOfRightKind self.old name (kind_of value)))
+            ⊎ IsOfWrongKind self.old name (kind_of value) e)) }
     {
         self.check_kind(&name, value.kind())?;
         self.collect(Op::Set(node, name, value))

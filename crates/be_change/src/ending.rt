@@ -137,13 +137,14 @@ fn at_pin(
     ensures pass { IsPassOf store.now pass.new × HasRead pass.old.knows pass.new.knows }
     ensures ok { IfOk result (λ change. IsChangeOf change pass.old.knows
         × (change.number ≡ number) × (change.ops ≡ []) × (change.checks ≡ checks_kinds)
-        × (change.pins ≡ pins)) }
+        × (change.pins ≡ pins) × (change.by ≡ pass.new.knows.number)) }
     ensures err { IfErr result (λ e. e ≡ OutOfMemory) }
 {
     seen_is_legal(store, pass);
     let first = store.next(pass);
     let indices = store.indices(alloc, pass)?;
-    Ok(Change::new(alloc, number, first, indices, checks_kinds, pins))
+    let by = pass.number();
+    Ok(Change::new(alloc, number, by, first, indices, checks_kinds, pins))
 }
 
 /// Writes what the change has collected, if anything. Leaves the pin in place.

@@ -1,6 +1,6 @@
 -- The laws: the invariant holds at first and each event preserves it, so it holds after every
 -- schedule.
-use Rattle.std.proofs.Common.{◌≡◌, ℕ, suc, ◌+◌, ◌<◌, Bool, true, false, not, ◌&&◌, ◌==◌, nat_lt, List, [], ◌∷◌, IsTrue, IsFalse, refl, sym, inl, inr, subst}
+use Rattle.std.proofs.Common.{◌≡◌, ℕ, suc, ◌+◌, ◌<◌, ◌≤◌, Bool, true, false, not, ◌&&◌, ◌==◌, nat_lt, List, [], ◌∷◌, IsTrue, IsFalse, refl, sym, inl, inr, subst, arith}
 use Rattle.std.proofs.lemmas.Bool.Decides.{eqb_tells, leb_tells}
 use Rattle.be_core.specs.declared.event.Event.{Event}
 use Rattle.be_core.specs.declared.event.Event.TheVariants.{Look, Announce, LookAgain, Read, Unpin, Lock, Scan, Fill, Publish, Unlock}
@@ -11,15 +11,15 @@ use Rattle.be_core.proofs.Readers.{after_look-sound, after_announce-sound, after
 use Rattle.be_core.proofs.Writers.{after_lock-sound, after_unlock-sound, after_fill-sound, after_return-sound, after_publish-sound}
 use Rattle.be_core.proofs.Scans.{after_scan-sound, whole-leaves_none}
 
-at_first : (pages p : ℕ) → 0 < pages → bit (nat_lt p pages && not (p == 0)) + bit false + bit false + bit (p == 0) ≡ bit (nat_lt p pages)
-at_first pages p some = elim (eqb_tells p 0) [
-  | inl y ↦ rw (y.1, lt-test 0 pages some) refl
+at_first : (pages used p : ℕ) → used ≤ pages → bit (nat_lt p pages && not (nat_lt p used)) + bit false + bit false + bit (nat_lt p used) ≡ bit (nat_lt p pages)
+at_first pages used p le = elim (leb_tells (suc p) used) [
+  | inl y ↦ rw (y.0, lt-test p pages (omega (arith, le, y))) refl
   | inr n ↦ rw n.0 (elim (leb_tells (suc p) pages) [ inl y ↦ rw y.0 refl | inr m ↦ rw m.0 refl ])
 ]
 
-pub first-sound : (pages passes commits : ℕ) (words : ℕ → ℕ → ℕ) → 0 < pages → Sound (first_state pages passes commits words)
-first-sound pages passes commits words some = record {
-  partition = λ p. at_first pages p some;
+pub first-sound : (pages used passes commits : ℕ) (words : ℕ → ℕ → ℕ) → used ≤ pages → Sound (first_state pages used passes commits words)
+first-sound pages used passes commits words le = record {
+  partition = λ p. at_first pages used p le;
   in_time = λ k. tt;
   outside = λ k _. refl;
   pinned = λ k a n p e. absurd (cc);
@@ -36,8 +36,8 @@ first-sound pages passes commits words some = record {
     no_and true h = cc
     no_and false h = cc
 
-    only_first : (n p : ℕ) → IsTrue ((n == 0) && (p == 0)) → p < pages
-    only_first n p r = elim (eqb_tells p 0) [ inl y ↦ rw y.1 some | inr m ↦ absurd (let no : IsTrue ((n == 0) && false) = (rw m.0 at r) in no_and (n == 0) no) ]
+    only_first : (n p : ℕ) → IsTrue ((n == 0) && nat_lt p used) → p < pages
+    only_first n p r = elim (leb_tells (suc p) used) [ inl y ↦ omega (arith, le, y) | inr m ↦ absurd (let no : IsTrue ((n == 0) && false) = (rw m.0 at r) in no_and (n == 0) no) ]
 
 pub fill-sound : (w : World) (k p i word : ℕ) → Sound w → MayFill w k p i → Sound (after_fill w p i word)
 fill-sound w k p i word s may = after_fill-sound w s p may.3 i word (may.2.0, may.2.1.0)
@@ -90,4 +90,4 @@ after-leaves_none w (Publish k v given) s may = tt
 after-leaves_none w (Unlock k) s may = tt
 
 pub always : (P : World → Type 0) → ((w : World) → Sound w → P w) → Always P
-always P h pages passes commits words moves w some run = h w (run-sound (first_state pages passes commits words) moves w (first-sound pages passes commits words some) run)
+always P h pages used passes commits words moves w le run = h w (run-sound (first_state pages used passes commits words) moves w (first-sound pages used passes commits words le) run)

@@ -1,5 +1,5 @@
 -- What the machine's laws say.
-use Rattle.std.specs.Prelude.{◌≡◌, ℕ, suc, ◌<◌, List, map, Some, IsTrue, IsFalse, ◌||◌}
+use Rattle.std.specs.Prelude.{◌≡◌, ℕ, suc, ◌<◌, ◌≤◌, List, map, Some, IsTrue, IsFalse, ◌||◌}
 use Rattle.be_core.specs.declared.event.Event.{Event}
 use Rattle.be_core.specs.declared.event.Event.TheVariants.{Look, Announce, LookAgain, Read, Unpin}
 use Rattle.be_core.specs.declared.event.Event.TheVariants.{Lock, Scan, Fill, Publish, Unlock}
@@ -7,12 +7,12 @@ use Rattle.be_core.specs.declared.event.Phase.TheVariants.{Pinned}
 use Rattle.be_core.specs.Machine.{World, Writer, Run, Move, happens, first_state, Unreached}
 use Rattle.be_core.specs.Machine.{after_scan, MayScan, MayFill}
 
--- P holds after every schedule, from the first state of any size with at least one page and with
--- any words
+-- P holds after every schedule, from the first state of any size with any pages in version 0
+-- and any words
 abbrev pub Always : (World → Type 0) → Type 0
-Always P = (pages passes commits : ℕ) (words : ℕ → ℕ → ℕ) (moves : List Move) (w : World) → 0
-    < pages
-    → Run (first_state pages passes commits words) moves w → P w
+Always P = (pages used passes commits : ℕ) (words : ℕ → ℕ → ℕ) (moves : List Move) (w : World)
+    → used ≤ pages
+    → Run (first_state pages used passes commits words) moves w → P w
 
 -- no page that a pinned version reaches may be filled
 abbrev pub FillsNoPinned : World → Type 0

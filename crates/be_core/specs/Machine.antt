@@ -59,18 +59,18 @@ pub record AreLimits (least most pages passes commits : ℕ) : Type 0 where
   pub some_commit : 0 < commits
   pub short : commits < 4294967296
 
--- version 0 has only page 0, with these words, and every other page is free
-abbrev pub first_state : ℕ → ℕ → ℕ → (ℕ → ℕ → ℕ) → World
-first_state pages passes commits words =
+-- version 0 has the pages below `used`, with these words, and every other page is free
+abbrev pub first_state : (pages used passes commits : ℕ) → (ℕ → ℕ → ℕ) → World
+first_state pages used passes commits words =
     record {
       pages = pages;
       passes = passes;
       commits = commits;
       current = 0;
-      reach = λ n p. (n == 0) && (p == 0);
+      reach = λ n p. (n == 0) && nat_lt p used;
       image = λ n. words;
       words = words;
-      free = λ p. nat_lt p pages && not (p == 0);
+      free = λ p. nat_lt p pages && not (nat_lt p used);
       taken = nowhere;
       retired = λ p. None;
       writer = None;

@@ -18,8 +18,8 @@ ghost use Rattle.be_core.specs.Lowest.{FindsLowest};
 
 /// The first state is sound, whatever its words are.
 pub fn first()
-    ensures { (pages passes commits : ℕ) (words : ℕ → ℕ → ℕ) → 0 < pages
-        → Sound (first_state pages passes commits words) }
+    ensures { (pages used passes commits : ℕ) (words : ℕ → ℕ → ℕ) → used ≤ pages
+        → Sound (first_state pages used passes commits words) }
 {}
 
 /// What follows from the invariant.

@@ -68,7 +68,7 @@ fn empty_set(alloc: Global, len: usize) -> Result<Vec<bool>, AllocError>
 fn first_row(alloc: Global, len: usize) -> Result<Vec<bool>, AllocError>
     requires { 0 < len }
     ensures len { IfOk result (λ row. vec_len row ≡ len) }
-    ensures first { IfOk result (λ row. (p : ℕ) → slice_index_or row.items p false ≡ (p == 0)) }
+    ensures first { IfOk result (λ row. (p : ℕ) → slice_index_or row.items p false ≡ nat_lt p 1) }
 {
     let mut row = empty_set(alloc, len)?;
     row[0] = true;
@@ -92,7 +92,7 @@ fn first_free(alloc: Global, len: usize) -> Result<Vec<bool>, AllocError>
     requires { 0 < len }
     ensures len { IfOk result (λ free. vec_len free ≡ len) }
     ensures others { IfOk result (λ free. (p : ℕ) → slice_index_or free.items p false
-        ≡ (nat_lt p len && not (p == 0))) }
+        ≡ (nat_lt p len && not (nat_lt p 1))) }
 {
     let mut free = vec![in alloc; true; len]?;
     free[0] = false;
@@ -200,7 +200,8 @@ impl State {
     /// is free. Fails with `BadLimits` unless there are 1 to 16,384 pages, 1 to 64 passes and 1 to
     /// 4,294,967,295 commits. Each page costs 4 KiB of memory.
     pub fn new(alloc: Global, pages: u64, passes: u64, commits: u64) -> Result<State, Refusal>
-        ensures first { IfOk result (λ s. shown s blank ≡ first_state pages passes commits zeros) }
+        ensures first { IfOk result (λ s. shown s blank
+            ≡ first_state pages 1 passes commits zeros) }
         ensures size { IfOk result (λ s. page_count s ≡ pages) }
         ensures within { IsOk result → AreLimits 1 most_pages pages passes commits }
         ensures sound { IfOk result (λ s. ShowsSound s) }

@@ -5,12 +5,12 @@ use Rattle.std.specs.Prelude.{Result}
 use Rattle.be_value.specs.declared.refusals.Refusal.{Refusal}
 use Rattle.be_volume.specs.Ahead.{state_after, reached}
 use Rattle.be_volume.specs.Sound.{IsSound, IsOperation}
-use Rattle.be_volume.specs.Volume.{State, empty, steps}
+use Rattle.be_volume.specs.Volume.{State, steps}
 use Rattle.be_volume.specs.declared.ops.Done.{Done}
 use Rattle.be_volume.specs.declared.ops.Op.{Op}
 use Rattle.be_volume.proofs.FactLemmas.{steps_bound}
-use Rattle.be_volume.proofs.Soundness.{empty_sound, steps_sound}
-use Rattle.be_journal.specs.Journal.{replay, HasOperations}
+use Rattle.be_volume.proofs.Soundness.{steps_sound}
+use Rattle.be_journal.specs.Journal.{replay_from, HasOperations}
 use Rattle.be_journal.specs.declared.entries.Entry.{Entry}
 
 -- the state is sound, and its next number is at most n
@@ -36,5 +36,5 @@ replayed s (entry ∷ entries) n r are fits =
     let long : n + 64 * length (entry ∷ entries) < 2 ^ 64 = fits in
     replayed (state_after s entry.ops) entries (n + 64) (entered s entry.ops n r have.1 have.0 (omega arith)) (All-tail HasOperations entry entries are) (omega arith)
 
-pub replay_sound : (entries : List Entry) → All HasOperations entries → 64 * length entries + 1 < 2 ^ 64 → IsSound (replay entries)
-replay_sound entries are fits = replayed empty entries 1 (record { sound = empty_sound; bound = omega arith }) are (omega arith)
+pub replay_sound : (base : State) (entries : List Entry) → IsSound base → All HasOperations entries → base.next + 64 * length entries < 2 ^ 64 → IsSound (replay_from base entries)
+replay_sound base entries sound are fits = replayed base entries base.next (record { sound = sound; bound = omega arith }) are fits

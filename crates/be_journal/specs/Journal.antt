@@ -47,19 +47,28 @@ abbrev pub Grows : {X : Type 0} → Log → Log → Result X Refusal → Log →
 Grows old grown (Ok x) new = (new ≡ grown) × (length old.entries < old.limit)
 Grows old grown (Err e) new = (new ≡ old) × IsRefused old e
 
--- The volume after the entries, in order. If the volume refuses an entry, no part of that entry
--- takes effect.
+-- The volume after the entries, in order, from this volume on. If the volume refuses an entry, no
+-- part of that entry takes effect.
+abbrev pub replay_from : State → List Entry → State
+replay_from base entries = fold (λ s entry. state_after s entry.ops) base entries
+
+-- the same from the empty volume on
 abbrev pub replay : List Entry → State
-replay entries = fold (λ s entry. state_after s entry.ops) empty entries
+replay entries = replay_from empty entries
 
 -- the entry has the outcomes that the volume gives
 abbrev pub Agrees : State → Entry → Type 0
 Agrees s entry = (next : State) × (steps s entry.ops ≡ Ok (next, entry.dones))
 
--- no entry is refused, and each has the outcomes that the volume gives after the entries before it
+-- from this volume on, no entry is refused, and each has the outcomes that the volume gives after
+-- the entries before it
+abbrev pub IsLegalFrom : State → List Entry → Type 0
+IsLegalFrom base entries = (i : ℕ) (entry : Entry) → i < length entries
+    → entry ≡ get_or entries i entry → Agrees (replay_from base (take i entries)) entry
+
+-- the same from the empty volume on
 abbrev pub IsLegal : List Entry → Type 0
-IsLegal entries = (i : ℕ) (entry : Entry) → i < length entries → entry ≡ get_or entries i entry
-    → Agrees (replay (take i entries)) entry
+IsLegal entries = IsLegalFrom empty entries
 
 -- the index of the first entry whose outcomes aren't those that the volume gives after the entries
 -- before it; None if the journal is legal

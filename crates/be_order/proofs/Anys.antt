@@ -85,7 +85,7 @@ below_no_other x (y ∷ ys) h = (by (same_node x y) refl, below_no_other x ys (�
     by false e = e
 
 -- In a strictly ascending list, each number occurs once.
-rises_once : (xs : List ℕ) → Rises xs → IsDistinct same_node xs
+pub rises_once : (xs : List ℕ) → Rises xs → IsDistinct same_node xs
 unfolding IsDistinct
 rises_once [] r = tt
 rises_once (x ∷ xs) r = (below_no_other x xs r.0, rises_once xs r.1)

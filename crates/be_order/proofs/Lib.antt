@@ -1,10 +1,12 @@
 pub mod Anys
 pub mod Cursors
+pub mod Enough
 pub mod Filters
 pub mod Fronts
 pub mod IndexParts
 pub mod KeyLists
 pub mod Listed
+pub mod Numbered
 pub mod PageKeys
 pub mod Some
 pub mod Tests

@@ -4,7 +4,9 @@ use Rattle.std.specs.List.{Contains}
 use Rattle.std.specs.List.Sorted.{IsStrictlySortedBy}
 use Rattle.std.specs.declared.option.Option.{Option}
 use Rattle.std.specs.declared.cmp.Ordering.TheVariants.{Less}
+use Rattle.be_query.specs.Grammar.{Formula}
 use Rattle.be_volume.specs.Keys.{IsKey}
+use Rattle.be_volume.specs.Query.{sat}
 use Rattle.be_volume.specs.Volume.{State}
 use Rattle.be_plan.specs.KeyTests.{passes_node}
 use Rattle.be_plan.specs.Narrow.{Within}
@@ -47,3 +49,8 @@ IsHeld s name node = (k : List ℕ) × (h : IsKey s name k) × (h.node ≡ node)
 
 abbrev pub AreHeld : State → List ℕ → List ℕ → Type 0
 AreHeld s name nodes = (n : ℕ) → Contains nodes n → IsHeld s name n
+
+-- Every node of the keys from `low` to `high` satisfies the formula.
+abbrev pub HasAllWithin : State → Formula → List ℕ → List ℕ → Option (List ℕ) → Type 0
+HasAllWithin s f name low high = (k : List ℕ) (h : IsKey s name k) → Within low high k
+    → sat s f h.node ≡ true

@@ -119,7 +119,7 @@ fn is_left_true<S: Source>(source: &mut S, left: Left<'_, '_, '_>, node: u64) ->
 }
 
 /// Adds the node if it satisfies the remaining condition.
-fn push_if_true<S: Source>(
+pub(crate) fn push_if_true<S: Source>(
     source: &mut S,
     left: Left<'_, '_, '_>,
     node: u64,

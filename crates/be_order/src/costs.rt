@@ -10,7 +10,6 @@ ghost use Rattle.be_order.specs.Imports.{State, StillAnswers};
 use crate::OrderedSource;
 use be_plan::{KeyBounds, KeyRange};
 use be_query::{Cmp, Comparison, Literal, Tree};
-use be_value::Name;
 
 /// A probe of a node reads its attribute or looks for it in an index. It takes as many instructions
 /// as walking over this many keys.
@@ -23,6 +22,13 @@ const QUESTIONS_A_KEY: u64 = 4;
 /// Testing the string in a key takes as many instructions as walking over this many keys without a
 /// test.
 const KEYS_A_TEXT: u64 = 4;
+
+/// Putting a node into a list and the list into order takes as many instructions as walking over
+/// this many keys.
+const KEYS_A_NODE: u64 = 1;
+
+/// At most this many numbers are tested for each node that is wanted.
+const TESTS_A_NODE: u64 = 64;
 
 /// The maximum number of keys in a part of a walk that tests each node for a short page. It is also
 /// the minimum for a walk that looks up each node.
@@ -44,6 +50,9 @@ struct Cost {
     hits: u64,
     /// The number of probes needed to test one node instead.
     asking: u64,
+    /// The approximate number of keys that a walk visits in the time that it takes to find the
+    /// nodes, test them and put them into order.
+    finding: u64,
 }
 
 impl Cost {
@@ -53,15 +62,32 @@ impl Cost {
             keys: self.keys.saturating_add(other.keys),
             hits: self.hits.saturating_add(other.hits),
             asking: self.asking.saturating_add(other.asking),
+            finding: self.finding.saturating_add(other.finding),
         }
     }
 
     /// Returns the cost of two sides if one of them is enough to find the nodes. The walk is that
     /// of the side with fewer keys, but testing a node takes the probes of both sides.
     fn or(self, other: Cost) -> Cost {
-        let asking = self.asking.saturating_add(other.asking);
-        let shorter = if other.keys < self.keys { other } else { self };
-        Cost { asking, ..shorter }
+        if other.keys < self.keys {
+            other.beside(self)
+        } else {
+            self.beside(other)
+        }
+    }
+
+    /// Returns the cost of a walk for this side, whose nodes are tested against the other side or
+    /// looked up among its nodes.
+    fn beside(self, other: Cost) -> Cost {
+        let tested = self
+            .hits
+            .saturating_mul(other.asking)
+            .saturating_mul(KEYS_A_QUESTION);
+        Cost {
+            asking: self.asking.saturating_add(other.asking),
+            finding: self.finding.saturating_add(tested.min(other.finding)),
+            ..self
+        }
     }
 }
 
@@ -92,26 +118,6 @@ fn is_loose(comparison: &Comparison) -> bool {
     }
 }
 
-/// Returns the approximate number of keys that a part of a query allows in the index of a name, or
-/// `None` if there is no index.
-fn keys_allowed<S: OrderedSource>(
-    source: &mut S,
-    bounds: &mut KeyBounds,
-    whole: &Tree,
-    name: &Name,
-) -> Option<u64>
-    requires { (volume : State) × S.answers_for source.old volume }
-    ensures stays { S.kept source.new ≡ S.kept source.old }
-    ensures answers { StillAnswers S.answers_for source.old source.new }
-    ensures still { (volume : State) × S.answers_for source.new volume }
-{
-    let Some(kind) = source.kind_of(name) else {
-        return None;
-    };
-    let _rest = bounds.narrow(whole, name, kind);
-    Some(source.about(bounds.keys(name)))
-}
-
 /// Returns the cost of a comparison. `keys` is the approximate number of keys that the comparison
 /// and everything that `&&` joins to it allow in the index of its name, or `None` if there is no
 /// index.
@@ -121,19 +127,22 @@ fn cost_of_comparison(comparison: &Comparison, keys: Option<u64>) -> Cost {
             keys: u64::MAX,
             hits: u64::MAX,
             asking: 1,
+            finding: u64::MAX,
         };
     };
     if is_loose(comparison) {
-        return Cost {
-            keys: keys.saturating_mul(KEYS_A_TEXT),
-            hits: keys / TEXTS_A_HIT,
-            asking: 2,
-        };
+        return listing_cost(keys.saturating_mul(KEYS_A_TEXT), keys / TEXTS_A_HIT);
     }
+    listing_cost(keys, keys)
+}
+
+/// Returns the cost of a comparison whose index has this walk and this many nodes for it.
+fn listing_cost(keys: u64, hits: u64) -> Cost {
     Cost {
         keys,
-        hits: keys,
+        hits,
         asking: 2,
+        finding: keys.saturating_add(hits.saturating_mul(KEYS_A_NODE)),
     }
 }
 
@@ -152,7 +161,7 @@ fn cost_of<S: OrderedSource>(
 {
     match tree {
         Tree::Leaf(comparison) => {
-            let keys = keys_allowed(source, bounds, whole, &comparison.name);
+            let keys = bounds.allowed(source, whole, &comparison.name);
             cost_of_comparison(comparison, keys)
         }
         Tree::And(a, b) => {
@@ -166,6 +175,20 @@ fn cost_of<S: OrderedSource>(
             left.and(right)
         }
     }
+}
+
+/// Returns how many numbers are tested, at most, for the first `most` nodes of a query. Testing
+/// them costs no more than half of what finding the whole answer is estimated to cost.
+pub(crate) fn tests_for<S: OrderedSource>(source: &mut S, tree: &Tree, most: usize) -> u64
+    ghost volume: { State }
+    requires { S.answers_for source.old volume }
+    ensures stays { S.kept source.new ≡ S.kept source.old }
+    ensures answers { S.answers_for source.new volume }
+{
+    let mut bounds = KeyBounds::new();
+    let cost = cost_of(source, &mut bounds, tree, tree);
+    let tests = cost.finding / 2 / KEYS_A_QUESTION / cost.asking.max(1);
+    tests.min((most as u64).saturating_mul(TESTS_A_NODE))
 }
 
 /// Returns approximately how many of `all` keys a walk visits before it has found `most` nodes.
@@ -202,7 +225,7 @@ fn looking_up_pace(passed: u64, limit: u64) -> Pace {
 /// Returns the paces of walks over `all` keys for a page of `most` nodes.
 fn paces_for(cost: Cost, all: u64, most: usize) -> Paces {
     let passed = passed_for(most as u64, all, cost.hits);
-    let list = (cost.keys / KEYS_A_QUESTION).saturating_add(passed / KEYS_A_QUESTION);
+    let list = (cost.finding / KEYS_A_QUESTION).saturating_add(passed / KEYS_A_QUESTION);
     let sorted = cost
         .hits
         .saturating_mul(QUESTIONS_A_KEY)

@@ -5,6 +5,8 @@ ghost use Rattle.be_order.specs.Imports.{index_kind, option_copied, scan, Answer
 ghost use Rattle.be_order.specs.Imports.{Decides, Formula, OutOfMemory, State};
 ghost use Rattle.be_order.specs.Firsts.{IsAnyOf, from_number};
 
+use crate::numbers::first_of;
+use crate::sides::some_of;
 use crate::{OrderedKeys, OrderedSource};
 use be_plan::{KeyRange, PreparedQuery, Source, answer_into};
 use be_value::{Kind, Refusal};
@@ -23,9 +25,12 @@ fn keep_from(numbers: &mut Vec<u64>, first: u64, most: usize)
 /// plus one as `first`.
 ///
 /// Returns `NotCovered` if the indices don't cover the query. After an error the source still
-/// represents the volume, but the content of the list is unspecified. The call costs as much as
-/// finding the whole answer.
-pub fn first_prepared_into<S: Source>(
+/// represents the volume, but the content of the list is unspecified.
+///
+/// If the whole answer is expected to be large, the nodes from `first` on are tested one after
+/// another until there are enough. If too few of them satisfy the query, this is given up after at
+/// most half of what the whole answer costs. The whole answer is then found, and cut.
+pub fn first_prepared_into<S: OrderedSource>(
     alloc: Global,
     prepared: &mut PreparedQuery,
     source: &mut S,
@@ -41,7 +46,11 @@ pub fn first_prepared_into<S: Source>(
     ensures stays { S.kept source.new ≡ S.kept source.old }
     ensures answers { S.answers_for source.new volume }
 {
-    answer_into(alloc, prepared.query(), source, found)?;
+    let query = prepared.query();
+    if first_of(alloc, query.tree(), source, first, most, found)? {
+        return Ok(());
+    }
+    answer_into(alloc, query, source, found)?;
     keep_from(found, first, most);
     Ok(())
 }
@@ -105,7 +114,9 @@ fn walk_any<S: OrderedSource>(
 ///
 /// If the range of one index decides the query and the source walks in order, the first nodes in
 /// the range are returned. This costs a walk over as many keys as there are nodes returned, and
-/// allocates memory only for the list. Otherwise it costs as much as finding the whole answer.
+/// allocates memory only for the list. Otherwise each side of an `||` is tried by a walk over one
+/// index, which tests each node until there are enough. If no side has enough nodes, or listing
+/// them is expected to cost less, the whole answer is found.
 pub fn any_prepared_into<S: OrderedSource>(
     alloc: Global,
     prepared: &mut PreparedQuery,
@@ -130,7 +141,11 @@ pub fn any_prepared_into<S: OrderedSource>(
             }
         }
     }
-    answer_into(alloc, prepared.query(), source, found)?;
+    let query = prepared.query();
+    if some_of(alloc, query.tree(), source, most, found)? {
+        return Ok(());
+    }
+    answer_into(alloc, query, source, found)?;
     found.truncate(most);
     Ok(())
 }

@@ -11,8 +11,10 @@ mod costs;
 mod firsts;
 mod keys;
 mod laws;
+mod numbers;
 mod pages;
 mod prepared;
+mod sides;
 mod sources;
 mod tested;
 

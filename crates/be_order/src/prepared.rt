@@ -15,8 +15,8 @@ use crate::keys::key_held;
 use crate::tested::{marked_page, text_page};
 use crate::{Order, OrderedKeys, OrderedSource, ordered_into};
 use arrayvec::ArrayVec;
-use be_plan::{KeyBounds, KeyRange, PreparedQuery, Source, TextTest, choose_from, true_nodes_into};
-use be_query::{Query, Tree};
+use be_plan::{KeyBounds, KeyRange, PreparedQuery, Source, TextTest, is_covered, true_nodes_into};
+use be_query::Tree;
 use be_value::{Kind, Name, Refusal};
 use std::alloc::Global;
 
@@ -151,7 +151,7 @@ fn look_up_page<S: OrderedSource>(
 
 /// Prepares the comparison that a part of the query consists of, so that it can be applied to many
 /// strings. Returns `None` if the part has more than one comparison.
-fn ready_test(alloc: Global, tree: &Tree) -> Result<Option<TextTest<'_>>, Refusal>
+pub(crate) fn ready_test(alloc: Global, tree: &Tree) -> Result<Option<TextTest<'_>>, Refusal>
     ensures test { IfOk result (λ test. IfSome test (IsTestOf (formula tree.now))) }
     ensures memory { IfErr result (λ e. e ≡ OutOfMemory) }
 {
@@ -198,24 +198,12 @@ fn asking_page<S: OrderedSource>(
     ask_page(alloc, left, source, walk, most, pace, cursor, found)
 }
 
-/// Returns `true` if the indices cover the query. Returns `false` if they don't, or if memory runs
-/// out.
-fn rests_on_index<S: Source>(alloc: Global, query: &Query, source: &mut S) -> bool
-    ghost volume: { State }
-    requires { S.answers_for source.old volume }
-    ensures covered { result ≡ true → covered volume query.now ≡ true }
-    ensures stays { S.kept source.new ≡ S.kept source.old }
-    ensures answers { S.answers_for source.new volume }
-{
-    choose_from(alloc, query, source).is_ok()
-}
-
-/// Finds a page of a query with a remaining condition, by walking over the keys of the order's own
-/// index. Returns `None` if another method has to be used: the source can't walk in order, the
-/// indices don't cover the query, or sorting the whole answer is cheaper.
+/// Finds a page of a part of a query with a remaining condition, by walking over the keys of the
+/// order's own index. Returns `None` if another method has to be used: the source can't walk in
+/// order, the indices don't cover the part, or sorting the whole answer is cheaper.
 fn find_page<S: OrderedSource>(
     alloc: Global,
-    query: &Query,
+    part: &Tree,
     source: &mut S,
     walk: Walk<'_>,
     tree: &Tree,
@@ -227,10 +215,10 @@ fn find_page<S: OrderedSource>(
     requires answers { S.answers_for source.old volume }
     requires few { comparisons (formula tree.now) ≤ 256 }
     requires kind { index_kind volume walk.keys.name.now ≡ Some walk.kind }
-    requires bounding { Bounding query.now walk.keys.name.now walk.kind walk.keys.low.now
+    requires bounding { Bounding (formula part.now) walk.keys.name.now walk.kind walk.keys.low.now
         (option_copied walk.keys.high) (Some (formula tree.now)) }
     ensures page { IfOk result (λ asked. IfSome asked (λ more.
-        page volume query.now walk.entry.keys.name.now walk.entry.descending
+        page volume (formula part.now) walk.entry.keys.name.now walk.entry.descending
         (cursor_bytes cursor.old) most
         ≡ Ok (page_with found.new.items (cursor_bytes cursor.new) more))) }
     ensures memory { IfErr result (λ e. e ≡ OutOfMemory) }
@@ -239,7 +227,7 @@ fn find_page<S: OrderedSource>(
     ensures stays { S.kept source.new ≡ S.kept source.old }
     ensures answers { S.answers_for source.new volume }
 {
-    if !rests_on_index(alloc, query, source) {
+    if !is_covered(source, part) {
         return Ok(None);
     }
     let tested = text_page(alloc, tree, source, walk, most, cursor, found)?;
@@ -263,11 +251,11 @@ fn find_page<S: OrderedSource>(
     )
 }
 
-/// Finds a page of a query by walking over the keys that the query allows in the order's own index,
-/// which has this kind. Returns `None` if another method has to be used.
-fn page_beside<S: OrderedSource>(
+/// Finds a page of a part of a query by walking over the keys that the part allows in the order's
+/// own index, which has this kind. Returns `None` if another method has to be used.
+pub(crate) fn page_beside<S: OrderedSource>(
     alloc: Global,
-    query: &Query,
+    part: &Tree,
     source: &mut S,
     kind: Kind,
     order: Order<'_>,
@@ -276,9 +264,10 @@ fn page_beside<S: OrderedSource>(
 ) -> Result<Option<bool>, Refusal>
     ghost volume: { State }
     requires answers { S.answers_for source.old volume }
+    requires few { comparisons (formula part.now) ≤ 256 }
     requires kind { index_kind volume order.by.now ≡ Some kind }
     ensures page { IfOk result (λ asked. IfSome asked (λ more.
-        page volume query.now order.entry.by.now order.entry.descending
+        page volume (formula part.now) order.entry.by.now order.entry.descending
         (cursor_bytes cursor.old) order.entry.most
         ≡ Ok (page_with found.new.items (cursor_bytes cursor.new) more))) }
     ensures memory { IfErr result (λ e. e ≡ OutOfMemory) }
@@ -288,7 +277,7 @@ fn page_beside<S: OrderedSource>(
     ensures answers { S.answers_for source.new volume }
 {
     let mut bounds = KeyBounds::new();
-    let Some(tree) = bounds.narrow(query.tree(), order.by, kind) else {
+    let Some(tree) = bounds.narrow(part, order.by, kind) else {
         return Ok(None);
     };
     let walk = Walk {
@@ -296,7 +285,7 @@ fn page_beside<S: OrderedSource>(
         kind,
         descending: order.descending,
     };
-    find_page(alloc, query, source, walk, tree, order.most, cursor, found)
+    find_page(alloc, part, source, walk, tree, order.most, cursor, found)
 }
 
 /// Prepares the query's range for the order's index, which has this kind, if all comparisons in the
@@ -362,7 +351,7 @@ pub fn ordered_prepared_into<S: OrderedSource>(
         }
     }
     let query = prepared.query();
-    let asked = page_beside(alloc, query, source, kind, order, cursor, found)?;
+    let asked = page_beside(alloc, query.tree(), source, kind, order, cursor, found)?;
     if let Some(more) = asked {
         return Ok(more);
     }

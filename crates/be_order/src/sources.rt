@@ -66,16 +66,6 @@ pub trait OrderedSource: Source {
     {
         Ok(false)
     }
-
-    /// Returns the approximate number of keys in the range. The estimate only selects the method
-    /// that finds a page, so any number is correct. The default is the highest number.
-    fn about(&mut self, _keys: KeyRange<'_>) -> u64
-        requires { (volume : State) × Self.answers_for self.old volume }
-        ensures stays { Self.kept self.new ≡ Self.kept self.old }
-        ensures answers { StillAnswers Self.answers_for self.old self.new }
-    {
-        u64::MAX
-    }
 }
 
 /// A plain volume doesn't walk in order, so its answers are sorted.

@@ -95,6 +95,10 @@ impl<L: Look> Source for OrderedPages<L> {
     fn estimate(&mut self, name: &Name) -> u64 {
         self.reader.estimate(name)
     }
+
+    fn about(&mut self, keys: KeyRange<'_>) -> u64 {
+        self.reader.about(keys)
+    }
 }
 
 impl<L: Look> OrderedSource for OrderedPages<L> {
@@ -118,9 +122,5 @@ impl<L: Look> OrderedSource for OrderedPages<L> {
     ) -> Result<bool, Refusal> {
         self.reader
             .passing_in_order(keys.keys.name, way_of(keys), test, most, found)
-    }
-
-    fn about(&mut self, keys: KeyRange<'_>) -> u64 {
-        self.reader.about_within(keys)
     }
 }

@@ -182,20 +182,6 @@ impl<L: Look> PagedSource<L> {
         passing_in_order(&mut self.look, index.root, way, test, most, found)?;
         Ok(true)
     }
-
-    /// Estimates the number of keys in a range of the index with this name. It costs two descents,
-    /// and is exact if the range is within one leaf.
-    pub fn about_within(&mut self, keys: KeyRange<'_>) -> u64
-        requires { (volume : State) × ⟦<PagedSource<L> as Source>⟧.answers_for self.old volume }
-        ensures stays { ⟦<PagedSource<L> as Source>⟧.kept self.new
-            ≡ ⟦<PagedSource<L> as Source>⟧.kept self.old }
-        ensures answers { StillAnswers ⟦<PagedSource<L> as Source>⟧.answers_for self.old self.new }
-    {
-        match known_index(&mut self.look, self.page, keys.name, &mut self.known) {
-            Some(index) => about_within(&mut self.look, index.root, keys.low, keys.high),
-            None => 0,
-        }
-    }
 }
 
 impl<L: Look> Source for PagedSource<L> {
@@ -289,6 +275,14 @@ impl<L: Look> Source for PagedSource<L> {
     fn estimate(&mut self, name: &Name) -> u64 {
         match known_index(&mut self.look, self.page, name, &mut self.known) {
             Some(index) => about_keys(&mut self.look, index.root),
+            None => 0,
+        }
+    }
+
+    // It costs two descents, and is exact if the range is within one leaf.
+    fn about(&mut self, keys: KeyRange<'_>) -> u64 {
+        match known_index(&mut self.look, self.page, keys.name, &mut self.known) {
+            Some(index) => about_within(&mut self.look, index.root, keys.low, keys.high),
             None => 0,
         }
     }

@@ -26,9 +26,10 @@ ghost use Rattle.be_pages.specs.declared.page_pool.Place.TheVariants.{Current};
 use crate::page_lists::PageLists;
 use std::alloc::{AllocError, Global};
 
-/// How many expired pages are moved to the free pages at once. One write rarely gives up more, so
-/// in the usual case none is left waiting.
-const MOVED_AT_ONCE: usize = 64;
+/// How many expired pages are moved to the free pages at once. Even a write of 64 operations on
+/// large indices gives up fewer. If writes gave up more, the pages left waiting would become more
+/// with each of them, and a large pool's pages would be used one after another instead of again.
+const MOVED_AT_ONCE: usize = 1024;
 
 /// The place of a page.
 #[derive(Clone, Copy, Debug, PartialEq, Eq)]

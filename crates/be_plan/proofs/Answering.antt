@@ -18,7 +18,8 @@ use Rattle.be_volume.specs.declared.maps.Index.{Index}
 use Rattle.be_plan.specs.Cover.{leaves, covers, covers_part, rests_on}
 use Rattle.be_volume.specs.Sound.{IsSound, IsPaired}
 use Rattle.be_plan.specs.Walk.{HasReached}
-use Rattle.be_plan.proofs.Ways.{Way, IsPart, way, is_covered, or_cases, and_first, and_second, nat_is}
+use Rattle.be_plan.specs.Covering.{IsPart}
+use Rattle.be_plan.proofs.Ways.{Way, way, is_covered, or_cases, and_first, and_second, nat_is}
 use Rattle.be_plan.proofs.Rising.{in_by_place, contains_of_is_in, same_rising, in_filter, from_filter, rises_filter, rises_increasing, rises_keys}
 
 -- A node with an attribute exists.

@@ -22,4 +22,5 @@ pub mod Sides
 pub mod Spines
 pub mod Represented
 pub mod Tested
+pub mod Unequal
 pub mod Ways

@@ -114,10 +114,16 @@ module _ (s : State) (sound : IsSound s) (name bytes : List ℕ) (k : IsKey s na
   pub own_node : (value : Value) (node : ℕ) → node < 2 ^ 64 → bytes ≡ key value node → k.node ≡ node
   own_node value node fits e = key_node k.value value k.node node paired.node_fits fits (sym k.is ∙ e)
 
+  -- The value of a key is seen for the key's node, and both are a pair of the index.
+  pub key_pair : IsPair kind k.value k.node
+  key_pair = record { is_value = paired.is_value; kind_is = paired.kind_is ∙ kinds; node_fits = paired.node_fits }
+
+  pub key_seen : sees s k.node name ≡ Some k.value
+  key_seen = ap (λ i. seen_in i (attribute s k.node name) k.node) k.there ∙ k.paired
+
   -- The node of a key in the range satisfies the formula if it satisfies the remaining condition.
   pub left_key : (f : Formula) (low : List ℕ) (high : Option (List ℕ)) (rest : Option Formula) → LeavesRest f name kind low high rest →
       Within low high bytes → sat s f k.node ≡ rest_true s rest k.node
   left_key f low high rest leaves within =
-      let pair : IsPair kind k.value k.node = record { is_value = paired.is_value; kind_is = paired.kind_is ∙ kinds; node_fits = paired.node_fits } in
       let P : List ℕ → Type 0 = Within low high in
-      leaves s k.value k.node pair (subst P k.is within) (ap (λ i. seen_in i (attribute s k.node name) k.node) k.there ∙ k.paired)
+      leaves s k.value k.node key_pair (subst P k.is within) key_seen

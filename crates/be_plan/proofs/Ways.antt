@@ -13,6 +13,7 @@ use Rattle.be_query.specs.Grammar.{Formula, Leaf, And, Or, comparisons}
 use Rattle.be_volume.specs.Query.{sat, sees, holds, covered, has_index}
 use Rattle.be_volume.specs.Volume.{State}
 use Rattle.be_plan.specs.Cover.{Comparison, leaves, covers_part, rests_on}
+use Rattle.be_plan.specs.Covering.{IsPart}
 use Rattle.be_plan.specs.Narrow.{Allows}
 
 slice_get_left : (xs ys : List Comparison) (i : ℕ) → i < length xs → slice_get (xs ++ ys) i ≡ slice_get xs i
@@ -47,10 +48,6 @@ slice_get_after (x ∷ xs) (suc i) h = slice_get_after xs i (omega arith)
 
 pub none_after : (f : Formula) (i : ℕ) → comparisons f ≤ i → None ≡ slice_get (leaves f) i
 none_after f i h = slice_get_after (leaves f) i (omega (arith, length-leaves f))
-
--- The part is that of the whole from position `at` on.
-abbrev pub IsPart : Formula → ℕ → Formula → Type 0
-IsPart whole at f = (i : ℕ) → i < comparisons f → slice_get (leaves whole) (at + i) ≡ slice_get (leaves f) i
 
 pub left_part : (whole : Formula) (at : ℕ) (a b : Formula) → IsPart whole at (And a b) → IsPart whole at a
 left_part whole at a b p i h = p i (omega arith) ∙ slice_get_left (leaves a) (leaves b) i (omega (arith, length-leaves a))

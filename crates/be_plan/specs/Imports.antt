@@ -14,6 +14,7 @@ pub use Rattle.be_query.specs.Coded.{coded_formula}
 pub use Rattle.be_query.specs.Grammar.{Exact, Formula, Leaf, Literal as AnyLiteral, comparisons}
 pub use Rattle.be_query.specs.View.{formula, literal}
 pub use Rattle.be_query.specs.declared.tree.Cmp.{Cmp as Operator}
+pub use Rattle.be_query.specs.declared.tree.Cmp.TheVariants.{Ne}
 pub use Rattle.be_value.specs.Key.{IsValue, key as key_bytes, value_key}
 pub use Rattle.be_value.specs.Name.{has_nul}
 pub use Rattle.be_value.specs.Refusal.{Answers}

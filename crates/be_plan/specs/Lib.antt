@@ -1,6 +1,7 @@
 pub mod Imports
 pub mod Bounding
 pub mod Cover
+pub mod Covering
 pub mod Explain
 pub mod KeyTests
 pub mod Marks

@@ -10,7 +10,7 @@ ghost use Rattle.be_plan.specs.Imports.{IsStrictlyIncreasing, State};
 ghost use Rattle.be_plan.specs.Walk.{AddsTrue, Collects, HasAllTrue, IsNoAnswer};
 
 use crate::Source;
-use crate::choosing::choose_by_source;
+use crate::fewest::choose_fewest;
 use crate::names::only_name;
 use crate::ranges::Range;
 use crate::running::walk_picks;
@@ -42,7 +42,7 @@ fn collect_chosen<S: Source>(
     ensures covered { OnOk result (covered volume (formula tree.now) ≡ true) }
     ensures refused { IfErr result (λ e. IsNoAnswer volume (formula tree.now) e) }
 {
-    let Some(cover) = choose_by_source(alloc, tree, source)? else {
+    let Some(cover) = choose_fewest(alloc, source, range, tree)? else {
         return Err(Refusal::NotCovered);
     };
     walk_picks(alloc, source, range, tree, &cover, found)

@@ -3,14 +3,17 @@
 //! A page in index order comes from a walk over that index, no matter which indices cover the
 //! query. Comparisons on the index's own name bound the walk, and each node is tested only against
 //! the rest of the query.
-ghost use Rattle.std.specs.Prelude.{◌≡◌, List, ℕ};
-ghost use Rattle.be_plan.specs.Imports.{comparisons, formula, option_copied, option_map};
+ghost use Rattle.std.specs.Prelude.{◌≡◌, is_some, List, ℕ};
+ghost use Rattle.be_plan.specs.Imports.{comparisons, formula, has_index, option_copied, option_map};
+ghost use Rattle.be_plan.specs.Imports.{State};
 ghost use Rattle.be_plan.specs.Bounding.{Bounding, HasAtMost};
 ghost use Rattle.be_plan.specs.Narrow.{Within};
+ghost use Rattle.be_plan.specs.Sources.{StillAnswers};
 
-use crate::KeyRange;
+use crate::fewest::keys_allowed;
 use crate::narrowing::narrow_beside;
 use crate::ranges::Range;
+use crate::{KeyRange, Source};
 use be_query::Tree;
 use be_value::{Kind, Name};
 use std::marker::Model;
@@ -53,6 +56,19 @@ impl KeyBounds {
     {
         self.range.open();
         narrow_beside(&mut self.range, tree, name, kind)
+    }
+
+    /// Returns about how many keys a part of a query allows in the index of a name, or `None` if
+    /// there is no index. Sets the bounds to these keys.
+    pub fn allowed<S: Source>(&mut self, source: &mut S, tree: &Tree, name: &Name) -> Option<u64>
+        requires { (volume : State) × S.answers_for source.old volume }
+        ensures indexed { (volume : State) → S.answers_for source.old volume
+            → is_some result ≡ has_index volume name.now }
+        ensures stays { S.kept source.new ≡ S.kept source.old }
+        ensures answers { StillAnswers S.answers_for source.old source.new }
+        ensures still { (volume : State) × S.answers_for source.new volume }
+    {
+        keys_allowed(source, &mut self.range, tree, name)
     }
 
     /// Returns the keys within the bounds, in the index of `name`.

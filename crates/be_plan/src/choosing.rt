@@ -169,6 +169,15 @@ pub(crate) fn cheaper(left: Option<Cover>, right: Option<Cover>) -> Option<Cover
     }
 }
 
+/// Returns the picks of both, one after the other.
+pub(crate) fn join_picks(alloc: Global, left: Picks, right: Picks) -> Result<Picks, AllocError>
+    ensures { IfOk result (λ picks. picks ≡ left ++ right) }
+{
+    let mut places = left.into_vec(alloc)?;
+    places.extend_from_slice(right.as_slice())?;
+    Ok(Picks::new(places))
+}
+
 /// Returns a cover with the picks of both covers and the sum of their scores.
 pub(crate) fn join(alloc: Global, left: Cover, right: Cover) -> Result<Cover, AllocError>
     requires { left.score + right.score ≤ 1280 }
@@ -178,17 +187,15 @@ pub(crate) fn join(alloc: Global, left: Cover, right: Cover) -> Result<Cover, Al
           + right.score;
     }) }
 {
-    let mut places = left.picks.into_vec(alloc)?;
-    places.extend_from_slice(right.picks.as_slice())?;
     Ok(Cover {
-        picks: Picks::new(places),
+        picks: join_picks(alloc, left.picks, right.picks)?,
         score: left.score + right.score,
     })
 }
 
 /// Returns the score of the comparison. A higher score means that answering from this comparison is
 /// more expensive.
-fn score_of(comparison: &Comparison) -> u64
+pub(crate) fn score_of(comparison: &Comparison) -> u64
     ensures score { result ≡ score_of comparison.now.op (literal comparison.now.literal) }
     ensures small { result ≤ 5 }
 {

@@ -3,7 +3,7 @@
 //! The source evaluates each comparison on the value that the comparison sees. On an indexed name
 //! that is the value in the index; on any other name it is the attribute.
 ghost use Rattle.std.specs.Prelude.{◌≡◌, Some};
-ghost use Rattle.be_plan.specs.Imports.{formula, sat, sees, State};
+ghost use Rattle.be_plan.specs.Imports.{covered, formula, sat, sees, State};
 ghost use Rattle.be_plan.specs.Sources.{StillAnswers};
 ghost use Rattle.be_plan.specs.Walk.{asks_name};
 
@@ -60,6 +60,22 @@ pub fn is_true<S: Source>(source: &mut S, tree: &Tree, node: u64) -> bool
         Tree::Leaf(comparison) => source.holds(node, comparison),
         Tree::And(a, b) => is_true(source, a, node) && is_true(source, b, node),
         Tree::Or(a, b) => is_true(source, a, node) || is_true(source, b, node),
+    }
+}
+
+/// Returns `true` if the source's indices cover a part of a query. Allocates no memory.
+pub fn is_covered<S: Source>(source: &mut S, tree: &Tree) -> bool
+    requires { (volume : State) × S.answers_for source.old volume }
+    ensures answer { (volume : State) → S.answers_for source.old volume → result
+        ≡ covered volume (formula tree.now) }
+    ensures stays { S.kept source.new ≡ S.kept source.old }
+    ensures answers { StillAnswers S.answers_for source.old source.new }
+    ensures still { (volume : State) × S.answers_for source.new volume }
+{
+    match tree {
+        Tree::Leaf(comparison) => source.kind_of(&comparison.name).is_some(),
+        Tree::And(a, b) => is_covered(source, a) || is_covered(source, b),
+        Tree::Or(a, b) => is_covered(source, a) && is_covered(source, b),
     }
 }
 

@@ -27,7 +27,8 @@ ghost use Rattle.be_plan.specs.Imports.{option_map, sat, value_key, AnyValue, Ex
 ghost use Rattle.be_plan.specs.Imports.{State};
 ghost use Rattle.be_plan.specs.Walk.{AreAllOn};
 ghost use Rattle.be_plan.specs.Bounding.{HasAtMost};
-ghost use Rattle.be_plan.specs.Narrow.{AllTrueOf, KeepsTrueOf, IsIn, IsBetween, IsPair, Represents};
+ghost use Rattle.be_plan.specs.Narrow.{AllTrue, AllTrueOf, KeepsTrue, KeepsTrueOf, IsIn, IsPair};
+ghost use Rattle.be_plan.specs.Narrow.{IsBetween, Represents};
 ghost use Rattle.be_plan.specs.Narrow.{HasEnds, Allows, LeavesRest, high_of, limit, rest_true};
 
 use crate::ranges::Range;
@@ -60,12 +61,13 @@ fn without_last(end: &[u8]) -> &[u8]
     }
 }
 
-/// Excludes the keys of values that don't satisfy the comparison, given a value that is equivalent
-/// to its literal. The keys of this value begin with `front`; what follows is `first` for the
-/// lowest node, and `after` without its zero byte for the highest. Returns `true` if all remaining
-/// values satisfy the comparison.
+/// Excludes the keys of values for which the operator is false with the comparison's literal, given
+/// a value that is equivalent to that literal. The keys of this value begin with `front`; what
+/// follows is `first` for the lowest node, and `after` without its zero byte for the highest.
+/// Returns `true` if the operator is true of all remaining values.
 fn narrow_by(
     range: &mut Range,
+    op: Cmp,
     comparison: &Comparison,
     kind: Kind,
     front: &[u8],
@@ -76,10 +78,11 @@ fn narrow_by(
     requires represents { Represents (literal comparison.now.literal) kind bound }
     requires ends { HasEnds bound front.now first.now after.now }
     ensures within { (k : List ℕ) → IsIn range.new k → IsIn range.old k }
-    ensures keeps { KeepsTrueOf kind comparison.now range.old range.new }
-    ensures decides { result ≡ true → AllTrueOf kind comparison.now range.new }
+    ensures keeps { KeepsTrue kind op (literal comparison.now.literal) range.old range.new }
+    ensures decides { result ≡ true
+        → AllTrue kind op (literal comparison.now.literal) range.new }
 {
-    match comparison.op {
+    match op {
         Cmp::Eq => range.raise_to(front, first) && range.lower_to(front, without_last(after)),
         Cmp::Ne => false,
         Cmp::Lt => range.lower_to(front, without_last(first)),
@@ -90,49 +93,90 @@ fn narrow_by(
 }
 
 /// Does what `narrow_by` does, for the integer that is encoded as `bytes` in a key.
-fn narrow_by_integer(range: &mut Range, comparison: &Comparison, kind: Kind, bytes: &[u8]) -> bool
+fn narrow_by_integer(
+    range: &mut Range,
+    op: Cmp,
+    comparison: &Comparison,
+    kind: Kind,
+    bytes: &[u8],
+) -> bool
     ghost bound: { AnyValue }
     requires represents { Represents (literal comparison.now.literal) kind bound }
     requires bytes { bytes.now ≡ value_key bound }
     ensures within { (k : List ℕ) → IsIn range.new k → IsIn range.old k }
-    ensures keeps { KeepsTrueOf kind comparison.now range.old range.new }
-    ensures decides { result ≡ true → AllTrueOf kind comparison.now range.new }
+    ensures keeps { KeepsTrue kind op (literal comparison.now.literal) range.old range.new }
+    ensures decides { result ≡ true
+        → AllTrue kind op (literal comparison.now.literal) range.new }
 {
-    narrow_by(range, comparison, kind, bytes, &NUMBER_FIRST, &NUMBER_AFTER)
+    narrow_by(
+        range,
+        op,
+        comparison,
+        kind,
+        bytes,
+        &NUMBER_FIRST,
+        &NUMBER_AFTER,
+    )
 }
 
 /// Does what `narrow_by` does, for the number that the literal encodes. Returns `None` and leaves
 /// the range unchanged if this number isn't a value of the kind.
 fn narrow_by_number(
     range: &mut Range,
+    op: Cmp,
     comparison: &Comparison,
     kind: Kind,
     number: i128,
 ) -> Option<bool>
     requires { literal_number (literal comparison.now.literal) ≡ Some number }
     ensures within { (k : List ℕ) → IsIn range.new k → IsIn range.old k }
-    ensures keeps { KeepsTrueOf kind comparison.now range.old range.new }
+    ensures keeps { KeepsTrue kind op (literal comparison.now.literal) range.old range.new }
     ensures decides { IfSome result (λ all. all ≡ true
-        → AllTrueOf kind comparison.now range.new) }
+        → AllTrue kind op (literal comparison.now.literal) range.new) }
 {
     match kind {
         Kind::Long => {
             let n = i32::try_from(number).ok()?;
-            Some(narrow_by_integer(range, comparison, kind, &counted32(n).to_be_bytes()))
+            let bytes = counted32(n).to_be_bytes();
+            Some(narrow_by_integer(range, op, comparison, kind, &bytes))
         }
         Kind::Llng => {
             let n = i64::try_from(number).ok()?;
-            Some(narrow_by_integer(range, comparison, kind, &counted64(n).to_be_bytes()))
+            let bytes = counted64(n).to_be_bytes();
+            Some(narrow_by_integer(range, op, comparison, kind, &bytes))
         }
         Kind::Ulng => {
             let n = u32::try_from(number).ok()?;
-            Some(narrow_by_integer(range, comparison, kind, &n.to_be_bytes()))
+            Some(narrow_by_integer(range, op, comparison, kind, &n.to_be_bytes()))
         }
         Kind::Ullg => {
             let n = u64::try_from(number).ok()?;
-            Some(narrow_by_integer(range, comparison, kind, &n.to_be_bytes()))
+            Some(narrow_by_integer(range, op, comparison, kind, &n.to_be_bytes()))
         }
         Kind::Cstr | Kind::Mims | Kind::Rawt => None,
+    }
+}
+
+/// Excludes the keys of integers for which the operator is false with the comparison's literal.
+/// Returns `true` if the operator is true of all remaining integers, and `false` if the literal
+/// isn't a value of the kind.
+pub(crate) fn narrow_by_operator(
+    range: &mut Range,
+    op: Cmp,
+    comparison: &Comparison,
+    kind: Kind,
+) -> bool
+    ensures within { (k : List ℕ) → IsIn range.new k → IsIn range.old k }
+    ensures keeps { KeepsTrue kind op (literal comparison.now.literal) range.old range.new }
+    ensures decides { result ≡ true
+        → AllTrue kind op (literal comparison.now.literal) range.new }
+{
+    let Some(number) = literal_number(&comparison.literal) else {
+        return false;
+    };
+    match narrow_by_number(range, op, comparison, kind, number) {
+        Some(all) => all,
+        None => false,
     }
 }
 
@@ -189,7 +233,7 @@ fn narrow_integers(range: &mut Range, comparison: &Comparison, kind: Kind) -> bo
 {
     let number = literal_number(&comparison.literal);
     if let Some(number) = number {
-        if let Some(all) = narrow_by_number(range, comparison, kind, number) {
+        if let Some(all) = narrow_by_number(range, comparison.op, comparison, kind, number) {
             return all;
         }
     }
@@ -279,6 +323,7 @@ fn narrow_by_text(range: &mut Range, comparison: &Comparison, words: &str) -> bo
     }
     narrow_by(
         range,
+        comparison.op,
         comparison,
         Kind::Cstr,
         bytes,

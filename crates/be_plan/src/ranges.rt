@@ -4,7 +4,7 @@
 //! bytes of a literal and the bytes of a node. To be compared, the two parts need not be
 //! concatenated. They are copied only if the range changes, and then directly to their final
 //! location.
-ghost use Rattle.std.specs.Prelude.{◌≡◌, ◌+◌, ◌≤◌, true, false, List, [], ◌++◌, ℕ, length};
+ghost use Rattle.std.specs.Prelude.{◌≡◌, ◌+◌, ◌≤◌, true, false, List, [], ◌++◌, ℕ, length, IfSome};
 ghost use Rattle.be_plan.specs.Imports.{is_gt, is_lt, name_cmp, option_copied};
 ghost use Rattle.be_plan.specs.Narrow.{IsFrom, IsIn, IsTo, KeepsFrom, KeepsTo, high_of, is_above};
 
@@ -122,6 +122,24 @@ impl Range {
         self.bounded = false;
     }
 
+    /// Returns a range of the same keys, or `None` if its bounds don't fit.
+    pub(crate) fn copy(&self) -> Option<Range>
+        ensures within { IfSome result (λ range. (k : List ℕ) → IsIn range k → IsIn self.now k) }
+        ensures keeps { IfSome result (λ range. (k : List ℕ) → IsIn self.now k → IsIn range k) }
+    {
+        let mut range = Range::whole();
+        if !range.raise_to(self.low(), &[]) {
+            return None;
+        }
+        let Some(high) = self.high() else {
+            return Some(range);
+        };
+        if !range.lower_to(high, &[]) {
+            return None;
+        }
+        Some(range)
+    }
+
     /// Returns the keys of the range, in the index of `name`.
     pub(crate) fn keys<'a>(&'a self, name: &'a Name) -> KeyRange<'a>
         ensures name { result.name.now ≡ name.now }
@@ -150,6 +168,16 @@ impl Range {
             Some(self.high.as_slice())
         } else {
             None
+        }
+    }
+
+    /// Returns `true` if the low bound is above the high one, so that the range has no keys.
+    pub(crate) fn is_empty(&self) -> bool
+        ensures { result ≡ true → (k : List ℕ) → IsIn self.now k → ⊥ }
+    {
+        match self.high() {
+            Some(high) => self.low().cmp(&high).is_gt(),
+            None => false,
         }
     }
 

@@ -173,6 +173,16 @@ pub trait Source {
         u64::MAX
     }
 
+    /// Returns the approximate number of keys in the range. It affects only the choice of plan, so
+    /// any number is correct. The default is higher than the number of keys of most indices.
+    fn about(&mut self, _keys: KeyRange<'_>) -> u64
+        requires { (volume : State) × answers_for self.old volume }
+        ensures stays { kept self.new ≡ kept self.old }
+        ensures answers { StillAnswers answers_for self.old self.new }
+    {
+        1 << 32
+    }
+
     // A law: each pair in an index of the volume is an attribute of its node and has the index's
     // kind.
     ghost sound: { (source : Self) (volume : State) → answers_for source volume → IsSound volume };

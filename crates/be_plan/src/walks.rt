@@ -3,24 +3,27 @@
 //! A walk visits the keys in a range and collects those of their nodes that match the query. If the
 //! range decides the query, every node in it is an answer, and the source returns the nodes in one
 //! call. If a single comparison with a string remains, the source is asked for the nodes that
-//! satisfy it.
+//! satisfy it. If it is a single `!=` with an integer, the walk has two ranges: what is below that
+//! integer, and what is above it.
 //!
 //! Otherwise, or if the source doesn't test strings, the walk steps from key to key with
 //! `next_key`, from the low end of the range to the first key above its high end, and tests each
 //! node against the query. It reads one key more than it tests. For walks that leave only
 //! comparisons on other names, see `sifting`.
-ghost use Rattle.std.specs.Prelude.{◌≡◌, ◌<◌, ◌^◌, ℕ, true, false, Some, OnOk, IfErr, IfOk, IfSome};
+ghost use Rattle.std.specs.Prelude.{◌≡◌, ◌<◌, ◌^◌, ℕ, List, true, false, None, Some, OnOk, IfErr};
+ghost use Rattle.std.specs.Prelude.{IfOk, IfSome};
 ghost use Rattle.be_plan.specs.Imports.{formula, index_kind, key_bytes, literal, option_copied};
-ghost use Rattle.be_plan.specs.Imports.{option_map, sat, AnyValue, Contains, Cstr, Leaf};
+ghost use Rattle.be_plan.specs.Imports.{option_map, sat, AnyValue, Contains, Cstr, Leaf, Ne};
 ghost use Rattle.be_plan.specs.Imports.{OutOfMemory, State};
-ghost use Rattle.be_plan.specs.Narrow.{high_of};
+ghost use Rattle.be_plan.specs.Narrow.{high_of, AllTrue, IsIn, KeepsTrue};
 ghost use Rattle.be_plan.specs.Walk.{Collects, CollectsFor, HasWalked, IsKeyOfKind, LeavesInIndex};
 
 use crate::Source;
 use crate::evaluating::satisfies;
+use crate::narrowing::narrow_by_operator;
 use crate::ranges::Range;
 use crate::texts::TextTest;
-use be_query::{Comparison, Tree};
+use be_query::{Cmp, Comparison, Tree};
 use be_value::{Kind, Name, Refusal, read_key};
 use std::alloc::Global;
 
@@ -144,6 +147,109 @@ fn pass_texts<S: Source>(
     source.nodes_passing(walk.range.keys(walk.index.name), &test, found)
 }
 
+/// Returns the remaining condition if it is a single `!=` on this name.
+fn asked_unequal<'t>(rest: &'t Tree, name: &Name) -> Option<&'t Comparison>
+    ensures { IfSome (option_copied result)
+        (λ c. formula rest.now ≡ Leaf name.now Ne (literal c.literal)) }
+{
+    match rest {
+        Tree::Leaf(comparison) => match comparison.op {
+            Cmp::Ne if comparison.name == *name => Some(comparison),
+            _ => None,
+        },
+        _ => None,
+    }
+}
+
+/// Returns the part of a walk's range whose integers are below the comparison's literal, or above
+/// it, depending on the operator. Returns `None` if the literal isn't a value of the index.
+fn part_beyond(walk: Walk<'_>, comparison: &Comparison, op: Cmp) -> Option<Range>
+    ensures within { IfSome result (λ part. (k : List ℕ) → IsIn part k
+        → IsIn walk.entry.range.now k) }
+    ensures keeps { IfSome result (KeepsTrue walk.entry.index.kind op
+        (literal comparison.now.literal) walk.entry.range.now) }
+    ensures decides { IfSome result (AllTrue walk.entry.index.kind op
+        (literal comparison.now.literal)) }
+{
+    let Some(mut part) = walk.range.copy() else {
+        return None;
+    };
+    if !narrow_by_operator(&mut part, op, comparison, walk.index.kind) {
+        return None;
+    }
+    Some(part)
+}
+
+/// Adds the nodes of a walk's keys. The range decides the walk's tree.
+fn walk_decided<S: Source>(
+    source: &mut S,
+    walk: Walk<'_>,
+    found: &mut Vec<u64>,
+) -> Result<(), Refusal>
+    ghost volume: { State }
+    requires answers { S.answers_for source.old volume }
+    requires leaves { LeavesInIndex volume (formula walk.tree.now) walk.index.name.now
+        walk.index.kind walk.range.now.low.items (high_of walk.range.now) None }
+    ensures stays { S.kept source.new ≡ S.kept source.old }
+    ensures answers { S.answers_for source.new volume }
+    ensures memory { IfErr result (λ e. e ≡ OutOfMemory) }
+    ensures collects { CollectsFor volume walk.entry found.old.items found.new.items }
+    ensures has { OnOk result (HasWalked volume walk.entry found.new.items) }
+{
+    source.nodes_within(walk.range.keys(walk.index.name), found)
+}
+
+/// Adds the nodes of a walk's keys that satisfy its tree, and returns `true`, if the condition that
+/// remains to be tested on them is a single `!=` on integers: these are the nodes of the keys below
+/// the literal and above it. Otherwise it adds nothing and returns `false`.
+#[inline(never)]
+fn pass_unequal<S: Source>(
+    source: &mut S,
+    walk: Walk<'_>,
+    rest: &Tree,
+    found: &mut Vec<u64>,
+) -> Result<bool, Refusal>
+    ghost volume: { State }
+    requires answers { S.answers_for source.old volume }
+    requires leaves { LeavesInIndex volume (formula walk.tree.now) walk.index.name.now
+        walk.index.kind walk.range.now.low.items (high_of walk.range.now)
+        (Some (formula rest.now)) }
+    ensures stays { S.kept source.new ≡ S.kept source.old }
+    ensures answers { S.answers_for source.new volume }
+    ensures memory { IfErr result (λ e. e ≡ OutOfMemory) }
+    ensures collects { CollectsFor volume walk.entry found.old.items found.new.items }
+    ensures has { IfOk result (λ passed. passed ≡ true
+        → HasWalked volume walk.entry found.new.items) }
+{
+    let Some(comparison) = asked_unequal(rest, walk.index.name) else {
+        return Ok(false);
+    };
+    let Some(below) = part_beyond(walk, comparison, Cmp::Lt) else {
+        return Ok(false);
+    };
+    let Some(above) = part_beyond(walk, comparison, Cmp::Gt) else {
+        return Ok(false);
+    };
+    let Walk {
+        tree,
+        index,
+        range: _,
+    } = walk;
+    let first = Walk {
+        tree,
+        index,
+        range: &below,
+    };
+    walk_decided(source, first, found)?;
+    let second = Walk {
+        tree,
+        index,
+        range: &above,
+    };
+    walk_decided(source, second, found)?;
+    Ok(true)
+}
+
 /// Adds the nodes of a walk's keys that satisfy its tree, given the condition that remains to be
 /// tested on them, or `None` if the range decides the tree. The condition is tested key by key.
 #[inline]
@@ -166,8 +272,11 @@ pub(crate) fn walk_alone<S: Source>(
     ensures has { OnOk result (HasWalked volume walk.entry found.new.items) }
 {
     let Some(rest) = rest else {
-        return source.nodes_within(walk.range.keys(walk.index.name), found);
+        return walk_decided(source, walk, found);
     };
+    if pass_unequal(source, walk, rest, found)? {
+        return Ok(());
+    }
     if pass_texts(alloc, source, walk, rest, found)? {
         return Ok(());
     }

@@ -17,6 +17,8 @@
 
 mod both;
 mod counting;
+mod estimates;
+mod fewest;
 mod ranges;
 mod sizes;
 

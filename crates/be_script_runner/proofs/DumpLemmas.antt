@@ -13,6 +13,7 @@ use Rattle.be_journal_text.proofs.PartLemmas.{in_line, part_line}
 use Rattle.be_journal.specs.Journal.{Agrees, IsEntry, IsLegal, replay}
 use Rattle.be_journal.specs.Text.{op_text}
 use Rattle.be_journal.specs.declared.entries.Entry.{Entry}
+use Rattle.be_volume.specs.Volume.{empty}
 use Rattle.be_journal.proofs.LegalLemmas.{legal_front, legal_last, replay_push}
 use Rattle.be_script_language.specs.Reply.{Reply, committed, none, ok, queued, text_of}
 use Rattle.be_script_language.specs.Request.{Request, asked, begin, commit, lines_of, silent, write}
@@ -138,7 +139,7 @@ entry_written : (limit : ℕ) (front : List Entry) (entry : Entry) → Agrees (r
     written (made limit front) entry.ops ≡ Ok (made limit (front ++ entry ∷ []), entry.dones)
 entry_written limit front entry agrees room =
     let short : nat_lt (length (map by_only_pass front)) limit ≡ true = grind (arith, nat_tests, length-map front by_only_pass, room) in
-    let volume : replay (front ++ entry ∷ []) ≡ agrees.0 = replay_push front entry ∙ ap (reached (replay front)) agrees.1 in
+    let volume : replay (front ++ entry ∷ []) ≡ agrees.0 = replay_push empty front entry ∙ ap (reached (replay front)) agrees.1 in
     let journal : map by_only_pass (front ++ entry ∷ []) ≡ map by_only_pass front ++ by_only_pass entry ∷ [] = map-append by_only_pass front (entry ∷ []) in
     let same : entered (made limit front) entry.ops agrees.0 entry.dones ≡ made limit (front ++ entry ∷ []) =
     (λ i. record { journal = sym journal i; volume = sym volume i; limit = limit; passes = 1; pass = 0; pin = None }) in
@@ -172,7 +173,7 @@ entries_made limit front (entry ∷ rest) are legal short =
     let long : length (front ++ entry ∷ []) ≡ length front + 1 = length_push front entry in
     let fits : length ((front ++ entry ∷ []) ++ rest) ≤ limit = subst (λ (es : List Entry). length es ≤ limit) (sym parted) short in
     let numbered : length front + 1 ≡ length new.journal = sym (length-map (front ++ entry ∷ []) by_only_pass ∙ long) in
-    let agrees : Agrees (replay front) entry = legal_last front entry (legal_front (front ++ entry ∷ []) rest joined) in
+    let agrees : Agrees (replay front) entry = legal_last empty front entry (legal_front empty (front ++ entry ∷ []) rest joined) in
     let accepted : written old entry.ops ≡ Ok (new, entry.dones) = entry_written limit front entry agrees (omega (arith, length-append (front ++ entry ∷ []) rest, long, fits)) in
     let beyond : Outputs (opening new) (lines_of (dump rest)) last (dump_output (length front + 1 + 1) rest) =
     subst (λ (n : ℕ). Outputs (opening new) (lines_of (dump rest)) last (dump_output (n + 1) rest)) long

@@ -10,6 +10,7 @@ use Rattle.be_journal.specs.declared.entries.Entry.{Entry}
 use Rattle.be_table.specs.Rule.{entries}
 use Rattle.be_table.specs.Versions.{CanEncodeEach}
 use Rattle.be_table.specs.declared.limits.Limits.{Limits as StoreLimits}
+use Rattle.be_volume.specs.Volume.{empty}
 use Rattle.be_table.specs.declared.pass.Knowledge.{Knowledge}
 use Rattle.be_script_language.specs.Request.{lines_of}
 use Rattle.be_script_runner.specs.Output.{IsFrontOfOutput, IsOutputTo}
@@ -23,7 +24,7 @@ use Rattle.be_script_runner.proofs.RunLemmas.{all_read, left_by, none_answered, 
 
 -- the replies, followed by the journal that they leave
 pub reported_run : (limits : StoreLimits) (script : List ℕ) (first after c : Knowledge) (log : List Entry) (old mid new : Option (List ℕ)) → known first ≡ start limits.commits → c ≡ after →
-    log ≡ entries c.seen → IsLegal log → CanEncodeEach limits.pages log → Wrote old mid (IsOutputTo (known first) script (known after)) → Appends mid new (result_text log) →
+    log ≡ entries c.seen → IsLegal log → CanEncodeEach limits.pages empty log → Wrote old mid (IsOutputTo (known first) script (known after)) → Appends mid new (result_text log) →
     Wrote old new (IsReportedRun limits script)
 reported_run limits script first after c log old mid new begun ended all legal volumes w more =
     let same : log ≡ entries after.seen = all ∙ ap (λ (k : Knowledge). entries k.seen) ended in
@@ -35,7 +36,7 @@ reported_run limits script first after c log old mid new begun ended all legal v
         replies = w.out;
         output = subst (λ (s : Store). IsOutputTo s script (known after) w.out) begun w.is;
         legal = subst IsLegal same legal;
-        volumes = subst (CanEncodeEach limits.pages) same volumes;
+        volumes = subst (CanEncodeEach limits.pages empty) same volumes;
         is = ap (λ l. w.out ++ result_text l) same;
       };
     }
@@ -88,7 +89,7 @@ all_lines_reported limits script store last old mid new begun w same = first_lin
 
 -- all the replies were written, followed by a prefix of the journal that they leave
 pub reported_in_part : (limits : StoreLimits) (script : List ℕ) (first after c : Knowledge) (log : List Entry) (old mid new : Option (List ℕ)) → known first ≡ start limits.commits → c ≡ after →
-    log ≡ entries c.seen → IsLegal log → CanEncodeEach limits.pages log → Wrote old mid (IsOutputTo (known first) script (known after)) → Wrote mid new (IsFrontOf (result_text log)) →
+    log ≡ entries c.seen → IsLegal log → CanEncodeEach limits.pages empty log → Wrote old mid (IsOutputTo (known first) script (known after)) → Wrote mid new (IsFrontOf (result_text log)) →
     Wrote old new (IsReportedInPart limits script)
 reported_in_part limits script first after c log old mid new begun ended all legal volumes w more =
     let same : log ≡ entries after.seen = all ∙ ap (λ (k : Knowledge). entries k.seen) ended in
@@ -102,7 +103,7 @@ reported_in_part limits script first after c log old mid new begun ended all leg
           replies = w.out;
           output = subst (λ (s : Store). IsOutputTo s script (known after) w.out) begun w.is;
           legal = subst IsLegal same legal;
-          volumes = subst (CanEncodeEach limits.pages) same volumes;
+          volumes = subst (CanEncodeEach limits.pages empty) same volumes;
           is = append_assoc w.out more.out more.is.0 ∙ (ap (λ l. w.out ++ l) (sym more.is.1) ∙ ap (λ l. w.out ++ result_text l) same);
         },
       );

@@ -1,4 +1,5 @@
 pub mod CallLemmas
+pub mod CrossLemmas
 pub mod DumpLemmas
 pub mod EndLemmas
 pub mod FileLemmas

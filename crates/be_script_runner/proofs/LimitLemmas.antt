@@ -8,6 +8,7 @@ use Rattle.be_table.specs.declared.limits.Limits.{Limits as StoreLimits}
 use Rattle.be_store.specs.Passes.{IsPassOf}
 use Rattle.be_table.specs.Place.{Opened, SeatFacts}
 use Rattle.be_table.specs.Rule.{AreBad, IsWithin, entries}
+use Rattle.be_table.specs.Setting.{Setting}
 use Rattle.be_table.specs.Steps.{IsPass}
 use Rattle.be_table.specs.Versions.{CanEncodeEach}
 use Rattle.be_table.specs.declared.pass.Knowledge.{Knowledge}
@@ -54,12 +55,13 @@ late_stops (Err Write) limits scripts old new late w whole = w
 late_stops (Err Memory) limits scripts old new late w whole = whole refl
 
 -- each volume that a pass has seen fits into the store's pages
-seen_encoded : (pages : ℕ) (store : Opened) (pass : SeatFacts) (a : Knowledge) → IsPassOf store pass → store.limits.pages ≡ pages → pass.knows ≡ a → IsPass pass.knows → CanEncodeEach pages (entries a.seen)
-seen_encoded pages store pass a of_store is same h =
-    subst (λ (k : Knowledge). CanEncodeEach pages (entries k.seen)) same
-    (subst (λ n. CanEncodeEach n (entries pass.knows.seen)) (ap (λ (l : StoreLimits). l.pages) of_store.0.2 ∙ is) h.volumes)
+seen_encoded : (setting : Setting) (store : Opened) (pass : SeatFacts) (a : Knowledge) → IsPassOf store pass → store.limits ≡ setting → pass.knows ≡ a → IsPass pass.knows →
+    CanEncodeEach setting.pages setting.volume (entries a.seen)
+seen_encoded setting store pass a of_store is same h =
+    subst (λ (k : Knowledge). CanEncodeEach setting.pages setting.volume (entries k.seen)) same
+    (subst (λ (s : Setting). CanEncodeEach s.pages s.volume (entries pass.knows.seen)) (of_store.0.2 ∙ is) h.volumes)
 
 -- `seen_encoded` for a pass that a server of the store returns
-pub served_encoded : (pages : ℕ) (store kept : Opened) (pass : SeatFacts) (a : Knowledge) → kept ≡ store → IsPassOf kept pass → store.limits.pages ≡ pages → pass.knows ≡ a → IsPass pass.knows →
-    CanEncodeEach pages (entries a.seen)
-served_encoded pages store kept pass a same of_kept is knows h = seen_encoded pages store pass a (subst (λ (s : Opened). IsPassOf s pass) same of_kept) is knows h
+pub served_encoded : (setting : Setting) (store kept : Opened) (pass : SeatFacts) (a : Knowledge) → kept ≡ store → IsPassOf kept pass → store.limits ≡ setting → pass.knows ≡ a → IsPass pass.knows →
+    CanEncodeEach setting.pages setting.volume (entries a.seen)
+served_encoded setting store kept pass a same of_kept is knows h = seen_encoded setting store pass a (subst (λ (s : Opened). IsPassOf s pass) same of_kept) is knows h

@@ -11,12 +11,13 @@ use Rattle.be_core.specs.declared.event.Phase.{Phase}
 use Rattle.be_core.specs.declared.event.Phase.TheVariants.{Idle, Looked, Announced, Pinned}
 use Rattle.be_core.specs.Machine.{InTime}
 use Rattle.be_journal.specs.declared.entries.Entry.{Entry}
-use Rattle.be_journal.specs.Journal.{by_pass, replay}
+use Rattle.be_journal.specs.Journal.{by_pass, replay_from}
 use Rattle.be_journal.proofs.LegalLemmas.{replay_push}
 use Rattle.be_table.specs.declared.pass.Commit.{Commit}
 use Rattle.be_table.specs.declared.pass.Knowledge.{Knowledge}
 use Rattle.be_table.specs.History.{AreOfPasses}
 use Rattle.be_table.specs.Rule.{announce_word, entries}
+use Rattle.be_table.specs.Setting.{Setting}
 use Rattle.be_table.specs.Seats.{pinned_number}
 use Rattle.be_table.specs.Steps.{IsPass, entry_by, lowest_found}
 use Rattle.be_table.specs.Works.{HasNoRoom}
@@ -24,7 +25,7 @@ use Rattle.be_table.proofs.Histories.{by_pass-append, below-front}
 use Rattle.be_value.specs.declared.refusals.Refusal.{Refusal}
 use Rattle.be_value.specs.declared.refusals.Refusal.TheVariants.{CommitsSpent}
 use Rattle.be_volume.specs.Ahead.{state_after, reached}
-use Rattle.be_volume.specs.Volume.{State, empty, steps}
+use Rattle.be_volume.specs.Volume.{State, steps}
 use Rattle.be_volume.specs.declared.ops.Done.{Done}
 use Rattle.be_volume.specs.declared.ops.Op.{Op}
 use Rattle.be_store.specs.History.{Accepts, Learns, IsLastReason, Pins}
@@ -33,26 +34,26 @@ use Rattle.be_store.proofs.Applied.{entries_append, nothing_more}
 use Rattle.be_script_runner.specs.Served.{known, pin_at}
 use Rattle.be_script_runner.specs.Store.{PinnedVolume, Store, Joins, Meanwhile, IsBusy, IsWant, MayWrite, pinned, entered, written, written_by}
 
--- a pass's pin, given the entries that it has seen and its phase
-abbrev pin_of : List Entry → Phase → Option PinnedVolume
-pin_of es phase = option_map {T = ℕ} {U = PinnedVolume} (λ n. record { number = n; volume = replay (take n es) }) (pinned_number phase)
+-- a pass's pin, given the first volume, the entries that it has seen, and its phase
+abbrev pin_of : State → List Entry → Phase → Option PinnedVolume
+pin_of base es phase = option_map {T = ℕ} {U = PinnedVolume} (λ n. record { number = n; volume = replay_from base (take n es) }) (pinned_number phase)
 
 abbrev some_pin : PinnedVolume → Option PinnedVolume
 some_pin p = Some p
 
 -- a pin is unchanged when the pass sees more
-pin_stays : (es more : List Entry) (phase : Phase) → InTime (length es) phase → pin_of (es ++ more) phase ≡ pin_of es phase
-pin_stays es more Idle h = refl
-pin_stays es more (Looked x) h = refl
-pin_stays es more (Announced x) h = refl
-pin_stays es more (Pinned x n) h = ap (λ (l : List Entry). some_pin (record { number = n; volume = replay l })) (take-append-le n es more h.1)
+pin_stays : (base : State) (es more : List Entry) (phase : Phase) → InTime (length es) phase → pin_of base (es ++ more) phase ≡ pin_of base es phase
+pin_stays base es more Idle h = refl
+pin_stays base es more (Looked x) h = refl
+pin_stays base es more (Announced x) h = refl
+pin_stays base es more (Pinned x n) h = ap (λ (l : List Entry). some_pin (record { number = n; volume = replay_from base l })) (take-append-le n es more h.1)
 
 seen_count : (seen : List Commit) → length (entries seen) ≡ length seen
 seen_count seen = length-map seen (λ (c : Commit). c.entry)
 
 -- what pass a shows, with its pin, once it has seen this journal
 abbrev seen_by : Knowledge → List Entry → Store
-seen_by a log = record (known a) { journal = log; volume = replay log }
+seen_by a log = record (known a) { journal = log; volume = replay_from a.limits.volume log }
 
 below_after : (passes : ℕ) (log more : List Entry) → AreOfPasses passes (log ++ more) → AreOfPasses passes more
 unfolding AreOfPasses
@@ -80,7 +81,7 @@ joins_more a more none below = record {
   theirs = all_theirs a.limits.passes a.number more (below_after a.limits.passes (entries a.seen) more below) none;
   store = λ i. record (known a) {
     journal = entries a.seen ++ more;
-    volume = fold-append (λ v (e : Entry). state_after v e.ops) empty (entries a.seen) more i;
+    volume = fold-append (λ v (e : Entry). state_after v e.ops) a.limits.volume (entries a.seen) more i;
   };
 }
 
@@ -110,18 +111,22 @@ written_with_room s ops volume dones h = let t : nat_lt (length s.journal) s.lim
 
 -- the lowest version that a pass finds is at most the version that reads see, and equals it if
 -- there is only one pass
-lowest_shown : (passes : ℕ) (seen : List Commit) (phase : Phase) (least : ℕ) → IsBetweenCalls passes phase → InTime (length seen) phase
+lowest_shown : (base : State) (passes : ℕ) (seen : List Commit) (phase : Phase) (least : ℕ) → IsBetweenCalls passes phase → InTime (length seen) phase
     → (least ≤ lowest_found (length seen) (announce_word phase)) × (passes ≡ 1 → least ≡ lowest_found (length seen) (announce_word phase))
-    → let shown = option_map_or (λ (p : PinnedVolume). p.number) (pin_of (entries seen) phase) (length (entries seen)) in (least ≤ shown) × (passes ≡ 1 → least ≡ shown)
-lowest_shown passes seen Idle least settled time own = (omega (arith, seen_count seen, own.0), λ one. own.1 one ∙ sym (seen_count seen))
-lowest_shown passes seen (Looked x) least settled time own = absurd settled
-lowest_shown passes seen (Announced x) least settled time own = absurd settled
-lowest_shown passes seen (Pinned x n) least settled time own = (omega (arith, time.0, own.0), λ one. let same = settled one in let found = own.1 one in omega (arith, time.1, same, found))
+    → let shown = option_map_or (λ (p : PinnedVolume). p.number) (pin_of base (entries seen) phase) (length (entries seen)) in (least ≤ shown) × (passes ≡ 1 → least ≡ shown)
+lowest_shown base passes seen Idle least settled time own = (omega (arith, seen_count seen, own.0), λ one. own.1 one ∙ sym (seen_count seen))
+lowest_shown base passes seen (Looked x) least settled time own = absurd settled
+lowest_shown base passes seen (Announced x) least settled time own = absurd settled
+lowest_shown base passes seen (Pinned x n) least settled time own = (omega (arith, time.0, own.0), λ one. let same = settled one in let found = own.1 one in omega (arith, time.1, same, found))
 
 -- a call of a pass
 module _ (a c : Knowledge) (before : IsPass a) (beyond : IsPass c) (limits : c.limits ≡ a.limits) where
   in_time : InTime (length (entries a.seen)) a.phase
   in_time = subst (λ m. InTime m a.phase) (sym (seen_count a.seen)) before.pin
+
+  -- the store began with the same volume
+  begun : (log : List Entry) → pin_of c.limits.volume log c.phase ≡ pin_of a.limits.volume log c.phase
+  begun log = ap (λ (l : Setting). pin_of l.volume log c.phase) limits
 
   -- none of the entries that it newly sees is its own
   none_new : (more : List Commit) → c.seen ≡ a.seen ++ more → c.mine ≡ a.mine → c.number ≡ a.number → by_pass a.number (entries more) ≡ []
@@ -141,11 +146,12 @@ module _ (a c : Knowledge) (before : IsPass a) (beyond : IsPass c) (limits : c.l
   -- what the pass shows depends only on its journal, if its phase is unchanged
   shown : (more : List Entry) → entries c.seen ≡ entries a.seen ++ more → c.number ≡ a.number → c.phase ≡ a.phase → known c ≡ seen_by a (entries c.seen)
   shown more log number phase =
-      let pin : pin_of (entries c.seen) c.phase ≡ pin_of (entries a.seen) a.phase =
-      ap (pin_of (entries c.seen)) phase ∙ (ap (λ l. pin_of l a.phase) log ∙ pin_stays (entries a.seen) more a.phase in_time) in
+      let base : State = a.limits.volume in
+      let pin : pin_of c.limits.volume (entries c.seen) c.phase ≡ pin_of base (entries a.seen) a.phase =
+      begun (entries c.seen) ∙ (ap (pin_of base (entries c.seen)) phase ∙ (ap (λ l. pin_of base l a.phase) log ∙ pin_stays base (entries a.seen) more a.phase in_time)) in
       λ i. record {
         journal = entries c.seen;
-        volume = volume_seen c;
+        volume = replay_from (limits i).volume (entries c.seen);
         limit = (limits i).commits;
         passes = (limits i).passes;
         pass = number i;
@@ -163,15 +169,15 @@ module _ (a c : Knowledge) (before : IsPass a) (beyond : IsPass c) (limits : c.l
       let number : c.number ≡ a.number = ap (λ (k : Knowledge). k.number) h.same in
       let count : n ≡ length (entries c.seen) = h.number ∙ sym (seen_count c.seen) in
       let all : take n (entries c.seen) ≡ entries c.seen = ap (λ m. take m (entries c.seen)) count ∙ take-length (entries c.seen) in
-      let pin : option_map (pin_at c) (pinned_number c.phase) ≡ some_pin (record { number = length (entries c.seen); volume = replay (entries c.seen) }) =
-      ap (option_map (pin_at c)) h.pin ∙ (λ i. some_pin (record { number = count i; volume = replay (all i) })) in
+      let pin : option_map (pin_at c) (pinned_number c.phase) ≡ some_pin (record { number = length (entries c.seen); volume = replay_from a.limits.volume (entries c.seen) }) =
+      ap (option_map (pin_at c)) h.pin ∙ (λ i. some_pin (record { number = count i; volume = replay_from (limits i).volume (all i) })) in
       record {
         now = seen_by a (entries c.seen);
         joins = joins_seen h.more.0 h.more.1 mine number;
         is = (
           (λ i. record {
             journal = entries c.seen;
-            volume = volume_seen c;
+            volume = replay_from (limits i).volume (entries c.seen);
             limit = (limits i).commits;
             passes = (limits i).passes;
             pass = number i;
@@ -194,10 +200,13 @@ module _ (a c : Knowledge) (before : IsPass a) (beyond : IsPass c) (limits : c.l
       below-front a.limits.passes (entries c.seen) log (e ∷ [], whole) (subst (λ k. AreOfPasses k (entries c.seen)) (ap (λ l. l.passes) limits) beyond.by_passes) in
       let long : length (entries c.seen) ≡ length log + 1 = ap length whole ∙ length-append log (e ∷ []) in
       let room : length log < a.limits.commits = omega (arith, long, seen_count c.seen, beyond.room, ap (λ l. l.commits) limits) in
-      let volume : h.answered.0 ≡ volume_seen c = sym (ap replay whole ∙ (replay_push log e ∙ ap (reached (replay log)) h.answered.1)) in
-      let pin : pin_of (entries c.seen) c.phase ≡ (known a).pin =
-      ap (pin_of (entries c.seen)) h.pin ∙ (ap (λ l. pin_of l a.phase) (whole ∙ (ap (λ l. l ++ e ∷ []) front ∙ append_assoc (entries a.seen) (entries h.others) (e ∷ [])))
-      ∙ pin_stays (entries a.seen) (entries h.others ++ e ∷ []) a.phase in_time) in
+      let base : State = a.limits.volume in
+      let volume : h.answered.0 ≡ volume_seen c =
+      sym (ap (λ (l : Setting). replay_from l.volume (entries c.seen)) limits ∙ (ap (replay_from base) whole ∙ (replay_push base log e ∙ ap (reached (replay_from base log)) h.answered.1))) in
+      let pin : pin_of c.limits.volume (entries c.seen) c.phase ≡ (known a).pin =
+      begun (entries c.seen) ∙ (ap (pin_of base (entries c.seen)) h.pin
+      ∙ (ap (λ l. pin_of base l a.phase) (whole ∙ (ap (λ l. l ++ e ∷ []) front ∙ append_assoc (entries a.seen) (entries h.others) (e ∷ [])))
+      ∙ pin_stays base (entries a.seen) (entries h.others ++ e ∷ []) a.phase in_time)) in
       let made : entered now ops h.answered.0 dones ≡ known c = λ i. record {
         journal = sym whole i;
         volume = volume i;
@@ -225,7 +234,7 @@ module _ (a c : Knowledge) (before : IsPass a) (beyond : IsPass c) (limits : c.l
       unroomed (inl spent) = inl (refused_at_limit (known c) ops (steps (volume_seen c) ops) h.0 (seen_count c.seen ∙ spent.1) ∙ ap Err (sym spent.0))
       unroomed (inr want) = inr (inl (inl want.0, accepted_with_room (known c) ops (steps (volume_seen c) ops) h.0 (omega (arith, seen_count c.seen, want.1))))
   refused_as tries ops e settled number (inr (inr (inr h), locks)) =
-      inr (inl (inr (h.2.0, h.2.1, lowest_shown c.limits.passes c.seen c.phase h.2.0 settled beyond.pin h.2.2.spent.2), accepted_with_room (known c) ops (steps (volume_seen c) ops) h.0 (omega (arith, seen_count c.seen, h.1))))
+      inr (inl (inr (h.2.0, h.2.1, lowest_shown c.limits.volume c.limits.passes c.seen c.phase h.2.0 settled beyond.pin h.2.2.spent.2), accepted_with_room (known c) ops (steps (volume_seen c) ops) h.0 (omega (arith, seen_count c.seen, h.1))))
 
   pub writes_meanwhile : {X : Type 0} (tries : ℕ) (outcomes_of : X → List Done) (ops : List Op) (r : Result (ℕ × X) Refusal) → IsBetweenCalls c.limits.passes c.phase → IfOk r (λ x. Accepts a c ops x.0 (outcomes_of x.1)) →
       IfErr r (λ e. Learns a c × IsLastReason tries a c ops e) → Meanwhile (known a) (λ s. MayWrite outcomes_of s ops r (known c))

@@ -14,6 +14,7 @@ use Rattle.be_journal.specs.declared.entries.Entry.{Entry}
 use Rattle.be_table.specs.History.{StartsWith}
 use Rattle.be_table.specs.Place.{Opened, SeatFacts}
 use Rattle.be_table.specs.Rule.{entries, newcomer}
+use Rattle.be_table.specs.Setting.{Setting}
 use Rattle.be_table.specs.declared.limits.Limits.{Limits}
 use Rattle.be_table.specs.declared.pass.Knowledge.{Knowledge}
 use Rattle.be_table.specs.Steps.{Has, KeepsSeen}
@@ -63,22 +64,22 @@ on_both (Err e) p q f = tt
 pub on_at_ok : {X E : Type 0} {r : Result X E} {x : X} (P : Type 0) → r ≡ Ok x → OnOk r P → P
 on_at_ok P is h = subst (λ r. OnOk r P) is h
 
--- a new pass sees an empty store
-pub from_new : {X E : Type 0} (text : X → List ℕ) (limits : Limits) (k : ℕ) (a c : Knowledge) (script : List ℕ) (r : Result X E) → a ≡ newcomer limits (k + 1) k → c.number ≡ k →
+-- a new pass sees a store with no writes yet
+pub from_new : {X E : Type 0} (text : X → List ℕ) (setting : Setting) (k : ℕ) (a c : Knowledge) (script : List ℕ) (r : Result X E) → a ≡ newcomer setting (k + 1) k → c.number ≡ k →
     OnOk r (by_pass c.number (entries c.seen) ≡ c.mine) → OnOk r (IsPartOf (operations c.mine) (write_ops script)) → IfOk r (λ x. IsServedBy a script c (text x)) →
-    IfOk r (λ x. IsOutcome limits k script c (text x))
-from_new text limits k a c script (Ok x) is number mine own replies = record {
+    IfOk r (λ x. IsOutcome setting k script c (text x))
+from_new text setting k a c script (Ok x) is number mine own replies = record {
   mine = subst (λ n. by_pass n (entries c.seen) ≡ c.mine) number mine;
   own = own;
   output = subst (λ (b : Knowledge). IsOutputTo (known b) script (known c) (text x)) is (served_output a c script (text x) replies);
   served = subst (λ (b : Knowledge). IsServedBy b script c (text x)) is replies;
 }
-from_new text limits k a c script (Err e) is number mine own replies = tt
+from_new text setting k a c script (Err e) is number mine own replies = tt
 
 -- a journal that contains what a pass has seen and written is the journal of its script's replies
-replied_by : (limits : Limits) (journal : List Entry) (k : ℕ) (script text : List ℕ) (a : Knowledge) → a.number ≡ k → IsOutcome limits k script a text → StartsWith journal (entries a.seen) →
-    by_pass a.number journal ≡ a.mine → IsReplied limits journal k script text
-replied_by limits journal k script text a number o seen own = record {
+replied_by : (setting : Setting) (journal : List Entry) (k : ℕ) (script text : List ℕ) (a : Knowledge) → a.number ≡ k → IsOutcome setting k script a text → StartsWith journal (entries a.seen) →
+    by_pass a.number journal ≡ a.mine → IsReplied setting journal k script text
+replied_by setting journal k script text a number o seen own = record {
   last = known a;
   output = o.output;
   seen = seen;

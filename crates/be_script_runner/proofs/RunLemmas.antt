@@ -18,6 +18,7 @@ use Rattle.be_script_runner.specs.Output.{Session, Replies, Serves, Answered, Ou
 use Rattle.be_script_runner.proofs.ReplyLemmas.{serves_at_once}
 use Rattle.be_table.specs.Versions.{CanEncodeEach}
 use Rattle.be_table.specs.declared.limits.Limits.{Limits as StoreLimits}
+use Rattle.be_volume.specs.Volume.{empty}
 use Rattle.be_script_runner.specs.Run.{Wrote, IsRun, IsFrontOf, IsFrontOfAnswer, AreFirstReplies, HasReplied, RunLeaves, ReadFault, ReadsAll, IsLate, IsNotLimits, is_line_end}
 
 append_nothing : {A : Type 0} (xs : List A) → xs ++ [] ≡ xs
@@ -295,7 +296,7 @@ pub whole_output : (store store' : Store) (input left old new : Option (List ℕ
 whole_output store store' input left old new bytes h w = all_read input left bytes (λ script. Wrote old new (IsOutputTo store script store')) h w
 
 -- an output that leaves a store whose volumes fit into its pages is the output of a run
-pub run_output : (limits : StoreLimits) (input old new : Option (List ℕ)) (first last : Store) → first ≡ start limits.commits → CanEncodeEach limits.pages last.journal →
+pub run_output : (limits : StoreLimits) (input old new : Option (List ℕ)) (first last : Store) → first ≡ start limits.commits → CanEncodeEach limits.pages empty last.journal →
     IfSome input (λ script. Wrote old new (IsOutputTo first script last)) → IfSome input (λ script. Wrote old new (IsRun limits script))
 run_output limits None old new first last is volumes w = tt
 run_output limits (Some script) old new first last is volumes w = record {

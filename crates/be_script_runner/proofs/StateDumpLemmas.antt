@@ -16,6 +16,7 @@ use Rattle.be_journal.specs.declared.entries.Entry.{Entry}
 use Rattle.be_journal.proofs.LegalLemmas.{legal_push, replay_push}
 use Rattle.be_journal.proofs.SoundLemmas.{replay_sound}
 use Rattle.be_volume_state.specs.Rebuilding.{IsNumbered, state_ops}
+use Rattle.be_volume.proofs.Soundness.{empty_sound}
 use Rattle.be_volume_state.proofs.Numbering.{empty_numbered, stays_numbered}
 use Rattle.be_volume_state.proofs.Rebuilt.{is_accepted, is_same}
 use Rattle.be_volume_state.proofs.Weights.{fewest}
@@ -131,7 +132,7 @@ built (suc most) front (op ∷ ops) few legal ok can =
     let two : InTwo (replay front) list rest = in_two (replay front) list rest (subst (λ (l : List Op). IsOk (steps (replay front) l)) (sym whole) ok) in
     let entry : Entry = record { by = 0; ops = list; dones = two.dones } in
     let agrees : Agrees (replay front) entry = (state_after (replay front) list, two.front) in
-    let after : replay (front ++ entry ∷ []) ≡ state_after (replay front) list = replay_push front entry in
+    let after : replay (front ++ entry ∷ []) ≡ state_after (replay front) list = replay_push empty front entry in
     let less : length (drop 64 (op ∷ ops)) ≡ length (op ∷ ops) - 64 = length-drop 64 (op ∷ ops) in
     let sizes = length-take 64 (op ∷ ops) in
     let some : 1 ≤ length (take 64 (op ∷ ops)) = omega (arith, sizes) in
@@ -139,7 +140,7 @@ built (suc most) front (op ∷ ops) few legal ok can =
     let each : length two.dones ≡ length list = answers_each (replay front) entry agrees in
     let accepted : IsOk (steps (replay (front ++ entry ∷ [])) rest) = subst (λ (u : State). IsOk (steps u rest)) (sym after) two.back in
     let r : Built (front ++ entry ∷ []) (cut_within most rest) (state_after (replay (front ++ entry ∷ [])) rest) =
-    built most (front ++ entry ∷ []) rest (omega (arith, less, few)) (legal_push front entry legal agrees) accepted (All-drop CanBeOp 64 (op ∷ ops) can) in
+    built most (front ++ entry ∷ []) rest (omega (arith, less, few)) (legal_push empty front entry legal agrees) accepted (All-drop CanBeOp 64 (op ∷ ops) can) in
     let parted : (front ++ entry ∷ []) ++ r.entries ≡ front ++ entry ∷ r.entries = append_assoc front (entry ∷ []) r.entries in
     record {
       entries = entry ∷ r.entries;
@@ -229,7 +230,7 @@ pub state_dump_made : (limit : ℕ) (entries : List Entry) → CanBeJournal entr
     MakesVolume limit (state_dump (replay entries)) (replay entries) (length entries)
 state_dump_made limit entries are can short =
     let operations : All HasOperations entries = All-weaker CanBeEntry HasOperations has_operations entries are.0 in
-    let sound : IsSound (replay entries) = replay_sound entries operations (omega (arith, are.1)) in
+    let sound : IsSound (replay entries) = replay_sound empty entries empty_sound operations (omega (arith, are.1)) in
     let begins : IsNumbered (replay entries) = numbered empty entries empty_numbered in
     list_made limit (length entries) (state_ops (replay entries)) (replay entries) (is_accepted (replay entries) sound begins)
     (is_same (replay entries) sound begins) can (few_ops entries operations) short

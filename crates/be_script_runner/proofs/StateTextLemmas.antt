@@ -2,7 +2,7 @@
 use Rattle.std.proofs.Common.{◌≡◌, ℕ, Bool, true, false, Option, Some, None, refl, sym, ap, ◌∙◌, take}
 use Rattle.std.specs.Prelude.{IsSome, if◌then◌else◌}
 use Rattle.std.specs.Option.{option_map, option_map_or}
-use Rattle.be_journal.specs.Journal.{replay}
+use Rattle.be_journal.specs.Journal.{replay_from}
 use Rattle.be_table.specs.declared.pass.Knowledge.{Knowledge}
 use Rattle.be_table.specs.Rule.{entries}
 use Rattle.be_table.specs.Seats.{pinned_number}
@@ -27,7 +27,7 @@ pub read_none : (a : Knowledge) → HasRead a a
 read_none a = refl
 
 viewed_at : (a : Knowledge) (o : Option ℕ) → IsSome (option_map (pin_at a) o) →
-    option_map_or (λ n. replay (take n (entries a.seen))) o empty ≡ option_map_or (λ (p : PinnedVolume). p.volume) (option_map (pin_at a) o) (volume_seen a)
+    option_map_or (λ n. replay_from a.limits.volume (take n (entries a.seen))) o empty ≡ option_map_or (λ (p : PinnedVolume). p.volume) (option_map (pin_at a) o) (volume_seen a)
 viewed_at a None h = absurd (never h)
   where
     never : false ≡ true → ⊥

@@ -10,6 +10,7 @@ use Rattle.be_script_language.specs.Request.{Request, silent, asked, lines_of}
 use Rattle.be_table.specs.Rule.{entries}
 use Rattle.be_table.specs.Versions.{CanEncodeEach}
 use Rattle.be_table.specs.declared.limits.Limits.{Limits as StoreLimits}
+use Rattle.be_volume.specs.Volume.{empty}
 use Rattle.be_table.specs.declared.pass.Knowledge.{Knowledge}
 use Rattle.be_script_runner.specs.Output.{Session, Serves, Answered, Outputs, IsFrontOfOutput, IsOutputTo, opening}
 use Rattle.be_script_runner.specs.Run.{Wrote, AreFirstReplies, HasReplied, IsFrontOfAnswer, ReadsAll}
@@ -209,7 +210,7 @@ strict_front store new script old held w = output_front store new script old hel
 
 -- a strict run whose store is then closed
 pub strict_run : (limits : StoreLimits) (script : List ℕ) (found : Option (ℕ × List ℕ)) (first after c : Knowledge) (log : List Entry) (old new : Option (List ℕ)) → known first ≡ start limits.commits →
-    c ≡ after → log ≡ entries c.seen → CanEncodeEach limits.pages log → Wrote old new (IsStrictOutput (known first) script found (known after)) → Wrote old new (IsStrictRun limits script found log)
+    c ≡ after → log ≡ entries c.seen → CanEncodeEach limits.pages empty log → Wrote old new (IsStrictOutput (known first) script found (known after)) → Wrote old new (IsStrictRun limits script found log)
 strict_run limits script found first after c log old new begun ended all volumes w = record {
   out = w.out;
   appended = w.appended;

@@ -5,7 +5,7 @@ pub use Rattle.std.specs.List.{list_any}
 pub use Rattle.std.specs.Option.{option_map}
 pub use Rattle.std.specs.String.{string_bytes}
 pub use Rattle.std.specs.declared.option.Option.{Option}
-pub use Rattle.be_journal.specs.Journal.{IsLegal, by_pass, replay}
+pub use Rattle.be_journal.specs.Journal.{IsLegal, IsLegalFrom, by_pass, replay}
 pub use Rattle.be_journal.specs.Text.{result_text}
 pub use Rattle.be_journal.specs.declared.entries.Entry.{Entry as AnyEntry}
 pub use Rattle.be_journal_text.specs.Dump.{cut_lines, dump, state_dump}
@@ -23,6 +23,7 @@ pub use Rattle.be_store.specs.Live.{LiveQuery}
 pub use Rattle.be_store.specs.Passes.{HasRead, IsPassOf, IsPinnedTo, volume_pinned}
 pub use Rattle.be_table.specs.Place.{Opened}
 pub use Rattle.be_table.specs.Rule.{AreBad, IsWithin, entries}
+pub use Rattle.be_table.specs.Setting.{begins_empty}
 pub use Rattle.be_table.specs.Versions.{CanEncodeEach}
 pub use Rattle.be_table.specs.Works.{AreNew}
 pub use Rattle.be_table.specs.declared.limits.Limits.{Limits}

@@ -10,7 +10,7 @@ use Rattle.be_journal.specs.declared.entries.Entry.{Entry}
 use Rattle.be_script_language.specs.Reply.{ok, queued, committed, text_of}
 use Rattle.be_table.specs.Versions.{CanEncodeEach}
 use Rattle.be_table.specs.declared.limits.Limits.{Limits as StoreLimits}
-use Rattle.be_volume.specs.Volume.{State}
+use Rattle.be_volume.specs.Volume.{State, empty}
 use Rattle.be_volume.specs.declared.ops.Op.{Op}
 use Rattle.be_script_runner.specs.Output.{IsFrontOfOutput, IsOutputTo, done_reply}
 use Rattle.be_script_runner.specs.Run.{AreFirstReplies, Wrote}
@@ -27,7 +27,7 @@ pub record IsReportedRun (limits : StoreLimits) (script out : List ℕ) : Type 0
   pub replies : List ℕ
   pub output : IsOutputTo (start limits.commits) script last replies
   pub legal : IsLegal last.journal
-  pub volumes : CanEncodeEach limits.pages last.journal
+  pub volumes : CanEncodeEach limits.pages empty last.journal
   pub is : out ≡ replies ++ result_text last.journal
 
 -- the text is a prefix of the script's replies, or all of them and a prefix of the journal after

@@ -9,8 +9,8 @@ use Rattle.be_store.specs.Passes.{volume_pinned}
 use Rattle.be_store.specs.Learned.{EndedBefore}
 use Rattle.be_table.specs.History.{StartsWith}
 use Rattle.be_table.specs.Rule.{entries, newcomer}
+use Rattle.be_table.specs.Setting.{Setting}
 use Rattle.be_table.specs.Steps.{KeepsSeen, entry_by}
-use Rattle.be_table.specs.declared.limits.Limits.{Limits as StoreLimits}
 use Rattle.be_table.specs.declared.pass.Knowledge.{Knowledge}
 use Rattle.be_volume.specs.declared.ops.Done.{Done}
 use Rattle.be_volume.specs.declared.ops.Op.{Op}
@@ -20,20 +20,20 @@ use Rattle.be_script_runner.specs.Store.{viewed}
 
 -- The scripts got these replies from the passes with numbers from k upward, and this is what each
 -- pass knows at the end. At first, each pass had seen and written nothing.
-abbrev pub AreServedBy : StoreLimits → ℕ → List (List ℕ) → List Knowledge → List (List ℕ) → Type 0
-AreServedBy limits k [] [] [] = Unit {0}
-AreServedBy limits k (script ∷ scripts) (z ∷ passes) (text ∷ texts) =
-    IsServedBy (newcomer limits (k + 1) k) script z text
-    × AreServedBy limits (k + 1) scripts passes texts
-AreServedBy limits k scripts passes texts = ⊥
+abbrev pub AreServedBy : Setting → ℕ → List (List ℕ) → List Knowledge → List (List ℕ) → Type 0
+AreServedBy setting k [] [] [] = Unit {0}
+AreServedBy setting k (script ∷ scripts) (z ∷ passes) (text ∷ texts) =
+    IsServedBy (newcomer setting (k + 1) k) script z text
+    × AreServedBy setting (k + 1) scripts passes texts
+AreServedBy setting k scripts passes texts = ⊥
 
 -- The journal contains what the passes have seen and written, with each write at the number in its
 -- reply. All the passes' moves are in one list.
-pub record AreInOneOrder (limits : StoreLimits) (journal : List Entry) (passes : List Knowledge) :
+pub record AreInOneOrder (setting : Setting) (journal : List Entry) (passes : List Knowledge) :
     Type 0 where
   pub kept : KeepsSeen journal passes
   pub writes : All (HasWrites journal) passes
-  pub moves : AreInOneTrace limits passes
+  pub moves : AreInOneTrace setting passes
 
 -- `c` is what one of these passes knew after some of its calls: further calls led from there to
 -- what it knows at the end

@@ -12,6 +12,7 @@ use Rattle.be_journal.specs.declared.entries.Entry.{Entry}
 use Rattle.be_table.specs.History.{AreOfPasses, StartsWith}
 use Rattle.be_table.specs.Place.{Opened, SeatFacts}
 use Rattle.be_table.specs.Rule.{entries, newcomer}
+use Rattle.be_table.specs.Setting.{Setting, begins_empty}
 use Rattle.be_table.specs.Steps.{KeepsSeen}
 use Rattle.be_table.specs.Versions.{CanEncodeEach}
 use Rattle.be_table.specs.Works.{knows_of}
@@ -35,13 +36,13 @@ abbrev pub IsNew : Opened → ℕ → SeatFacts → Type 0
 IsNew store k pass = (pass.blank ≡ false) × (pass.table ≡ store.id)
     × (pass.knows ≡ newcomer store.limits (k + 1) k)
 
--- an empty store, as pass k sees it
-abbrev pub start_of : StoreLimits → ℕ → Store
-start_of limits k = record {
+-- a store with no writes yet, as pass k sees it
+abbrev pub start_of : Setting → ℕ → Store
+start_of setting k = record {
   journal = [];
-  volume = empty;
-  limit = limits.commits;
-  passes = limits.passes;
+  volume = setting.volume;
+  limit = setting.commits;
+  passes = setting.passes;
   pass = k;
   pin = None;
 }
@@ -65,37 +66,37 @@ HaveServed store k (script ∷ scripts) (pass ∷ passes) = HasServed store k sc
 -- those that it has seen, and some of those that the script requests, in their order. The text is
 -- an output of the script that leaves what the pass has seen. For each line, calls of the pass led
 -- from the store that it showed before to the store that answered the line.
-pub record IsOutcome (limits : StoreLimits) (k : ℕ) (script : List ℕ) (a : Knowledge)
+pub record IsOutcome (setting : Setting) (k : ℕ) (script : List ℕ) (a : Knowledge)
     (text : List ℕ) : Type 0 where
   pub mine : by_pass k (entries a.seen) ≡ a.mine
   pub own : IsPartOf (operations a.mine) (write_ops script)
-  pub output : IsOutputTo (start_of limits k) script (known a) text
-  pub served : IsServedBy (newcomer limits (k + 1) k) script a text
+  pub output : IsOutputTo (start_of setting k) script (known a) text
+  pub served : IsServedBy (newcomer setting (k + 1) k) script a text
 
 -- Script k got this text from the store that has this journal. The text is an output of the script
--- on a store that is empty at first and in which the other passes may write. The journal begins
+-- on a store that begins like this and in which the other passes may write. The journal begins
 -- with what the script's pass saw at the end, and that beginning contains all of this pass's
 -- entries.
-pub record IsReplied (limits : StoreLimits) (journal : List Entry) (k : ℕ) (script text : List ℕ) :
+pub record IsReplied (setting : Setting) (journal : List Entry) (k : ℕ) (script text : List ℕ) :
     Type 0 where
   pub last : Store
-  pub output : IsOutputTo (start_of limits k) script last text
+  pub output : IsOutputTo (start_of setting k) script last text
   pub seen : StartsWith journal last.journal
   pub own : by_pass k journal ≡ by_pass k last.journal
 
 -- these are the replies to each script, with scripts numbered from k
-abbrev pub HaveReplied : StoreLimits → List Entry → ℕ → List (List ℕ) → List (List ℕ) → Type 0
-HaveReplied limits journal k [] [] = Unit {0}
-HaveReplied limits journal k [] (text ∷ texts) = ⊥
-HaveReplied limits journal k (script ∷ scripts) [] = ⊥
-HaveReplied limits journal k (script ∷ scripts) (text ∷ texts) = IsReplied limits journal k script
-    text × HaveReplied limits journal (k + 1) scripts texts
+abbrev pub HaveReplied : Setting → List Entry → ℕ → List (List ℕ) → List (List ℕ) → Type 0
+HaveReplied setting journal k [] [] = Unit {0}
+HaveReplied setting journal k [] (text ∷ texts) = ⊥
+HaveReplied setting journal k (script ∷ scripts) [] = ⊥
+HaveReplied setting journal k (script ∷ scripts) (text ∷ texts) = IsReplied setting journal k script
+    text × HaveReplied setting journal (k + 1) scripts texts
 
 -- The replies come from the store with these passes, for every journal that contains what they have
 -- seen and written.
-abbrev pub AreRepliesOf : StoreLimits → ℕ → List (List ℕ) → List SeatFacts → List (List ℕ) → Type 0
-AreRepliesOf limits k scripts passes texts = (journal : List Entry)
-    → KeepsSeen journal (map knows_of passes) → HaveReplied limits journal k scripts texts
+abbrev pub AreRepliesOf : Setting → ℕ → List (List ℕ) → List SeatFacts → List (List ℕ) → Type 0
+AreRepliesOf setting k scripts passes texts = (journal : List Entry)
+    → KeepsSeen journal (map knows_of passes) → HaveReplied setting journal k scripts texts
 
 -- each script was served by a pass of the store, and these are the replies
 abbrev pub AreServed : Opened → List (List ℕ) → List SeatFacts → List (List ℕ) → Type 0
@@ -134,15 +135,15 @@ pub record IsRace (limits : StoreLimits) (scripts : List (List ℕ)) (out : List
   pub replies : List (List ℕ)
   pub journal : List Entry
   pub is : out ≡ replies_text 0 replies ++ result_text journal
-  pub replied : HaveReplied limits journal 0 scripts replies
+  pub replied : HaveReplied (begins_empty limits) journal 0 scripts replies
   pub legal : IsLegal journal
   pub by : AreOfPasses (length scripts) journal
   pub own : (k : ℕ) → k < length scripts
       → IsPartOf (operations (by_pass k journal)) (write_ops (slice_index_or scripts k []))
-  pub volumes : CanEncodeEach limits.pages journal
+  pub volumes : CanEncodeEach limits.pages empty journal
   pub passes : List Knowledge
-  pub served : AreServedBy limits 0 scripts passes replies
-  pub order : AreInOneOrder limits journal passes
+  pub served : AreServedBy (begins_empty limits) 0 scripts passes replies
+  pub order : AreInOneOrder (begins_empty limits) journal passes
 
 -- the text is a prefix of what a race of these scripts writes
 abbrev pub IsRaceInPart : StoreLimits → List (List ℕ) → List ℕ → Type 0

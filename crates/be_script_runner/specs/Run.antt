@@ -7,6 +7,7 @@ use Rattle.be_script_runner.specs.Output.{IsFrontOfOutput}
 use Rattle.be_script_language.specs.Request.{lines_of}
 use Rattle.be_table.specs.Versions.{CanEncodeEach}
 use Rattle.be_table.specs.declared.limits.Limits.{Limits as StoreLimits}
+use Rattle.be_volume.specs.Volume.{empty}
 use Rattle.be_script_runner.specs.Store.{Store, start}
 use Rattle.be_script_runner.specs.declared.faults.RunFault.{RunFault}
 use Rattle.be_script_runner.specs.declared.faults.RunFault.TheVariants.{Limits, Read, TooLong}
@@ -23,7 +24,7 @@ pub record Wrote (old new : Option (List ℕ)) (P : List ℕ → Type 0) : Type 
 pub record IsRun (limits : StoreLimits) (script out : List ℕ) : Type 0 where
   pub last : Store
   pub output : IsOutputTo (start limits.commits) script last out
-  pub volumes : CanEncodeEach limits.pages last.journal
+  pub volumes : CanEncodeEach limits.pages empty last.journal
 
 -- a prefix of the bytes
 abbrev pub IsFrontOf : List ℕ → List ℕ → Type 0

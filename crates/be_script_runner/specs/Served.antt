@@ -1,7 +1,7 @@
 -- What a pass shows to a script, given what the pass knows.
 use Rattle.std.specs.Prelude.{ℕ, List, take}
 use Rattle.std.specs.Option.{option_map}
-use Rattle.be_journal.specs.Journal.{replay}
+use Rattle.be_journal.specs.Journal.{replay_from}
 use Rattle.be_table.specs.declared.pass.Knowledge.{Knowledge}
 use Rattle.be_table.specs.Place.{Opened}
 use Rattle.be_table.specs.Rule.{entries}
@@ -24,7 +24,10 @@ seat_of s = (s.store, s.knows.number, s.first)
 
 -- the version after the first n writes that the pass has seen
 abbrev pub pin_at : Knowledge → ℕ → PinnedVolume
-pin_at a n = record { number = n; volume = replay (take n (entries a.seen)) }
+pin_at a n = record {
+  number = n;
+  volume = replay_from a.limits.volume (take n (entries a.seen));
+}
 
 -- the store as the pass sees it: the writes that it has seen are the only ones
 abbrev pub known : Knowledge → Store

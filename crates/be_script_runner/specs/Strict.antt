@@ -13,6 +13,7 @@ use Rattle.be_script_language.specs.Reply.{refused, text_of}
 use Rattle.be_script_language.specs.Request.{asked, lines_of}
 use Rattle.be_table.specs.Versions.{CanEncodeEach}
 use Rattle.be_table.specs.declared.limits.Limits.{Limits as StoreLimits}
+use Rattle.be_volume.specs.Volume.{empty}
 use Rattle.be_script_runner.specs.Output.{Session, Serves, opening}
 use Rattle.be_script_runner.specs.Store.{Store, start}
 use Rattle.be_script_runner.specs.declared.strict_runs.RefusedLine.{RefusedLine}
@@ -96,7 +97,7 @@ pub record IsStrictRun (limits : StoreLimits) (script : List ℕ) (found : Optio
   pub last : Store
   pub output : IsStrictOutput (start limits.commits) script found last out
   pub journal_is : journal ≡ last.journal
-  pub volumes : CanEncodeEach limits.pages journal
+  pub volumes : CanEncodeEach limits.pages empty journal
 
 -- The text contains the replies to all of a script's lines except those that are left, and none of
 -- the answered lines was refused. `s` is the session after the answered lines, and `number` is the

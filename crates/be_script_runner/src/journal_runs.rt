@@ -2,8 +2,8 @@
 ghost use Rattle.std.specs.Prelude.{◌≡◌, ◌≤◌, ◌^◌, ◌↔◌, ◌∷◌, [], true, length, IfOk, IfErr, OnOk};
 ghost use Rattle.std.specs.Prelude.{OnErr, IfSome, Err};
 ghost use Rattle.be_script_runner.specs.Run as spec;
-ghost use Rattle.be_script_runner.specs.Imports.{entries, AreBad, CanEncodeEach, IsLegal, IsPassOf};
-ghost use Rattle.be_script_runner.specs.Imports.{IsWithin};
+ghost use Rattle.be_script_runner.specs.Imports.{entries, AreBad, CanEncodeEach, IsLegalFrom};
+ghost use Rattle.be_script_runner.specs.Imports.{IsPassOf, IsWithin};
 ghost use Rattle.be_script_runner.specs.Store.{start};
 ghost use Rattle.be_script_runner.specs.JournalRuns.{IsReportedInPart, IsReportedRun};
 ghost use Rattle.be_script_runner.specs.JournalRuns.{JournalRunLeaves};
@@ -38,8 +38,9 @@ pub fn close_alone(alloc: Global, store: be_store::Store, pass: Pass) -> Result<
     requires pass { IsPassOf store pass }
     requires one { store.limits.passes ≡ 1 }
     ensures all { IfOk result (λ journal. journal.entries ≡ entries pass.knows.seen) }
-    ensures legal { IfOk result (λ journal. IsLegal journal.entries) }
-    ensures volumes { IfOk result (λ journal. CanEncodeEach store.limits.pages journal.entries) }
+    ensures legal { IfOk result (λ journal. IsLegalFrom store.limits.volume journal.entries) }
+    ensures volumes { IfOk result (λ journal.
+        CanEncodeEach store.limits.pages store.limits.volume journal.entries) }
     ensures fault { IfErr result (λ e. e ≡ RunFault.Memory) }
 {
     alone(&store, &pass);

@@ -10,8 +10,8 @@ ghost use Rattle.std.specs.Prelude.{IfOk, IfErr, OnOk, if◌then◌else◌};
 ghost use Rattle.be_script_runner.specs.Imports.{are_places, attribute, attributes_at, chosen};
 ghost use Rattle.be_script_runner.specs.Imports.{has_index, index_kinds, page_found, scan};
 ghost use Rattle.be_script_runner.specs.Imports.{state_dump, state_ops, string_bytes, Answers};
-ghost use Rattle.be_script_runner.specs.Imports.{AnyOp, AnyRefusal, CanBeOp, IsLastReason};
-ghost use Rattle.be_script_runner.specs.Imports.{IsPassOf, IsWithin, OutOfMemory};
+ghost use Rattle.be_script_runner.specs.Imports.{begins_empty, AnyOp, AnyRefusal, CanBeOp};
+ghost use Rattle.be_script_runner.specs.Imports.{IsLastReason, IsPassOf, IsWithin, OutOfMemory};
 ghost use Rattle.be_script_runner.specs.Lines.{LeadTo};
 ghost use Rattle.be_script_runner.specs.Pages.{page_read};
 ghost use Rattle.be_script_runner.specs.Served.{known, seat_of};
@@ -138,7 +138,8 @@ pub fn open_for_one(alloc: Global, limits: Limits) -> Result<(be_store::Store, P
     requires { IsWithin limits }
     ensures opened { IfOk result (λ r. IsPassOf r.0 r.1
         × (known r.1.knows ≡ start limits.commits)) }
-    ensures pages { IfOk result (λ r. r.0.limits.pages ≡ limits.pages) }
+    ensures begins { IfOk result (λ r. r.0.limits
+        ≡ begins_empty (record limits { passes = 1 })) }
     ensures refused { IfErr result (λ e. e ≡ OutOfMemory) }
 {
     let limits = Limits {
@@ -186,9 +187,13 @@ pub struct PassServer<'a> {
 }
 
 impl<'a> Model for PassServer<'a> {
+    ghost use Rattle.std.specs.Coded.{codes};
+    ghost use Rattle.be_table.specs.Setting.{coded_setting};
     ghost use Rattle.be_script_runner.specs.Served.{Seated};
 
     ghost Value = { Seated };
+
+    ghost coded = { Prim.hlevel (codes, coded_setting) };
 
     ghost use Rattle.be_script_runner.specs.Lines.{IsLedFrom};
 

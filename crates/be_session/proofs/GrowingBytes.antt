@@ -3,8 +3,8 @@ use Rattle.std.proofs.Common.{◌≡◌, ◌<◌, ◌≤◌, ◌+◌, ℕ, List,
 use Rattle.std.proofs.Common.{get_or, length, map, length-append, length-drop, refl, sym, ap, subst, take, ◌∙◌}
 use Rattle.std.proofs.lemmas.List.{append_assoc, append-nil, drop-append-le, drop_at, map_more, take_more, take-append-le, take_all}
 use Rattle.be_volume.specs.declared.ops.Op.{Op}
-use Rattle.be_session.specs.Meaning.{IsMeant}
-use Rattle.be_session.specs.Operations.{AreMeant, AreEncoded, ArePartsWithin, IsMeantBy, all_parts, both_parts, part}
+use Rattle.be_session.specs.Meaning.{HasOnly, IsMeant}
+use Rattle.be_session.specs.Operations.{AreMeant, AreEncoded, ArePartsWithin, HasOnlyParts, HaveOnlyParts, IsMeantBy, all_parts, both_parts, part}
 use Rattle.be_session.specs.declared.lists.Operation.{Operation}
 
 pub part_kept : (bytes more : List ℕ) (at len : ℕ) → at + len ≤ length bytes → part (bytes ++ more) at len ≡ part bytes at len
@@ -47,6 +47,25 @@ are_meant_more [] o bytes (p ∷ ops) op are within is = absurd are
 are_meant_more (n ∷ os) o bytes [] op are within is = absurd are
 are_meant_more (n ∷ os) o bytes (p ∷ ops) op are within is = (are.0, are_meant_more os o bytes ops op are.1 within is)
 
+only_kept : (o : Operation) (bytes more : List ℕ) (op : Op) → ArePartsWithin o (length bytes) → HasOnlyParts o bytes op → HasOnlyParts o (bytes ++ more) op
+only_kept o bytes more op within only =
+    subst (λ name. HasOnly o.node name o.code o.number (part (bytes ++ more) o.value_at o.value_length) op)
+    (sym (part_kept bytes more o.name_at o.name_length within.0))
+    (subst (λ value. HasOnly o.node (part bytes o.name_at o.name_length) o.code o.number value op)
+    (sym (part_kept bytes more o.value_at o.value_length within.1)) only)
+
+are_only_kept : (os : List Operation) (bytes more : List ℕ) (ops : List Op) → AreMeant os bytes ops → HaveOnlyParts os bytes ops → HaveOnlyParts os (bytes ++ more) ops
+are_only_kept [] bytes more ops are only = tt
+are_only_kept (o ∷ os) bytes more [] are only = tt
+are_only_kept (o ∷ os) bytes more (op ∷ ops) are only = (only_kept o bytes more op are.0.0 only.0, are_only_kept os bytes more ops are.1 only.1)
+
+are_only_more : (os : List Operation) (o : Operation) (bytes : List ℕ) (ops : List Op) (op : Op) → AreMeant os bytes ops → HaveOnlyParts os bytes ops
+    → HasOnlyParts o bytes op → HaveOnlyParts (os ++ o ∷ []) bytes (ops ++ op ∷ [])
+are_only_more [] o bytes [] op are only is = (is, tt)
+are_only_more [] o bytes (p ∷ ops) op are only is = absurd are
+are_only_more (n ∷ os) o bytes [] op are only is = absurd are
+are_only_more (n ∷ os) o bytes (p ∷ ops) op are only is = (only.0, are_only_more os o bytes ops op are.1 only.1 is)
+
 parts_kept : (os : List Operation) (bytes more : List ℕ) (ops : List Op) → AreMeant os bytes ops → all_parts os (bytes ++ more) ≡ all_parts os bytes
 parts_kept [] bytes more [] are = refl
 parts_kept [] bytes more (op ∷ ops) are = absurd are
@@ -65,33 +84,36 @@ parts_more (n ∷ os) o bytes =
 
 -- One more operation, whose parts are the appended bytes.
 pub encoded_next : (os : List Operation) (o : Operation) (bytes all : List ℕ) (ops : List Op) (op : Op) → AreEncoded os bytes ops → all ≡ bytes ++ both_parts o all
-    → ArePartsWithin o (length all) → IsMeantBy o all op → AreEncoded (os ++ o ∷ []) all (ops ++ op ∷ [])
-encoded_next os o bytes all ops op are grown within is =
-    let more : List ℕ = both_parts o all in (
-      are_meant_more os o all ops op (subst (λ bs. AreMeant os bs ops) (sym grown) (are_meant_kept os bytes more ops are.0)) within is,
+    → ArePartsWithin o (length all) → IsMeantBy o all op → HasOnlyParts o all op → AreEncoded (os ++ o ∷ []) all (ops ++ op ∷ [])
+encoded_next os o bytes all ops op are grown within is only =
+    let more : List ℕ = both_parts o all in
+    let meant : AreMeant os all ops = subst (λ bs. AreMeant os bs ops) (sym grown) (are_meant_kept os bytes more ops are.0) in
+    let before : HaveOnlyParts os all ops = subst (λ bs. HaveOnlyParts os bs ops) (sym grown) (are_only_kept os bytes more ops are.0 are.2) in (
+      are_meant_more os o all ops op meant within is,
       parts_more os o all
           ∙ (ap (λ ps. ps ++ more) (ap (all_parts os) grown ∙ (parts_kept os bytes more ops are.0 ∙ are.1)) ∙ sym grown),
+      are_only_more os o all ops op meant before only,
     )
 
 -- One more item of a list that is encoded as operations.
 pub listed_next : {A : Type 0} (f : A → Op) (xs : List A) (i : ℕ) (d : A) (os later : List Operation) (o : Operation) (bytes all : List ℕ) → i < length xs
     → AreEncoded os bytes (map f (take i xs)) → all ≡ bytes ++ both_parts o all → ArePartsWithin o (length all) → IsMeantBy o all (f (get_or xs i d))
-    → later ≡ os ++ o ∷ []
+    → HasOnlyParts o all (f (get_or xs i d)) → later ≡ os ++ o ∷ []
     → AreEncoded later all (map f (take (i + 1) xs))
-listed_next f xs i d os later o bytes all low are grown within is pushed =
+listed_next f xs i d os later o bytes all low are grown within is only pushed =
     subst (λ ns. AreEncoded ns all (map f (take (i + 1) xs))) (sym pushed)
     (subst (λ ops. AreEncoded (os ++ o ∷ []) all ops) (sym (map_more f xs i d low))
-    (encoded_next os o bytes all (map f (take i xs)) (f (get_or xs i d)) are grown within is))
+    (encoded_next os o bytes all (map f (take i xs)) (f (get_or xs i d)) are grown within is only))
 
 -- One more operation of a list that is encoded as it is.
 pub encoded_more : (ops : List Op) (i : ℕ) (d : Op) (os later : List Operation) (o : Operation) (bytes all : List ℕ) → i < length ops
     → AreEncoded os bytes (take i ops) → all ≡ bytes ++ both_parts o all → ArePartsWithin o (length all) → IsMeantBy o all (get_or ops i d)
-    → later ≡ os ++ o ∷ []
+    → HasOnlyParts o all (get_or ops i d) → later ≡ os ++ o ∷ []
     → AreEncoded later all (take (i + 1) ops)
-encoded_more ops i d os later o bytes all low are grown within is pushed =
+encoded_more ops i d os later o bytes all low are grown within is only pushed =
     subst (λ ns. AreEncoded ns all (take (i + 1) ops)) (sym pushed)
     (subst (λ xs. AreEncoded (os ++ o ∷ []) all xs) (sym (take_more ops i d low))
-    (encoded_next os o bytes all (take i ops) (get_or ops i d) are grown within is))
+    (encoded_next os o bytes all (take i ops) (get_or ops i d) are grown within is only))
 
 -- Parts that encode an operation, at their places in the bytes.
 pub meant_by : (o : Operation) (bytes name value : List ℕ) (op : Op) → part bytes o.name_at o.name_length ≡ name → part bytes o.value_at o.value_length ≡ value

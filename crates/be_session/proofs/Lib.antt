@@ -10,3 +10,4 @@ pub mod Same
 pub mod Crosses
 pub mod Left
 pub mod Written
+pub mod Asked

@@ -68,9 +68,10 @@ SetsWrongKind c (RmIndex name) e = ⊥
 abbrev pub Collects : Changing → Changing → Op → ℕ → Type 0
 Collects was now op node = (now ≡ with_op was op) × IsGiven was now op node × SetsRightKind was op
 
--- The reason why an operation wasn't collected.
+-- The reason why an operation wasn't collected. Its kind is checked before there is found to be no
+-- room.
 abbrev pub IsUncollected : Changing → Op → CollectError → Type 0
-IsUncollected c op e = HasNoRoom c e ⊎ SetsWrongKind c op e
+IsUncollected c op e = (HasNoRoom c e × SetsRightKind c op) ⊎ SetsWrongKind c op e
 
 -- The operation that is encoded here was collected.
 abbrev pub CollectsMeant : Changing → Changing → Operation → List ℕ → ℕ → Type 0
@@ -84,14 +85,17 @@ IsNotCollected c o bytes e = IsInvalidAt o bytes e
     ⊎ ((op : Op) × IsMeantBy o bytes op
     × (why : CollectError) × (e ≡ fault_of_collecting why) × IsUncollected c op why)
 
--- What a change reads at an attribute. If the session is pinned to the change's snapshot, this is
--- what the change's operations leave of the snapshot's attribute, and otherwise the result is
--- NotPinned.
+-- The session's pass began the change, and is pinned to its snapshot.
+abbrev pub IsOwnChange : Changing → Knowledge → Type 0
+IsOwnChange change a = IsPinnedTo a change.number × (change.by ≡ a.number)
+
+-- What a change reads at an attribute. If it is the session's own change, this is what the change's
+-- operations leave of the snapshot's attribute, and otherwise the result is NotPinned.
 abbrev pub ReadsChanged : Changing → Knowledge → ℕ → List ℕ → Result (Option Value) Fault → Type 0
-ReadsChanged change a node name (Ok found) = IsPinnedTo a change.number
+ReadsChanged change a node name (Ok found) = IsOwnChange change a
     × (Reads change (volume_pinned a)
     → After change (volume_pinned a) (λ s. found ≡ attribute s node name))
-ReadsChanged change a node name (Err e) = (¬ (IsPinnedTo a change.number)) × (e ≡ NotPinned)
+ReadsChanged change a node name (Err e) = (¬ (IsOwnChange change a)) × (e ≡ NotPinned)
 
 -- What a session returns about how a change ended.
 abbrev pub as_answer : Result Ended Refusal → Result ℕ Fault
@@ -99,20 +103,19 @@ as_answer (Ok (Accepted n)) = Ok n
 as_answer (Ok (Again found)) = Err (Conflict found)
 as_answer (Err why) = Err (Refused why)
 
--- How a change ends. If the session isn't pinned to the change's snapshot, nothing happens.
--- Otherwise the change ends as be_change defines it, and the pin is then released if the change
--- made it.
+-- How a change ends. If it isn't the session's own change, nothing happens. Otherwise the change
+-- ends as be_change defines it, and the pin is then released if the change made it.
 abbrev pub EndsChange : Changing → (a d : Knowledge) → Result ℕ Fault → Type 0
 EndsChange change a d result =
-    ((¬ (IsPinnedTo a change.number)) × (d ≡ a) × (result ≡ Err NotPinned))
-    ⊎ (IsPinnedTo a change.number × (ended : Result Ended Refusal) × (result ≡ as_answer ended)
+    ((¬ (IsOwnChange change a)) × (d ≡ a) × (result ≡ Err NotPinned))
+    ⊎ (IsOwnChange change a × (ended : Result Ended Refusal) × (result ≡ as_answer ended)
     × (c : Knowledge) × EndsOnce change a c ended × Releases change.pins c d)
 
--- An abandoned change writes nothing. If the session is pinned to its snapshot and the change made
--- the pin, the pin is released.
+-- An abandoned change writes nothing. If it is the session's own change and made the pin, the pin
+-- is released.
 abbrev pub Abandons : Changing → (a d : Knowledge) → Type 0
-Abandons change a d = ((¬ (IsPinnedTo a change.number)) × (d ≡ a))
-    ⊎ (IsPinnedTo a change.number × Releases change.pins a d)
+Abandons change a d = ((¬ (IsOwnChange change a)) × (d ≡ a))
+    ⊎ (IsOwnChange change a × Releases change.pins a d)
 
 -- Operations were written in one call as a change on the pinned snapshot, with this commit number.
 -- Exactly these operations were written, on exactly what was read, as the next entry after the

@@ -1,11 +1,11 @@
 -- A store that its last session has closed.
 use Rattle.std.specs.Prelude.{◌≡◌, ◌⊎◌, ◌<◌, ◌++◌, ℕ, All, List, ◌∷◌}
-use Rattle.be_journal.specs.Journal.{IsLegal, Log}
+use Rattle.be_journal.specs.Journal.{IsLegalFrom, Log}
 use Rattle.be_store.specs.Calls.{AreInOneTrace, HasWrites, ReadsFronts}
 use Rattle.be_table.specs.History.{AreOfPasses}
+use Rattle.be_table.specs.Setting.{Setting}
 use Rattle.be_table.specs.Steps.{Has, KeepsSeen}
 use Rattle.be_table.specs.Versions.{CanEncodeEach}
-use Rattle.be_table.specs.declared.limits.Limits.{Limits}
 use Rattle.be_table.specs.declared.pass.Knowledge.{Knowledge}
 use Rattle.be_value.specs.declared.refusals.Refusal.TheVariants.{OutOfMemory}
 use Rattle.be_session.specs.Sitting.{Sitting}
@@ -14,24 +14,25 @@ use Rattle.be_session.specs.declared.faults.Fault.TheVariants.{InUse, Refused}
 use Rattle.be_session.specs.declared.finishing.Unfinished.{Unfinished}
 use Rattle.be_session.specs.declared.finishing.Unfinished.TheVariants.{Kept, PassLost}
 
--- A store with these limits was closed with this journal, and its passes know this. There is one
--- pass for each number. The journal is legal, each entry is by a pass of the store, and the volume
--- after each entry fits into the pages. The journal begins with what each pass has seen, and
--- contains exactly the writes of each pass. Every accepted write is at its commit number, and every
--- pin was to a prefix of the journal. The moves of all calls lie in one trace.
-pub record IsClosedWith (limits : Limits) (passes : List Knowledge) (log : Log) : Type 0 where
+-- A store with this setting was closed with this journal, and its passes know this. There is one
+-- pass for each number. The journal is legal from the store's first volume on, each entry is by a
+-- pass of the store, and the volume after each entry fits into the pages. The journal begins with
+-- what each pass has seen, and contains exactly the writes of each pass. Every accepted write is at
+-- its commit number, and every pin was to a prefix of the journal. The moves of all calls lie in
+-- one trace.
+pub record IsClosedWith (limits : Setting) (passes : List Knowledge) (log : Log) : Type 0 where
   pub all : (k : ℕ) → k < limits.passes → Has passes k
-  pub legal : IsLegal log.entries
+  pub legal : IsLegalFrom limits.volume log.entries
   pub by : AreOfPasses limits.passes log.entries
   pub seen : KeepsSeen log.entries passes
   pub writes : All (HasWrites log.entries) passes
   pub reads : All (ReadsFronts log.entries) passes
-  pub volumes : CanEncodeEach limits.pages log.entries
+  pub volumes : CanEncodeEach limits.pages limits.volume log.entries
   pub limit : log.limit ≡ limits.commits
   pub moves : AreInOneTrace limits passes
 
 -- The store of a pass that knew this was closed with this journal.
-abbrev pub IsFinishedBy : Limits → Knowledge → Log → Type 0
+abbrev pub IsFinishedBy : Setting → Knowledge → Log → Type 0
 IsFinishedBy limits a log = (first : List Knowledge) × (rest : List Knowledge)
     × IsClosedWith limits (first ++ a ∷ rest) log
 

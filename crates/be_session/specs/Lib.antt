@@ -11,3 +11,5 @@ pub mod Items
 pub mod Explained
 pub mod Prepared
 pub mod States
+pub mod Building
+pub mod Ways

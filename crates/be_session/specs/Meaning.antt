@@ -49,6 +49,21 @@ IsMeant number node name code value_number bytes (MkIndex called kind) = (number
     × (called ≡ name) × (code_of kind ≡ code)
 IsMeant number node name code value_number bytes (RmIndex called) = (number ≡ 5) × (called ≡ name)
 
+-- Whatever an operation doesn't use is 0 or empty. An operation that creates a node may have the
+-- node's number.
+abbrev pub HasOnly : ℕ → List ℕ → ℕ → ℕ → List ℕ → Op → Type 0
+HasOnly node name code value_number bytes New = (name ≡ []) × (code ≡ 0) × (value_number ≡ 0)
+    × (bytes ≡ [])
+HasOnly node name code value_number bytes (Drop n) = (name ≡ []) × (code ≡ 0) × (value_number ≡ 0)
+    × (bytes ≡ [])
+HasOnly node name code value_number bytes (Set n called value) = HasNoMore value_number bytes value
+HasOnly node name code value_number bytes (Unset n called) = (code ≡ 0) × (value_number ≡ 0)
+    × (bytes ≡ [])
+HasOnly node name code value_number bytes (MkIndex called kind) = (node ≡ 0) × (value_number ≡ 0)
+    × (bytes ≡ [])
+HasOnly node name code value_number bytes (RmIndex called) = (node ≡ 0) × (code ≡ 0)
+    × (value_number ≡ 0) × (bytes ≡ [])
+
 -- No kind has this type code.
 abbrev pub IsNoKind : ℕ → Type 0
 IsNoKind code = (kind : Kind) → code_of kind ≢ code

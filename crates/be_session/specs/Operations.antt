@@ -8,7 +8,7 @@ use Rattle.be_volume.specs.declared.ops.Op.{Op}
 use Rattle.be_volume.specs.declared.ops.Done.{Done}
 use Rattle.be_volume.specs.declared.ops.Done.TheVariants.{Node}
 use Rattle.be_volume.specs.declared.ops.Op.TheVariants.{New, Set, MkIndex}
-use Rattle.be_session.specs.Meaning.{IsMeant, IsNoOperation}
+use Rattle.be_session.specs.Meaning.{HasOnly, IsMeant, IsNoOperation}
 use Rattle.be_session.specs.declared.faults.Fault.{Fault}
 use Rattle.be_session.specs.declared.faults.Fault.TheVariants.{BadCount, BadPart, Refused}
 use Rattle.be_session.specs.declared.lists.Operation.{Operation}
@@ -20,6 +20,11 @@ part bytes at len = take len (drop at bytes)
 -- The operation that is encoded here, with its name and its value as parts of these bytes.
 abbrev pub IsMeantBy : Operation → List ℕ → Op → Type 0
 IsMeantBy o bytes op = IsMeant o.kind o.node (part bytes o.name_at o.name_length) o.code o.number
+    (part bytes o.value_at o.value_length) op
+
+-- The encoding has nothing that the operation doesn't use.
+abbrev pub HasOnlyParts : Operation → List ℕ → Op → Type 0
+HasOnlyParts o bytes op = HasOnly o.node (part bytes o.name_at o.name_length) o.code o.number
     (part bytes o.value_at o.value_length) op
 
 -- Both parts of this operation lie within the first n bytes.
@@ -44,9 +49,16 @@ abbrev pub all_parts : List Operation → List ℕ → List ℕ
 all_parts [] bytes = []
 all_parts (o ∷ os) bytes = both_parts o bytes ++ all_parts os bytes
 
+-- None of the encodings has anything that its operation doesn't use.
+abbrev pub HaveOnlyParts : List Operation → List ℕ → List Op → Type 0
+HaveOnlyParts (o ∷ os) bytes (op ∷ ops) = HasOnlyParts o bytes op × HaveOnlyParts os bytes ops
+HaveOnlyParts [] bytes ops = Unit {0}
+HaveOnlyParts (o ∷ os) bytes [] = Unit {0}
+
 -- These encode the operations. The bytes are their parts, concatenated, and nothing else.
 abbrev pub AreEncoded : List Operation → List ℕ → List Op → Type 0
 AreEncoded os bytes ops = AreMeant os bytes ops × (all_parts os bytes ≡ bytes)
+    × HaveOnlyParts os bytes ops
 
 -- What an operation of an entry has in addition, which for `New` is the node that it created.
 abbrev pub ReportsNode : Operation → Op → Done → Type 0

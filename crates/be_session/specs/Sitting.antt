@@ -12,6 +12,7 @@ use Rattle.be_table.specs.History.{StartsWith}
 use Rattle.be_table.specs.Place.{Opened, SeatFacts}
 use Rattle.be_table.specs.Rule.{IsPossible, newcomer}
 use Rattle.be_table.specs.Seats.{pinned_number}
+use Rattle.be_table.specs.Setting.{Setting, begins_empty, begins_with}
 use Rattle.be_table.specs.Steps.{longer, met}
 use Rattle.be_table.specs.Trace.{HasTrace}
 use Rattle.be_table.specs.Works.{AreNew}
@@ -19,6 +20,7 @@ use Rattle.be_table.specs.declared.limits.Limits.{Limits}
 use Rattle.be_table.specs.declared.pass.Commit.{Commit}
 use Rattle.be_table.specs.declared.pass.Knowledge.{Knowledge}
 use Rattle.be_value.specs.declared.refusals.Refusal.{Refusal}
+use Rattle.be_volume.specs.Volume.{State}
 use Rattle.be_volume.specs.declared.ops.Op.{Op}
 use Rattle.be_store.specs.declared.conditional.ApplyIfError.{ApplyIfError}
 use Rattle.be_session.specs.Fault.{fault_of}
@@ -32,13 +34,21 @@ pub record Sitting : Type 0 where
   pub knows : Knowledge
   pub spare : ℕ
 
--- A session that has just opened a store with these limits. Its pass is the last one and has seen
--- and written nothing, and the others wait.
+-- The first session of a store with this setting. Its pass is the last one and has seen and written
+-- nothing, and the others wait.
+pub record IsFirst (setting : Setting) (s : Sitting) : Type 0 where
+  pub setting_is : s.store.limits ≡ setting
+  pub count : s.spare + 1 ≡ setting.passes
+  pub unused : s.knows ≡ newcomer setting (s.spare + 1) s.spare
+
+-- A session that has just opened an empty store with these limits.
 pub record IsOpened (limits : Limits) (s : Sitting) : Type 0 where
   pub within : IsPossible limits
-  pub limits_are : s.store.limits ≡ limits
-  pub count : s.spare + 1 ≡ limits.passes
-  pub unused : s.knows ≡ newcomer limits (s.spare + 1) s.spare
+  pub first : IsFirst (begins_empty limits) s
+
+-- The first session of a store that begins with this volume, within these limits.
+abbrev pub BeginsWith : Limits → State → Sitting → Type 0
+BeginsWith limits volume s = (used : ℕ) × IsFirst (begins_with limits used volume) s
 
 -- The pass that knows this is pinned.
 abbrev pub IsPinned : Knowledge → Type 0

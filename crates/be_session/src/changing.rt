@@ -1,9 +1,10 @@
 //! Changes made through calls of a session, which begin, collect, read and end them without a
 //! callback.
 ghost use Rattle.std.specs.Prelude.{◌≡◌, IfErr, IfOk, false, true};
-ghost use Rattle.be_session.specs.Imports.{Begins, HasRead, IsNotBegun, IsPinnedTo, OutOfMemory};
+ghost use Rattle.be_session.specs.Imports.{Begins, HasRead, IsNotBegun, OutOfMemory};
 ghost use Rattle.be_session.specs.Changes.{Abandons, Collects, CollectsMeant, EndsChange};
-ghost use Rattle.be_session.specs.Changes.{IsNotCollected, IsUncollected, IsUnwrittenChange};
+ghost use Rattle.be_session.specs.Changes.{IsNotCollected, IsOwnChange, IsUncollected};
+ghost use Rattle.be_session.specs.Changes.{IsUnwrittenChange};
 ghost use Rattle.be_session.specs.Changes.{ReadsChanged, WritesChange};
 ghost use Rattle.be_session.specs.declared.faults.Fault.TheVariants.{Refused};
 
@@ -101,13 +102,13 @@ impl Session {
         }
     }
 
-    /// Returns whether the session is pinned to this snapshot.
-    fn is_pinned_to(&self, number: u64) -> bool
-        ensures yes { result ≡ true → IsPinnedTo self.now.knows number }
-        ensures no { result ≡ false → ¬ (IsPinnedTo self.now.knows number) }
+    /// Returns whether this session's pass began the change and is pinned to its snapshot.
+    fn owns(&self, change: &Change) -> bool
+        ensures yes { result ≡ true → IsOwnChange change.now self.now.knows }
+        ensures no { result ≡ false → ¬ (IsOwnChange change.now self.now.knows) }
     {
         match self.pass.pinned() {
-            Some(pinned) => pinned == number,
+            Some(pinned) => pinned == change.number() && self.pass.number() == change.by(),
             None => false,
         }
     }
@@ -135,7 +136,8 @@ impl Session {
     }
 
     /// Returns an attribute of a node as the change's operations leave it, or `None` if the node
-    /// doesn't have it. Returns `NotPinned` if the session isn't pinned to the change's snapshot.
+    /// doesn't have it. Returns `NotPinned` if this session's pass didn't begin the change, or
+    /// isn't pinned to its snapshot.
     pub fn changed(
         &mut self,
         change: &Change,
@@ -146,7 +148,7 @@ impl Session {
         ensures read { HasRead self.old.knows self.new.knows }
         ensures value { ReadsChanged change.now self.old.knows node name.now result }
     {
-        if !self.is_pinned_to(change.number()) {
+        if !self.owns(change) {
             return Err(Fault::NotPinned);
         }
         Ok(change.get(self.shared.store(), &mut self.pass, node, name))
@@ -156,14 +158,15 @@ impl Session {
     /// since its snapshot. Unpins the session if `begin_change` pinned it. Returns the commit
     /// number, or the snapshot's number if nothing was collected.
     ///
-    /// Returns `NotPinned` if the session isn't pinned to the change's snapshot, `Conflict` with
-    /// the journal's length if another write came first, or an error of the store. After a
-    /// `Conflict`, begin the change again. If the call fails, nothing is written.
+    /// Returns `NotPinned` if this session's pass didn't begin the change, or isn't pinned to its
+    /// snapshot; `Conflict` with the journal's length if another write came first; or an error of
+    /// the store. After a `Conflict`, begin the change again. If the call fails, nothing is
+    /// written.
     pub fn end_change(&mut self, change: Change) -> Result<u64, Fault>
         ensures store { (self.new.store ≡ self.old.store) × (self.new.spare ≡ self.old.spare) }
         ensures ends { EndsChange change self.old.knows self.new.knows result }
     {
-        if !self.is_pinned_to(change.number()) {
+        if !self.owns(&change) {
             return Err(Fault::NotPinned);
         }
         let store = self.shared.store();
@@ -174,12 +177,13 @@ impl Session {
         }
     }
 
-    /// Ends a change without writing, and unpins the session if `begin_change` pinned it.
+    /// Ends a change without writing, and unpins the session if `begin_change` pinned it. If this
+    /// session's pass didn't begin the change, the pin of the pass that did remains.
     pub fn abandon_change(&mut self, change: Change)
         ensures store { (self.new.store ≡ self.old.store) × (self.new.spare ≡ self.old.spare) }
         ensures abandons { Abandons change self.old.knows self.new.knows }
     {
-        if !self.is_pinned_to(change.number()) {
+        if !self.owns(&change) {
             return;
         }
         change.abandon(self.shared.store(), &mut self.pass);

@@ -2,7 +2,8 @@
 //! the bytes that contain their parts.
 ghost use Rattle.std.specs.Prelude.{◌≡◌, ◌++◌, IfOk, IfErr, IfSome, length, map};
 ghost use Rattle.be_session.specs.Imports.{OutOfMemory};
-ghost use Rattle.be_session.specs.Operations.{AreEncoded, IsMeantBy, ArePartsWithin, ReportNodes};
+ghost use Rattle.be_session.specs.Operations.{AreEncoded, ArePartsWithin, HasOnlyParts, IsMeantBy};
+ghost use Rattle.be_session.specs.Operations.{ReportNodes};
 ghost use Rattle.be_session.specs.Operations.{ReportsNode, both_parts, makes, part, sets};
 ghost use Rattle.be_session.specs.declared.faults.Fault.TheVariants.{Refused};
 
@@ -81,6 +82,8 @@ fn encode_attribute(
         ++ both_parts o bytes.new.items) }
     ensures meant { IfOk result (λ o. ArePartsWithin o (length bytes.new.items)
         × IsMeantBy o bytes.new.items (sets node (name.now, value.now))) }
+    ensures only { IfOk result (λ o. HasOnlyParts o bytes.new.items
+        (sets node (name.now, value.now))) }
     ensures err { IfErr result (λ e. e ≡ Refused OutOfMemory) }
 {
     let name = name.as_str().as_bytes();
@@ -94,6 +97,7 @@ fn encode_index(bytes: &mut Vec<u8>, name: &Name, kind: Kind) -> Result<Operatio
         ++ both_parts o bytes.new.items) }
     ensures meant { IfOk result (λ o. ArePartsWithin o (length bytes.new.items)
         × IsMeantBy o bytes.new.items (makes (name.now, kind))) }
+    ensures only { IfOk result (λ o. HasOnlyParts o bytes.new.items (makes (name.now, kind))) }
     ensures err { IfErr result (λ e. e ≡ Refused OutOfMemory) }
 {
     let (name_at, name_length) = append(bytes, name.as_str().as_bytes())?;
@@ -152,6 +156,7 @@ fn encode(bytes: &mut Vec<u8>, op: &Op) -> Result<Operation, Fault>
         ++ both_parts o bytes.new.items) }
     ensures meant { IfOk result (λ o. ArePartsWithin o (length bytes.new.items)
         × IsMeantBy o bytes.new.items op.now) }
+    ensures only { IfOk result (λ o. HasOnlyParts o bytes.new.items op.now) }
     ensures err { IfErr result (λ e. e ≡ Refused OutOfMemory) }
 {
     let (kind, node, name, value) = encoded_operation(op);
@@ -179,6 +184,7 @@ fn encode_done(bytes: &mut Vec<u8>, op: &Op, done: Option<&Done>) -> Result<Oper
         ++ both_parts o bytes.new.items) }
     ensures meant { IfOk result (λ o. ArePartsWithin o (length bytes.new.items)
         × IsMeantBy o bytes.new.items op.now) }
+    ensures only { IfOk result (λ o. HasOnlyParts o bytes.new.items op.now) }
     ensures made { IfOk result (λ o. IfSome done.entry (λ d. ReportsNode o op.now d.now)) }
     ensures err { IfErr result (λ e. e ≡ Refused OutOfMemory) }
 {

@@ -7,6 +7,7 @@
 //! is freed together with its last session.
 #![tactic(auto)]
 
+mod building;
 mod changing;
 mod cursors;
 mod encodings;
@@ -23,7 +24,10 @@ mod preparing;
 mod session;
 mod shared;
 mod states;
+mod ways;
 
+pub use be_store_building::StoreBuilder;
+pub use building::{give_attribute, give_index};
 pub use changing::collect_operation;
 pub use cursors::Cursor;
 pub use encodings::{

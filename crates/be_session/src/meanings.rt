@@ -2,7 +2,7 @@
 ghost use Rattle.std.specs.Prelude.{◌≡◌, ◌≢◌, ◌<◌, ◌^◌, Ok, IfOk, IfErr, IfSome, IfNone, IsUtf8};
 ghost use Rattle.be_session.specs.Imports.{cast_signed, code_of, name_from, w32, w64, AnyKind};
 ghost use Rattle.be_session.specs.Imports.{FitsSigned};
-ghost use Rattle.be_session.specs.Meaning.{HasNoMore, IsMeant, IsValueMeant, IsNoName};
+ghost use Rattle.be_session.specs.Meaning.{HasNoMore, HasOnly, IsMeant, IsValueMeant, IsNoName};
 ghost use Rattle.be_session.specs.Meaning.{IsNoOperation, IsNoValue};
 ghost use Rattle.be_session.specs.declared.faults.Fault.TheVariants.{NotUtf8, NoKind, NoValue};
 
@@ -26,7 +26,8 @@ pub(crate) fn kind_of_code(code: u32) -> Option<Kind>
     }
 }
 
-fn kind(code: u32) -> Result<Kind, Fault>
+/// Returns the kind with this type code, or `NoKind` if there is none.
+pub(crate) fn kind(code: u32) -> Result<Kind, Fault>
     ensures ok { IfOk result (λ kind. code_of kind ≡ code) }
     ensures err { IfErr result (λ e. (e ≡ NoKind) × ((kind : AnyKind) → code_of kind ≢ code)) }
 {
@@ -144,7 +145,9 @@ pub(crate) fn operation(
 /// its value. These are the parts that `operation` takes. Parts that the operation doesn't use are
 /// 0 or empty.
 pub(crate) fn encoded_operation(op: &Op) -> (u32, u64, &[u8], (u32, u64, &[u8]))
-    ensures { IsMeant result.0 result.1 result.2.now result.3.0 result.3.1 result.3.2.now op.now }
+    ensures meant { IsMeant result.0 result.1 result.2.now result.3.0 result.3.1 result.3.2.now
+        op.now }
+    ensures only { HasOnly result.1 result.2.now result.3.0 result.3.1 result.3.2.now op.now }
 {
     match op {
         Op::New => (0, 0, b"", (0, 0, b"")),

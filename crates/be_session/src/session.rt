@@ -2,20 +2,22 @@
 ghost use Rattle.std.specs.Prelude.{◌≡◌, ◌⊎◌, ◌≤◌, ◌<◌, ◌+◌, ◌*◌, ◌^◌, ℕ, [], None, Ok, IsOk, IfOk};
 ghost use Rattle.std.specs.Prelude.{IfErr, OnErr, OnOk, false, is_some, length, map as each};
 ghost use Rattle.std.specs.Prelude.{string_bytes, true, vec_len};
-ghost use Rattle.be_session.specs.Imports.{attribute, attributes_at, entries, entries_from};
-ghost use Rattle.be_session.specs.Imports.{index_kinds, name_in, newcomer, nodes_from, one_step_on};
-ghost use Rattle.be_session.specs.Imports.{pinned_number, scan, text_seen, volume_pinned, Accepts};
-ghost use Rattle.be_session.specs.Imports.{AcceptsAt, AnyRefusal, AreNew, FoundHeld, HasRead};
-ghost use Rattle.be_session.specs.Imports.{IsLargeRefused, IsLegal, IsLiveOf, IsPass, IsPassOf};
-ghost use Rattle.be_session.specs.Imports.{IsPinnedTo, IsPossible, IsReadInto, IsTextOf};
-ghost use Rattle.be_session.specs.Imports.{IsUnreported};
+ghost use Rattle.be_session.specs.Imports.{attribute, attributes_at, entries};
+ghost use Rattle.be_session.specs.Imports.{entries_from, index_kinds, is_held, name_in};
+ghost use Rattle.be_session.specs.Imports.{nodes_from, one_step_on, pinned_number, scan};
+ghost use Rattle.be_session.specs.Imports.{text_seen, volume_pinned, Accepts, AcceptsAt};
+ghost use Rattle.be_session.specs.Imports.{AnyRefusal, AreNew, FoundHeld, HasRead};
+ghost use Rattle.be_session.specs.Imports.{IsLargeRefused, IsLegalFrom, IsLiveOf, IsPass};
+ghost use Rattle.be_session.specs.Imports.{IsPassOf, IsPinnedTo, IsReadInto};
+ghost use Rattle.be_session.specs.Imports.{IsTextOf, IsUnreported};
 ghost use Rattle.be_session.specs.Imports.{IsWitnessOf, Learns, LocksAndUnlocks, OutOfMemory, Pins};
 ghost use Rattle.be_session.specs.Imports.{ReportsColumns, ReportsStatus, Unpins};
 ghost use Rattle.be_session.specs.Explained.{explanation_in};
 ghost use Rattle.be_session.specs.Finishing.{IsFinished, IsNotLast, IsUnfinished};
 ghost use Rattle.be_session.specs.Prepared.{ReturnsRefresh, StaysUnrefreshed};
 ghost use Rattle.be_session.specs.Sitting.{AtPin, HasMet, IsHandedOut, IsPinned, IsTakenFrom};
-ghost use Rattle.be_session.specs.Sitting.{IsUnwritten, IsUnwrittenIf, IsNoQuery, IsOpened};
+ghost use Rattle.be_session.specs.Sitting.{IsFirst, IsNoQuery, IsOpened, IsUnwritten};
+ghost use Rattle.be_session.specs.Sitting.{IsUnwrittenIf};
 ghost use Rattle.be_session.specs.Sitting.{IsUnpinnedAt, IsUnrefreshed, Joins, ReadAnswers};
 ghost use Rattle.be_session.specs.States.{unreported, waiting};
 ghost use Rattle.be_session.specs.declared.faults.Fault.TheVariants.{AlreadyPinned, BadCount};
@@ -52,7 +54,10 @@ impl Model for Session {
     ghost Value = { Sitting };
 
     ghost use Rattle.std.specs.Prelude.{vec_len};
-    ghost use Rattle.be_session.specs.Imports.{AreNew, IsPassOf};
+    ghost use Rattle.std.specs.Coded.{codes};
+    ghost use Rattle.be_session.specs.Imports.{coded_setting, AreNew, IsPassOf};
+
+    ghost coded = { Prim.hlevel (codes, coded_setting) };
 
     ghost view = { λ s. record {
       store = s.shared.value;
@@ -64,31 +69,29 @@ impl Model for Session {
         × AreNew s.shared.value 0 s.spare.items };
 }
 
-/// Creates the first session of a new store, which also holds the other passes of the store.
-fn seated(
+/// Creates the first session of a new store, which also holds the other passes of the store. The
+/// only error is `OutOfMemory`.
+pub(crate) fn first_session(
     alloc: Global,
-    limits: Limits,
-    shared: Shared,
-    pass: Pass,
-    spare: Vec<Pass>,
+    store: Store,
+    mut passes: Vec<Pass>,
 ) -> Result<Session, Fault>
-    requires limits { (shared.limits ≡ limits) × IsPossible limits }
-    requires pass { IsPassOf shared pass
-        × (pass.knows ≡ newcomer limits (vec_len spare + 1) (vec_len spare)) }
-    requires spare { AreNew shared 0 spare.items × (vec_len spare + 1 ≡ limits.passes) }
-    ensures ok { IfOk result (λ s. IsOpened limits s) }
-    ensures err { IfErr result (λ e. (why : AnyRefusal) × (e ≡ Refused why)
-        × IsLargeRefused limits why) }
+    requires passes { AreNew store 0 passes.items }
+    requires count { (vec_len passes ≡ store.limits.passes) × (1 ≤ vec_len passes) }
+    ensures ok { IfOk result (IsFirst store.limits) }
+    ensures err { IfErr result (λ e. e ≡ Refused OutOfMemory) }
 {
-    match Arc::new(alloc, shared) {
-        Ok(shared) => Ok(Session {
-            shared,
-            pass,
-            spare,
-            outcomes: ArrayVec::new(),
-        }),
-        Err(_) => Err(Fault::Refused(Refusal::OutOfMemory)),
-    }
+    let shared = Shared::new(alloc, store, passes.as_slice())?;
+    let Some(pass) = take_last(shared.store(), &mut passes) else {
+        unreachable!()
+    };
+    let shared = Arc::new(alloc, shared)?;
+    Ok(Session {
+        shared,
+        pass,
+        spare: passes,
+        outcomes: ArrayVec::new(),
+    })
 }
 
 /// Takes the pass out of a session. The session's share of the store and its waiting passes are
@@ -190,17 +193,10 @@ impl Session {
         ensures err { IfErr result (λ e. (why : AnyRefusal) × (e ≡ Refused why)
             × IsLargeRefused limits why) }
     {
-        let (store, mut passes) = match Store::open_large(alloc, limits) {
-            Ok(opened) => opened,
-            Err(refusal) => return Err(Fault::Refused(refusal)),
-        };
-        let Ok(shared) = Shared::new(alloc, store, passes.as_slice()) else {
-            return Err(Fault::Refused(Refusal::OutOfMemory));
-        };
-        let Some(pass) = take_last(shared.store(), &mut passes) else {
-            unreachable!()
-        };
-        seated(alloc, limits, shared, pass, passes)
+        match Store::open_large(alloc, limits) {
+            Ok((store, passes)) => first_session(alloc, store, passes),
+            Err(refusal) => Err(Fault::Refused(refusal)),
+        }
     }
 
     /// Creates another session of the same store, in a box. The new session gets the last pass that
@@ -488,19 +484,21 @@ impl Session {
         Ok(self.shared.store().next(&mut self.pass))
     }
 
-    /// Returns the journal's text so far, as the store's `journal_text` does. The journal is legal.
-    /// Needs no pin.
+    /// Returns the journal's text so far, as the store's `journal_text` does. The journal is legal
+    /// from the store's first volume on. Needs no pin.
     pub fn journal_text(&mut self) -> Result<String, Fault>
         ensures store { (self.new.store ≡ self.old.store) × (self.new.spare ≡ self.old.spare) }
         ensures learns { Learns self.old.knows self.new.knows }
-        ensures legal { IsLegal (entries self.new.knows.seen) }
+        ensures legal { IsLegalFrom self.new.store.limits.volume
+            (entries self.new.knows.seen) }
         ensures text { IfOk result (λ text. string_bytes text ≡ text_seen self.new.knows) }
         ensures err { IfErr result (λ e. (why : AnyRefusal) × (e ≡ Refused why)
             × IsUnreported self.old.knows self.new.knows why) }
         ensures moves { OnOk result (LocksAndUnlocks self.old.knows self.new.knows) }
     {
-        let answer = self.shared.store().journal_text(&mut self.pass);
-        seen_is_legal(self.shared.store(), &self.pass);
+        let store = self.shared.store();
+        let answer = store.journal_text(&mut self.pass);
+        seen_is_legal(store, &self.pass);
         Ok(answer?)
     }
 
@@ -619,6 +617,20 @@ impl Session {
             return Err(Fault::NotPinned);
         };
         Ok(self.shared.store().get(&mut self.pass, node, name))
+    }
+
+    /// Returns whether the index with this name has the node's attribute in the pinned version.
+    pub fn is_held(&mut self, alloc: Global, node: u64, name: &Name) -> Result<bool, Fault>
+        ensures store { (self.new.store ≡ self.old.store) × (self.new.spare ≡ self.old.spare) }
+        ensures read { HasRead self.old.knows self.new.knows }
+        ensures held { AtPin (pinned_number self.old.knows.phase) result
+            (result ≡ Ok (is_held (volume_pinned self.old.knows) node name.now)) }
+    {
+        let Some(_) = self.pass.pinned() else {
+            return Err(Fault::NotPinned);
+        };
+        let store = self.shared.store();
+        Ok(store.is_held(alloc, &mut self.pass, node, name))
     }
 
     /// Returns an attribute of a node in the pinned version as a cell, or `None` if the node

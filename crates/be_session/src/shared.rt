@@ -139,10 +139,12 @@ pub(crate) struct Shared {
 }
 
 impl Model for Shared {
-    ghost use Rattle.be_session.specs.Imports.{Opened};
+    ghost use Rattle.be_session.specs.Imports.{coded_opened, Opened};
     ghost use Rattle.be_session.specs.Sitting.{AreAllSeats};
 
     ghost Value = { Opened };
+
+    ghost coded = { coded_opened };
 
     ghost view = { λ s. s.store };
 

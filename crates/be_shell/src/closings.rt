@@ -8,6 +8,7 @@ ghost use Rattle.be_script_runner.specs.View.{session, queued_ops};
 ghost use Rattle.be_shell.specs.Conversation as spec;
 ghost use Rattle.be_table.specs.Rule.{AreBad};
 ghost use Rattle.be_table.specs.Versions.{CanEncodeEach};
+ghost use Rattle.be_volume.specs.Volume.{empty};
 
 use crate::conversations::converse;
 use crate::peers::Peer;
@@ -53,7 +54,8 @@ pub fn shell_and_close<F: Peer, P: Peer>(
         × spec.TalkedTo P.does mid peer.old last peer.new
         × IfSome result.1 (λ journal. journal.entries ≡ last.store.journal)) }
     ensures legal { IfSome result.1 (λ journal. IsLegal journal.entries) }
-    ensures volumes { IfSome result.1 (λ journal. CanEncodeEach limits.pages journal.entries) }
+    ensures volumes { IfSome result.1 (λ journal.
+        CanEncodeEach limits.pages empty journal.entries) }
     ensures fault { IfErr result.0 (λ e. spec.ShellLeaves F.does P.does e
         (opening (start limits.commits)) first.old first.new peer.old peer.new) }
     ensures limits { (result.0 ≡ Err RunFault.Limits) ↔ AreBad limits }

@@ -5,6 +5,7 @@ ghost use Rattle.be_script_runner.specs.Store.{start};
 ghost use Rattle.be_shell.specs.Conversation as spec;
 ghost use Rattle.be_table.specs.Rule.{AreBad};
 ghost use Rattle.be_table.specs.Versions.{CanEncodeEach};
+ghost use Rattle.be_volume.specs.Volume.{empty};
 
 use crate::conversations::converse;
 use crate::peers::Peer;
@@ -26,7 +27,7 @@ pub fn shell<F: Peer, P: Peer>(
     ensures talked { OnOk result ((mid : Session) × (last : Session)
         × spec.TalkedTo F.does (opening (start limits.commits)) first.old mid first.new
         × spec.TalkedTo P.does mid peer.old last peer.new
-        × CanEncodeEach limits.pages last.store.journal) }
+        × CanEncodeEach limits.pages empty last.store.journal) }
     ensures fault { IfErr result (λ e. spec.ShellLeaves F.does P.does e
         (opening (start limits.commits)) first.old first.new peer.old peer.new) }
     ensures limits { (result ≡ Err RunFault.Limits) ↔ AreBad limits }

@@ -4,7 +4,7 @@ use Rattle.std.proofs.lemmas.List.{append-nil, length-map}
 use Rattle.be_core.specs.declared.event.Phase.{Phase}
 use Rattle.be_core.specs.declared.event.Phase.TheVariants.{Idle, Looked, Announced, Pinned}
 use Rattle.be_journal.specs.declared.entries.Entry.{Entry}
-use Rattle.be_journal.specs.Journal.{by_pass, replay, Agrees}
+use Rattle.be_journal.specs.Journal.{by_pass, replay_from, Agrees}
 use Rattle.be_table.specs.declared.pass.Commit.{Commit}
 use Rattle.be_table.specs.declared.pass.Knowledge.{Knowledge}
 use Rattle.be_table.specs.History.{AreOfPasses, StartsWith}
@@ -17,6 +17,8 @@ use Rattle.be_table.specs.declared.pass.Move.TheVariants.{Look, Announce, LookAg
 use Rattle.be_table.specs.Seats.{pinned_number}
 use Rattle.be_table.proofs.Histories.{by_pass-append, by_pass-own}
 use Rattle.be_volume.specs.Ahead.{state_after, reached}
+use Rattle.be_volume.specs.Volume.{State}
+use Rattle.be_table.specs.Setting.{Setting as Limits}
 use Rattle.be_volume.specs.declared.ops.Done.{Done}
 use Rattle.be_volume.specs.declared.ops.Op.{Op}
 use Rattle.be_store.specs.Alone.{IsAlone, WritesNext}
@@ -108,7 +110,7 @@ none_between xs (y ∷ ys) d e same = absurd (
     let m = length-append (xs ++ y ∷ ys) (d ∷ []) in let n = length-append xs (y ∷ ys) in let o = length-append xs (e ∷ []) in omega arith)
 
 -- By be_journal's law, one more entry is one more write.
-pub writes_next : ((log : List Entry) (entry : Entry) → replay (log ++ entry ∷ []) ≡ state_after (replay log) entry.ops) → (a c : Knowledge) (ops : List Op) (n : ℕ) (dones : List Done) → IsAlone a → IsAlone c → Accepts a c ops n dones → WritesNext a c ops n dones
+pub writes_next : ((base : State) (log : List Entry) (entry : Entry) → replay_from base (log ++ entry ∷ []) ≡ state_after (replay_from base log) entry.ops) → (a c : Knowledge) (ops : List Op) (n : ℕ) (dones : List Done) → IsAlone a → IsAlone c → Accepts a c ops n dones → WritesNext a c ops n dones
 writes_next pushed a c ops n dones alone then h =
     let e = entry_by a ops dones in
     let seen : entries c.seen ≡ entries a.seen ++ e ∷ [] = written c then ∙ (h.mine ∙ ap (λ l. l ++ e ∷ []) (sym (written a alone))) in
@@ -116,8 +118,8 @@ writes_next pushed a c ops n dones alone then h =
     ap entries h.seen ∙ (entries_append (a.seen ++ h.others) (h.commit ∷ []) ∙ ap (λ l. l ++ h.commit.entry ∷ []) (entries_append a.seen h.others)) in
     let none : entries h.others ≡ [] = none_between (entries a.seen) (entries h.others) h.commit.entry e (sym shown ∙ seen) in
     let before : entries (a.seen ++ h.others) ≡ entries a.seen = entries_append a.seen h.others ∙ (ap (λ l. entries a.seen ++ l) none ∙ append-nil (entries a.seen)) in
-    let agrees : Agrees (volume_seen a) e = subst (λ l. Agrees (replay l) e) before h.answered in
-    let made : volume_seen c ≡ agrees.0 = ap replay seen ∙ (pushed (entries a.seen) e ∙ ap (reached (volume_seen a)) agrees.1) in
+    let agrees : Agrees (volume_seen a) e = subst (λ l. Agrees (replay_from a.limits.volume l) e) before h.answered in
+    let made : volume_seen c ≡ agrees.0 = ap (λ (l : Limits). replay_from l.volume (entries c.seen)) h.limits ∙ ap (replay_from a.limits.volume) seen ∙ (pushed a.limits.volume (entries a.seen) e ∙ ap (reached (volume_seen a)) agrees.1) in
     let long : length (entries c.seen) ≡ length (entries a.seen ++ e ∷ []) = ap length seen in
     let ended = length-append (entries a.seen) (e ∷ []) in
     let there = length-map c.seen (λ (x : Commit). x.entry) in

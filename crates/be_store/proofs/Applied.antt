@@ -4,8 +4,8 @@ use Rattle.std.proofs.Common.{◌≡◌, ◌<◌, false, inl, inr, ℕ, List, []
 use Rattle.std.specs.Prelude.{Result, Ok, Err, MatchResult, IfOk, IfErr, IsOk}
 use Rattle.std.proofs.lemmas.List.{map-append}
 use Rattle.be_journal.specs.declared.entries.Entry.{Entry}
-use Rattle.be_journal.specs.Journal.{by_pass, replay}
-use Rattle.be_table.specs.declared.limits.Limits.{Limits}
+use Rattle.be_journal.specs.Journal.{by_pass, replay_from}
+use Rattle.be_table.specs.Setting.{Setting as Limits}
 use Rattle.be_table.specs.declared.pass.Commit.{Commit}
 use Rattle.be_table.specs.declared.pass.Knowledge.{Knowledge}
 use Rattle.be_table.specs.declared.pass.Move.{Move}
@@ -89,7 +89,7 @@ module _ (a w : Knowledge) (t : TakesLock a w) where
         seen = seen ∙ ap (λ l. l ++ p.commit ∷ []) t.more.1;
         entry = entry;
         apart = others_apart;
-        answered = (p.answered.0, ap (λ l. steps (replay (entries l)) ops) (sym t.more.1) ∙ p.answered.1);
+        answered = (p.answered.0, ap (λ (x : Limits × List Commit). steps (replay_from x.0.volume (entries x.1)) ops) (λ i. (sym same_limits i, sym t.more.1 i)) ∙ p.answered.1);
         number = p.number ∙ ap (λ (k : Knowledge). length k.seen) (sym is);
         mine = sym pass.mine
             ∙ (ap (λ k. by_pass k (entries c.seen)) number
@@ -98,6 +98,7 @@ module _ (a w : Knowledge) (t : TakesLock a w) where
             ∙ (by_pass-own a.number (entries w.seen) p.commit.entry (ap (λ (e : Entry). e.by) entry)
             ∙ (ap (λ l. l ++ p.commit.entry ∷ []) own ∙ ap (λ e. a.mine ++ e ∷ []) entry)))));
         pass = number;
+        limits = ap (λ (k : Knowledge). k.limits) is ∙ (p.same.limits ∙ same_limits);
         pin = ap (λ (k : Knowledge). k.phase) is ∙ (p.same.pin ∙ same_phase);
         moves = record {
           locked = w.history;
@@ -120,6 +121,7 @@ module _ (a w : Knowledge) (t : TakesLock a w) where
         more = (t.more.0, seen ∙ t.more.1);
         mine = sym pass.mine ∙ (ap (λ k. by_pass k (entries c.seen)) number ∙ (ap (λ l. by_pass a.number (entries l)) seen ∙ own));
         pass = number;
+        limits = ap (λ (k : Knowledge). k.limits) is ∙ same_limits;
         pin = ap (λ (k : Knowledge). k.phase) is ∙ same_phase;
         moves = inr (locks_only w c refl (works_none w.limits w.number w.history) unlocked);
       }
@@ -133,6 +135,7 @@ module _ (a w : Knowledge) (t : TakesLock a w) where
         more = (t.more.0, seen ∙ t.more.1);
         mine = sym pass.mine ∙ (ap (λ k. by_pass k (entries c.seen)) number ∙ (ap (λ l. by_pass a.number (entries l)) seen ∙ own));
         pass = number;
+        limits = ap (λ (k : Knowledge). k.limits) is ∙ (same.limits ∙ same_limits);
         pin = ap (λ (k : Knowledge). k.phase) is ∙ (same.pin ∙ same_phase);
         moves = inr (locks_only v c same.pass work unlocked);
       }

@@ -9,14 +9,14 @@ use Rattle.std.specs.Option.{option_map_or}
 use Rattle.be_core.specs.declared.event.Phase.TheVariants.{Pinned}
 use Rattle.be_core.specs.Machine.{InTime}
 use Rattle.be_journal.specs.declared.entries.Entry.{Entry}
-use Rattle.be_journal.specs.Journal.{replay}
+use Rattle.be_journal.specs.Journal.{replay_from}
 use Rattle.be_table.specs.declared.pass.Commit.{Commit}
 use Rattle.be_table.specs.declared.pass.Knowledge.{Knowledge}
 use Rattle.be_table.specs.History.{StartsWith}
 use Rattle.be_table.specs.Rule.{entries}
 use Rattle.be_table.specs.Steps.{KeepsSeen, entry_by}
 use Rattle.be_volume.specs.Volume.{empty}
-use Rattle.be_table.specs.declared.limits.Limits.{Limits}
+use Rattle.be_table.specs.Setting.{Setting as Limits}
 use Rattle.be_table.specs.declared.pass.Move.{Move}
 use Rattle.be_table.specs.declared.pass.Move.TheVariants as move
 use Rattle.be_table.specs.declared.pass.Move.TheVariants.{Look, Announce, LookAgain, Lock, Publish, Unlock}
@@ -63,7 +63,7 @@ calls_both a (s ∷ steps) b later c (d, h, more) k = (d, h, calls_both d steps 
 -- A read can be listed as a call that learns nothing, and so can making a witness.
 pub read_learns : (a c : Knowledge) → HasRead a c → Call a (Learn (entries c.seen)) c
 read_learns a c read = (
-  subst (Learns a) (sym read) (record { more = starts_refl a.seen; mine = refl; pass = refl; pin = refl; moves = inl refl }),
+  subst (Learns a) (sym read) (record { more = starts_refl a.seen; mine = refl; pass = refl; limits = refl; pin = refl; moves = inl refl }),
   refl,
 )
 
@@ -101,8 +101,8 @@ reads_fronts log z more a cs n pass pin calls =
     let counted = length-map a.seen (λ (x : Commit). x.entry) in
     let below : n ≤ length (entries a.seen) = omega (arith, inside.1, counted) in
     let begun = reaches log a cs z more calls in
-    let read : volume_pinned a ≡ replay (take n (entries a.seen)) = ap (λ o. option_map_or (λ m. replay (take m (entries a.seen))) o empty) pin in
-    read ∙ ap replay (sym (take-append-le n (entries a.seen) begun.0 below) ∙ ap (take n) (sym begun.1))
+    let read : volume_pinned a ≡ replay_from a.limits.volume (take n (entries a.seen)) = ap (λ o. option_map_or (λ m. replay_from a.limits.volume (take m (entries a.seen))) o empty) pin in
+    read ∙ ap (replay_from a.limits.volume) (sym (take-append-le n (entries a.seen) begun.0 below) ∙ ap (take n) (sym begun.1))
 
 pub all_writes : (log : List Entry) (passes : List Knowledge) → KeepsSeen log passes → All (HasWrites log) passes
 all_writes log [] kept = All-nil (HasWrites log)

@@ -4,7 +4,7 @@ use Rattle.std.specs.Prelude.{IsOk, OnErr, Result, Err}
 use Rattle.be_core.specs.Machine.{has}
 use Rattle.be_core.specs.declared.event.Phase.{Phase}
 use Rattle.be_core.specs.declared.event.Phase.TheVariants.{Idle, Looked, Announced, Pinned}
-use Rattle.be_journal.specs.Journal.{replay}
+use Rattle.be_journal.specs.Journal.{replay_from}
 use Rattle.be_paged.specs.Changes.{IsRefusedList}
 use Rattle.be_paged.specs.Stops.{TakesFew}
 use Rattle.be_paged.proofs.Sizes.Items.{version_size}
@@ -18,7 +18,7 @@ use Rattle.be_table.specs.Rule.{largest_pool, announce_word, entries, page_at, r
 use Rattle.be_table.specs.Steps.{lowest_found, own_lowest, with_history, without_lock}
 use Rattle.be_table.specs.Versions.{at_start}
 use Rattle.be_table.specs.Works.{HasNoRoom, IsFull, IsSpent, Moves}
-use Rattle.be_table.specs.declared.limits.Limits.{Limits}
+use Rattle.be_table.specs.Setting.{Setting as Limits}
 use Rattle.be_table.specs.declared.pass.Commit.{Commit}
 use Rattle.be_table.specs.declared.pass.Knowledge.{Knowledge}
 use Rattle.be_table.specs.declared.pass.Move.TheVariants.{Unlock}
@@ -42,12 +42,12 @@ none_taken true h = cc
 none_taken false h = cc
 
 pub none_in_hand : (k : Knowledge) → Begins k → HasInHand (page_state_among k.places) []
-none_in_hand k b q h = absurd (none_taken (has (reach_at k.seen (length k.seen)) q) (ap is_taken (sym (b.begun q)) ∙ h))
+none_in_hand k b q h = absurd (none_taken (has (reach_at k.limits k.seen (length k.seen)) q) (ap is_taken (sym (b.begun q)) ∙ h))
 
 -- The number of pages of the current version is bounded.
 few_current : (k : Knowledge) → Begins k → AreFewFor (volume_seen k) (current_pages k)
 few_current k b =
-    let pages = reach_at k.seen (length k.seen) in
+    let pages = reach_at k.limits k.seen (length k.seen) in
     let words = word_of_page k.words in
     let page = page_at k.seen (length k.seen) in
     let volume = volume_seen k in
@@ -67,10 +67,10 @@ is_short w v ops least b kept full few =
     let limits : v.knows.limits ≡ w.knows.limits = ap (λ (o : StaysOpen). o.limits) kept in
     let small : v.knows.limits.pages ≤ largest_pool = subst (λ (l : Limits). l.pages ≤ largest_pool) (sym limits) b.small in record {
       spent = full.0;
-      current = subst (λ (x : List Commit × Limits). AreFewFor (replay (entries x.0)) (count_below (has (reach_at x.0 (length x.0))) x.1.pages)) (λ i. (sym seen i, sym limits i)) (few_current w.knows b);
+      current = subst (λ (x : List Commit × Limits). AreFewFor (replay_from x.1.volume (entries x.0)) (count_below (has (reach_at x.1 x.0 (length x.0))) x.1.pages)) (λ i. (sym seen i, sym limits i)) (few_current w.knows b);
       few = λ most indices high within tall.
           let held = still_counted v.knows v.knows.limits.pages full.1 small in
-          let taken = few most indices high (subst (λ (l : List Commit). StaysWithin most indices (replay (entries l)) ops) seen within) tall (none_in_hand w.knows b) v.knows.limits.pages in
+          let taken = few most indices high (subst (λ (x : List Commit × Limits). StaysWithin most indices (replay_from x.1.volume (entries x.0)) ops) (λ i. (seen i, limits i)) within) tall (none_in_hand w.knows b) v.knows.limits.pages in
           omega (arith, held, taken);
     }
 
@@ -81,7 +81,7 @@ pub full_held_back : (w v r : Work) (ops : List Op) (least : ℕ) (f : Refusal) 
 full_held_back w v r ops least f b is (inl h) few same room = absurd (let low = (steps_refuse (volume_seen w.knows) ops (Full least) (h.0 ∙ ap Err is)).1 in omega (arith, low))
 full_held_back w v r ops least f b is (inr h) few same room =
     let kept : open_of v ≡ open_of w = h.2.kept in
-    let accepted = subst (λ (o : StaysOpen). IsOk (steps (replay (entries o.seen)) ops)) (sym kept) h.1 in
+    let accepted = subst (λ (o : StaysOpen). IsOk (steps (replay_from o.limits.volume (entries o.seen)) ops)) (sym kept) h.1 in
     subst (λ (k : Knowledge). IsHeldBack w.knows k ops (Full least)) (sym same) (record {
       same = record { pass = ap (λ (o : StaysOpen). o.number) kept; limits = ap (λ (o : StaysOpen). o.limits) kept; pin = ap (λ (o : StaysOpen). o.phase) kept };
       seen = ap (λ (o : StaysOpen). o.seen) kept;

@@ -10,7 +10,7 @@ use Rattle.std.specs.List.Sorted.{IsStrictlyIncreasing}
 use Rattle.std.specs.Prelude.{◌⊎◌, IfErr, IfOk, OnOk, Result}
 use Rattle.be_core.specs.declared.event.Phase.TheVariants.{Pinned}
 use Rattle.be_core.specs.Machine.{InTime}
-use Rattle.be_journal.specs.Journal.{IsLegal, replay}
+use Rattle.be_journal.specs.Journal.{IsLegalFrom, replay_from}
 use Rattle.be_journal.specs.declared.entries.Entry.{Entry}
 use Rattle.be_plan.proofs.Answering.{found_all}
 use Rattle.be_plan.proofs.Rising.{contains_of_is_in}
@@ -35,7 +35,10 @@ use Rattle.be_volume.specs.Volume.{State}
 use Rattle.be_store.specs.History.{Learns, LocksOnly}
 use Rattle.be_store.specs.Live.{IsAnswer, IsAnswerBut, IsLiveOf, LiveQuery, Refreshes, is_among, without}
 use Rattle.be_store.specs.Marks.{IsMarkOf}
-use Rattle.be_table.specs.Place.{Opened, WitnessFacts}
+use Rattle.atomic_table.specs.Seated.{TableId}
+use Rattle.be_table.specs.Place.{Opened}
+use Rattle.be_table.specs.Setting.{Setting as Limits}
+use Rattle.be_store.specs.declared.marks.Mark.{Mark}
 use Rattle.be_store.specs.Named.{AreNamedAmong, IsNamedAmong, NamesAmong, node_named}
 use Rattle.be_volume.specs.declared.ops.Done.{Done}
 use Rattle.be_volume.specs.declared.ops.Op.{Op}
@@ -177,7 +180,7 @@ module _ (s : State) (f : Formula) (nodes last new came went : List ℕ) (sound 
 -- ## What the pass has learned in the meantime
 
 pub learns_met : (a c : Knowledge) (log : List Commit) → StartsWith log a.seen → c ≡ met a log → Learns a c
-learns_met a c log more is = subst (Learns a) (sym is) (record { more = more; mine = refl; pass = refl; pin = refl; moves = inl refl })
+learns_met a c log more is = subst (Learns a) (sym is) (record { more = more; mine = refl; pass = refl; limits = refl; pin = refl; moves = inl refl })
 
 pub learns_after_met : (a b c : Knowledge) (log : List Commit) → StartsWith log a.seen → b ≡ met a log → Learns b c → Learns a c
 learns_after_met a b c log more is learns =
@@ -185,6 +188,7 @@ learns_after_met a b c log more is learns =
       more = starts_trans a.seen log c.seen h.more more;
       mine = h.mine;
       pass = h.pass;
+      limits = h.limits;
       pin = h.pin;
       moves = elim h.moves [
         | inl still ↦ inl still
@@ -197,6 +201,7 @@ learns_read a b c h read = subst (Learns a) (sym read) (record {
   more = h.more;
   mine = h.mine;
   pass = h.pass;
+  limits = h.limits;
   pin = h.pin;
   moves = elim h.moves [
     | inl still ↦ inl still
@@ -219,28 +224,30 @@ front_same log seen n more le =
 pub same_volume : (a c : Knowledge) (n : ℕ) → IsPass a → IsPinnedTo a n → Learns a c → volume_pinned c ≡ volume_pinned a
 same_volume a c n pass pin h =
     volume_is c n (ap pinned_number h.pin ∙ pin)
-    ∙ (ap replay (front_same c.seen a.seen n h.more (pin_seen a n pass pin)) ∙ sym (volume_is a n pin))
+    ∙ (ap (λ (l : Limits). replay_from l.volume (take n (entries c.seen))) h.limits ∙ ap (replay_from a.limits.volume) (front_same c.seen a.seen n h.more (pin_seen a n pass pin)) ∙ sym (volume_is a n pin))
 
-pub is_legal : (a : Knowledge) → IsPass a → IsLegal (entries a.seen)
+pub is_legal : (a : Knowledge) → IsPass a → IsLegalFrom a.limits.volume (entries a.seen)
 unfolding IsHistory
 is_legal a pass = pass.legal.0
 
 -- A mark that was made at an earlier number, with what the entries since then name.
-pub found_changes : (a b : Knowledge) (front : List Commit) (nodes last : List ℕ) (f : Formula) (m n : ℕ) → IsPass a → IsPass b → IsPinnedTo a n → StartsWith b.seen a.seen → StartsWith b.seen front →
-    m ≤ length front → m ≤ n → IsAnswer (replay (take m (entries front))) f last → ((i : ℕ) (d : Entry) → m ≤ i → i < n → NamesAmong nodes (get_or (entries b.seen) i d)) →
+pub found_changes : (a b : Knowledge) (base : State) (front : List Commit) (nodes last : List ℕ) (f : Formula) (m n : ℕ) → IsPass a → IsPass b → base ≡ a.limits.volume → b.limits ≡ a.limits → IsPinnedTo a n → StartsWith b.seen a.seen → StartsWith b.seen front →
+    m ≤ length front → m ≤ n → IsAnswer (replay_from base (take m (entries front))) f last → ((i : ℕ) (d : Entry) → m ≤ i → i < n → NamesAmong nodes (get_or (entries b.seen) i d)) →
     IsAnswerBut nodes (volume_pinned a) f last
-found_changes a b front nodes last f m n pass_a pass_b pin more_a more_front short le answer named =
+found_changes a b base front nodes last f m n pass_a pass_b begun same_store pin more_a more_front short le answer named =
     let more : ℕ = n - m in
     let sum : m + more ≡ n = omega (arith, le) in
     let long = length-map b.seen (λ (c : Commit). c.entry) in
     let inside : n ≤ length a.seen = pin_seen a n pass_a pin in
     let reach = longer_seen b.seen a.seen more_a in
-    let same = replay_same nodes (entries b.seen) m more (is_legal b pass_b) (omega (arith, sum, long, inside, reach)) (λ i d low high. named i d low (omega (arith, high, sum))) in
-    let before : replay (take m (entries b.seen)) ≡ replay (take m (entries front)) = ap replay (front_same b.seen front m more_front short) in
-    let after : replay (take (m + more) (entries b.seen)) ≡ volume_pinned a =
-    ap (λ k. replay (take k (entries b.seen))) sum ∙ (ap replay (front_same b.seen a.seen n more_a inside) ∙ sym (volume_is a n pin)) in
+    let v : State = a.limits.volume in
+    let legal : IsLegalFrom v (entries b.seen) = subst (λ (l : Limits). IsLegalFrom l.volume (entries b.seen)) same_store (is_legal b pass_b) in
+    let same = replay_same nodes v (entries b.seen) m more legal (omega (arith, sum, long, inside, reach)) (λ i d low high. named i d low (omega (arith, high, sum))) in
+    let before : replay_from v (take m (entries b.seen)) ≡ replay_from base (take m (entries front)) = ap (λ x. replay_from x (take m (entries b.seen))) (sym begun) ∙ ap (replay_from base) (front_same b.seen front m more_front short) in
+    let after : replay_from v (take (m + more) (entries b.seen)) ≡ volume_pinned a =
+    ap (λ k. replay_from v (take k (entries b.seen))) sum ∙ (ap (replay_from v) (front_same b.seen a.seen n more_a inside) ∙ sym (volume_is a n pin)) in
     subst (λ t. IsAnswerBut nodes t f last) after
-    (same_answer nodes (replay (take m (entries b.seen))) (replay (take (m + more) (entries b.seen))) f last same
+    (same_answer nodes (replay_from v (take m (entries b.seen))) (replay_from v (take (m + more) (entries b.seen))) f last same
     (subst (λ t. IsAnswer t f last) (sym before) answer))
 
 -- The pinned volume is sound.
@@ -256,7 +263,7 @@ same_entry_at log seen i d more inside =
 
 -- A pass that is unchanged learns nothing.
 pub learns_nothing : (a : Knowledge) → Learns a a
-learns_nothing a = record { more = ([], sym (append-nil a.seen)); mine = refl; pass = refl; pin = refl; moves = inl refl }
+learns_nothing a = record { more = ([], sym (append-nil a.seen)); mine = refl; pass = refl; limits = refl; pin = refl; moves = inl refl }
 
 -- A node that is named among some nodes is also named among more nodes.
 pub named_more : (old new : List ℕ) (named : Option ℕ) → ((n : ℕ) → is_among old n ≡ true → is_among new n ≡ true) → option_map_or (is_among old) named false ≡ true → option_map_or (is_among new) named false ≡ true
@@ -286,18 +293,26 @@ named_so_far log old new from k keeps one before i d low high = elim (cases_lt i
   | inr late ↦ (let same : k ≡ i = omega (arith, high, late) in subst (λ j. NamesAmong new (get_or log j d)) same (one d))
 ]
 
+-- A store is given by its table and what it was opened with.
+pub same_opened : (store : Opened) (id : TableId) (limits : Limits) → id ≡ store.id → limits ≡ store.limits → ◌≡◌ {A = Opened} (record { id = id; limits = limits }) store
+same_opened store id limits e f = λ i. record { id = e i; limits = f i }
+
 -- A mark whose witness has seen more.
-pub mark_joined : (f : Formula) (last : List ℕ) (old new : WitnessFacts) (n : ℕ) → IsMarkOf f last (record { witness = old; number = n }) → new.blank ≡ false → StartsWith new.seen old.seen → IsMarkOf f last (record { witness = new; number = n })
-mark_joined f last old new n mark fresh more =
-    let long = longer_seen new.seen old.seen more in
-    (fresh, omega (arith, mark.1, long), subst (λ l. IsAnswer (replay l) f last) (sym (front_same new.seen old.seen n more mark.1)) mark.2)
+pub mark_joined : (f : Formula) (last : List ℕ) (old new : Mark) → IsMarkOf f last old → new.number ≡ old.number → new.setting.value ≡ old.setting.value → new.witness.blank ≡ false → StartsWith new.witness.seen old.witness.seen → IsMarkOf f last new
+mark_joined f last old new mark number begun fresh more =
+    let long = longer_seen new.witness.seen old.witness.seen more in
+    let here : old.number ≤ length new.witness.seen = omega (arith, mark.1, long) in (
+      fresh,
+      subst (λ n. n ≤ length new.witness.seen) (sym number) here,
+      subst (λ (x : Limits × List Entry). IsAnswer (replay_from x.0.volume x.1) f last) (λ i. (sym begun i, (sym (front_same new.witness.seen old.witness.seen old.number more mark.1) ∙ ap (λ n. take n (entries new.witness.seen)) (sym number)) i)) mark.2,
+    )
 
 -- A mark that is made at a pin.
-pub mark_at : (f : Formula) (last : List ℕ) (a : Knowledge) (w : WitnessFacts) (n : ℕ) → IsPass a → IsPinnedTo a n → w.blank ≡ false → w.seen ≡ a.seen → IsAnswer (volume_pinned a) f last → IsMarkOf f last (record { witness = w; number = n })
-mark_at f last a w n pass pin fresh seen answer = (
+pub mark_at : (f : Formula) (last : List ℕ) (a : Knowledge) (mark : Mark) → mark.setting.value ≡ a.limits → IsPass a → IsPinnedTo a mark.number → mark.witness.blank ≡ false → mark.witness.seen ≡ a.seen → IsAnswer (volume_pinned a) f last → IsMarkOf f last mark
+mark_at f last a mark begun pass pin fresh seen answer = (
   fresh,
-  subst (λ l. n ≤ length l) (sym seen) (pin_seen a n pass pin),
-  subst (λ s. IsAnswer s f last) (volume_is a n pin ∙ ap (λ l. replay (take n (entries l))) (sym seen)) answer,
+  subst (λ l. mark.number ≤ length l) (sym seen) (pin_seen a mark.number pass pin),
+  subst (λ s. IsAnswer s f last) (volume_is a mark.number pin ∙ ap (λ (x : Limits × List Commit). replay_from x.0.volume (take mark.number (entries x.1))) (λ i. (sym begun i, sym seen i))) answer,
 )
 
 -- A list that was updated at some nodes, whatever the values that were read are called.

@@ -6,7 +6,7 @@ use Rattle.std.proofs.lemmas.Bool.{false≢true}
 use Rattle.std.proofs.lemmas.List.{length-map, take-append-le, take_all}
 use Rattle.be_core.specs.Machine.{InTime}
 use Rattle.be_core.specs.declared.event.Phase.TheVariants.{Pinned}
-use Rattle.be_journal.specs.Journal.{replay}
+use Rattle.be_journal.specs.Journal.{replay_from}
 use Rattle.be_table.specs.declared.pass.Commit.{Commit}
 use Rattle.be_table.specs.declared.pass.Knowledge.{Knowledge}
 use Rattle.be_table.specs.declared.pass.Move.TheVariants.{Unlock}
@@ -32,7 +32,7 @@ use Rattle.be_store.proofs.Retries.{accepts_at_last, held_at_last, held_by, lear
 -- A write that has taken the lock, and whether or not the length of the journal is the number.
 module _ (a w : Knowledge) (t : TakesLock a w) (number : ℕ) where
   -- A pass that was pinned to the whole journal has read the current volume.
-  read_is_current : length w.seen ≡ number → IsPinnedTo a number → volume_pinned a ≡ replay (entries w.seen)
+  read_is_current : length w.seen ≡ number → IsPinnedTo a number → volume_pinned a ≡ replay_from w.limits.volume (entries w.seen)
   read_is_current long pin =
       let at = pinned_phase a.phase number pin in
       let inside : InTime (length a.seen) (Pinned at.0 number) = subst (InTime (length a.seen)) at.1 t.before.pin in
@@ -40,8 +40,9 @@ module _ (a w : Knowledge) (t : TakesLock a w) (number : ℕ) where
       let all = length-map w.seen (λ (x : Commit). x.entry) in
       let below : number ≤ length (entries a.seen) = omega (arith, inside.1, counted) in
       let whole : entries w.seen ≡ entries a.seen ++ entries t.more.0 = ap entries t.more.1 ∙ entries_append a.seen t.more.0 in
-      let read : volume_pinned a ≡ replay (take number (entries a.seen)) = ap (λ o. option_map_or (λ m. replay (take m (entries a.seen))) o empty) pin in
-      read ∙ ap replay (sym (take-append-le number (entries a.seen) (entries t.more.0) below) ∙ (ap (take number) (sym whole) ∙ take_all number (entries w.seen) (omega (arith, long, all))))
+      let read : volume_pinned a ≡ replay_from a.limits.volume (take number (entries a.seen)) = ap (λ o. option_map_or (λ m. replay_from a.limits.volume (take m (entries a.seen))) o empty) pin in
+      read ∙ ap (replay_from a.limits.volume) (sym (take-append-le number (entries a.seen) (entries t.more.0) below) ∙ (ap (take number) (sym whole) ∙ take_all number (entries w.seen) (omega (arith, long, all))))
+      ∙ ap (λ (k : Knowledge). replay_from k.limits.volume (entries w.seen)) (sym t.same)
 
   pub accepts_at : (v c : Knowledge) (ops : List Op) (n : ℕ) (dones : List Done) → Publishes w v ops n dones × (length w.seen ≡ number)
       → c ≡ without_lock (with_history v c.history) → IsPass c → Moves v (Unlock v.number ∷ []) c → AcceptsAt a c number ops n dones

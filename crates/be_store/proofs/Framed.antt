@@ -1,5 +1,5 @@
 -- An operation that creates or removes no index changes what a query sees at only one node.
-use Rattle.std.proofs.Common.{◌≡◌, ◌<◌, ◌≤◌, ◌+◌, ◌-◌, ◌&&◌, ◌||◌, ℕ, zero, suc, Bool, true, false, if◌then◌else◌, List, [], ◌∷◌, ◌++◌, fold, get_or, length, map, refl, sym, ap, subst, take, ◌∙◌, inl, inr, arith, Some, None, Ok, Err, is_some, is_ok, option_map, append_assoc}
+use Rattle.std.proofs.Common.{◌≡◌, ◌<◌, ◌≤◌, ◌+◌, ◌&&◌, ◌||◌, ℕ, zero, suc, Bool, true, false, if◌then◌else◌, List, [], ◌∷◌, ◌++◌, fold, get_or, length, map, refl, sym, ap, subst, take, ◌∙◌, inl, inr, arith, Some, None, Ok, Err, is_some, is_ok, option_map, append_assoc}
 use Rattle.std.proofs.lemmas.Grind.{fold-append}
 use Rattle.std.proofs.lemmas.List.{append-nil, append_cancel_left, get_or_default, take_more}
 use Rattle.std.specs.Cmp.{nat_cmp_total}
@@ -11,7 +11,7 @@ use Rattle.std.specs.Ordering.{eq_by_cmp}
 use Rattle.std.specs.Prelude.{Result, cond}
 use Rattle.std.specs.Result.{result_map_both}
 use Rattle.std.specs.declared.option.Option.{Option}
-use Rattle.be_journal.specs.Journal.{Agrees, IsLegal, replay}
+use Rattle.be_journal.specs.Journal.{Agrees, IsLegalFrom, replay_from}
 use Rattle.be_journal.specs.declared.entries.Entry.{Entry}
 use Rattle.be_paged_reading.proofs.CatalogPairs.Items.{get_other, get_here, gone_other, keys_decided}
 use Rattle.be_query.specs.Grammar.{Formula, Leaf, And, Or}
@@ -24,7 +24,6 @@ use Rattle.be_volume.specs.Ahead.{reached, state_after}
 use Rattle.be_volume.specs.Indices.{Indices, paired, paired_at, same_kind, unpaired, unpaired_at, with_pair, without_node, without_pair}
 use Rattle.be_volume.specs.Maps.{Attributes, attributes_of, name_cmp}
 use Rattle.be_volume.specs.Query.{covered, has_index, holds, sat, seen_in, sees}
-use Rattle.be_volume.specs.Reading.{attribute}
 use Rattle.be_volume.specs.Volume.{State, advance, step}
 use Rattle.be_volume.specs.declared.maps.Index.{Index}
 use Rattle.be_volume.specs.declared.ops.Done.{Done}
@@ -249,24 +248,24 @@ entry_same nodes s entry agrees named =
     let is : state_after s entry.ops ≡ agrees.0 = ap (reached s) agrees.1 in
     subst (AreSame nodes s) (sym is) (fold_same nodes entry.ops s agrees.0 [] entry.dones agrees.1 named)
 
-replay_more : (log : List Entry) (i : ℕ) (d : Entry) → i < length log → replay (take (i + 1) log) ≡ state_after (replay (take i log)) (get_or log i d).ops
-replay_more log i d lt = ap replay (take_more log i d lt) ∙ fold-append (λ s (entry : Entry). state_after s entry.ops) (replay []) (take i log) (get_or log i d ∷ [])
+replay_more : (base : State) (log : List Entry) (i : ℕ) (d : Entry) → i < length log → replay_from base (take (i + 1) log) ≡ state_after (replay_from base (take i log)) (get_or log i d).ops
+replay_more base log i d lt = ap (replay_from base) (take_more log i d lt) ∙ fold-append (λ s (entry : Entry). state_after s entry.ops) base (take i log) (get_or log i d ∷ [])
 
 -- The volumes after two prefixes of a legal journal, if the entries between them name no other nodes.
-pub replay_same : (nodes : List ℕ) (log : List Entry) (from more : ℕ) → IsLegal log → from + more ≤ length log →
-    ((i : ℕ) (d : Entry) → from ≤ i → i < from + more → NamesAmong nodes (get_or log i d)) → AreSame nodes (replay (take from log)) (replay (take (from + more) log))
-replay_same nodes log from zero legal short named =
+pub replay_same : (nodes : List ℕ) (base : State) (log : List Entry) (from more : ℕ) → IsLegalFrom base log → from + more ≤ length log →
+    ((i : ℕ) (d : Entry) → from ≤ i → i < from + more → NamesAmong nodes (get_or log i d)) → AreSame nodes (replay_from base (take from log)) (replay_from base (take (from + more) log))
+replay_same nodes base log from zero legal short named =
     let e : from ≡ from + 0 = omega arith in
-    subst (λ k. AreSame nodes (replay (take from log)) (replay (take k log))) e (are_same nodes (replay (take from log)))
-replay_same nodes log from (suc more) legal short named =
+    subst (λ k. AreSame nodes (replay_from base (take from log)) (replay_from base (take k log))) e (are_same nodes (replay_from base (take from log)))
+replay_same nodes base log from (suc more) legal short named =
     let i : ℕ = from + more in
-    let before : AreSame nodes (replay (take from log)) (replay (take i log)) =
-    replay_same nodes log from more legal (omega arith) (λ j d low high. named j d low (omega (arith, high))) in
+    let before : AreSame nodes (replay_from base (take from log)) (replay_from base (take i log)) =
+    replay_same nodes base log from more legal (omega arith) (λ j d low high. named j d low (omega (arith, high))) in
     let inside : i < length log = omega arith in
     let d : Entry = record { by = 0; ops = []; dones = [] } in
     let entry : Entry = get_or log i d in
     let is : entry ≡ get_or log i entry = get_or_default log i d entry inside in
-    let one = entry_same nodes (replay (take i log)) entry (legal i entry inside is) (named i d (omega arith) (omega arith)) in
+    let one = entry_same nodes (replay_from base (take i log)) entry (legal i entry inside is) (named i d (omega arith) (omega arith)) in
     let next : i + 1 ≡ from + suc more = omega arith in
-    and_then_same nodes (replay (take from log)) (replay (take i log)) (replay (take (from + suc more) log)) before
-    (subst (AreSame nodes (replay (take i log))) (sym (replay_more log i d inside) ∙ ap (λ k. replay (take k log)) next) one)
+    and_then_same nodes (replay_from base (take from log)) (replay_from base (take i log)) (replay_from base (take (from + suc more) log)) before
+    (subst (AreSame nodes (replay_from base (take i log))) (sym (replay_more base log i d inside) ∙ ap (λ k. replay_from base (take k log)) next) one)

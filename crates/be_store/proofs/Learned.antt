@@ -91,6 +91,6 @@ no_later seen first last early all more le f l e = omega (arith, le, f, l, e)
 pub current_later : (c d : Knowledge) (P Q : World → Type 0) (r : Reaches c P) (s : Reaches d Q) → StartsWith d.history c.history → length c.seen ≤ s.world.current
 current_later c d P Q r s front =
     no_later (length c.seen) r.world.current s.world.current (published c.history) (published d.history) (published front.0) r.known.seen
-    (run_current (first_state c.limits.pages c.limits.passes c.limits.commits r.words) r.world c.history r.runs)
-    (run_current (first_state d.limits.pages d.limits.passes d.limits.commits s.words) s.world d.history s.runs)
+    (run_current (first_state c.limits.pages c.limits.used c.limits.passes c.limits.commits r.words) r.world c.history r.runs)
+    (run_current (first_state d.limits.pages d.limits.used d.limits.passes d.limits.commits s.words) s.world d.history s.runs)
     (ap published front.1 ∙ published_append c.history front.0)

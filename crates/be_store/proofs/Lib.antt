@@ -20,3 +20,4 @@ pub mod Framed
 pub mod Caught
 pub mod Rests
 pub mod Shown
+pub mod Crosses

@@ -6,7 +6,7 @@ use Rattle.std.proofs.lemmas.List.Elements.{All-cons, All-nil, All-head, All-tai
 use Rattle.be_table.specs.History.{StartsWith}
 use Rattle.be_store.specs.SmallMachine.{Object, PassView, Step, Apply, Learn, Pin, Unpin, Read, Leads, AreSteps, Closes, HasNumber, first_view, state_of, entries_by}
 use Rattle.be_store.specs.OneHistory.{PassRun, IsKept, AreKept, ReadsPrefix, HasRun, IsOneHistory, written, written_by}
-use Rattle.be_store.proofs.Legality.{journal_legal, run_number}
+use Rattle.be_store.proofs.Legality.{journal_legal, run_first, run_number}
 use Rattle.be_store.proofs.Calls.{starts_refl, starts_trans, lies_at_seam}
 
 abbrev number_or : ℕ → Option ℕ → ℕ
@@ -18,8 +18,8 @@ module _ (o : Object) where
   abbrev IsInTime : PassView o → Type 0
   IsInTime a = (n : ℕ) → a.pin ≡ Some n → n ≤ length a.seen
 
-  first_in_time : (k : ℕ) → IsInTime (first_view o k)
-  first_in_time k n e = absurd cc
+  first_in_time : (first : o.State) (k : ℕ) → IsInTime (first_view o first k)
+  first_in_time first k n e = absurd cc
 
   step_seen : (a : PassView o) (s : Step o) (c : PassView o) → Leads o a s c → StartsWith c.seen a.seen
   step_seen a (Apply e n) c l = (l.0 ++ e ∷ [], ap (λ (v : PassView o). v.seen) l.3 ∙ append_assoc a.seen l.0 (e ∷ []))
@@ -71,7 +71,7 @@ module _ (o : Object) where
   step_kept journal a Unpin c l more h = tt
   step_kept journal a (Read q r) c l more h =
       let here : StartsWith journal a.seen = subst (λ (v : PassView o). StartsWith journal v.seen) l.3 more in
-      (l.0, l.1, subst (λ k. IfSome r (λ x. x ≡ o.answer q (state_of o k))) (reads_prefix journal a here h l.0 l.1) l.2)
+      (l.0, l.1, subst (λ k. IfSome r (λ x. x ≡ o.answer q (state_of o a.first k))) (reads_prefix journal a here h l.0 l.1) l.2)
 
   run_kept : (journal : List o.Entry) (a : PassView o) (steps : List (Step o × PassView o)) (z : PassView o) → AreSteps o a steps z → StartsWith journal z.seen → IsInTime a → AreKept o journal a steps
   run_kept journal a [] z h more t = tt
@@ -96,13 +96,21 @@ module _ (o : Object) where
   -- The runs belong to different passes, because their last views do.
   run_numbers : (runs : List (PassRun o)) → map (λ (z : PassView o). z.number) (map (λ (r : PassRun o). r.last) runs) ≡ map (λ (r : PassRun o). r.number) runs
   run_numbers [] = refl
-  run_numbers (r ∷ runs) = λ j. run_number o (first_view o r.number) r.steps r.last r.run j ∷ run_numbers runs j
+  run_numbers (r ∷ runs) = λ j. run_number o (first_view o r.first r.number) r.steps r.last r.run j ∷ run_numbers runs j
+
+  -- Each run begins with the state that its last view has.
+  all_begin : (first : o.State) (runs : List (PassRun o)) → All (λ (z : PassView o). z.first ≡ first) (map (λ (r : PassRun o). r.last) runs) → All (λ (r : PassRun o). r.first ≡ first) runs
+  all_begin first [] begins = All-nil (λ (r : PassRun o). r.first ≡ first)
+  all_begin first (r ∷ runs) begins =
+      let later = map (λ (s : PassRun o). s.last) runs in
+      let one : r.first ≡ first = sym (run_first o (first_view o r.first r.number) r.steps r.last r.run) ∙ All-head (λ (z : PassView o). z.first ≡ first) r.last later begins in
+      All-cons (λ (s : PassRun o). s.first ≡ first) r runs one (all_begin first runs (All-tail (λ (z : PassView o). z.first ≡ first) r.last later begins))
 
   abbrev HasWritten : List o.Entry → PassRun o → Type 0
   HasWritten journal r = entries_by o r.number journal ≡ written o r.steps
 
   abbrev KeepsSteps : List o.Entry → PassRun o → Type 0
-  KeepsSteps journal r = AreKept o journal (first_view o r.number) r.steps
+  KeepsSteps journal r = AreKept o journal (first_view o r.first r.number) r.steps
 
   abbrev OwnOf : List o.Entry → PassView o → Type 0
   OwnOf journal z = entries_by o z.number journal ≡ z.mine
@@ -115,15 +123,15 @@ module _ (o : Object) where
   all_written journal (r ∷ runs) own =
       let later = map (λ (s : PassRun o). s.last) runs in
       let one : HasWritten journal r =
-      ap (λ k. entries_by o k journal) (sym (run_number o (first_view o r.number) r.steps r.last r.run))
-      ∙ (All-head (OwnOf journal) r.last later own ∙ run_mine (first_view o r.number) r.steps r.last r.run) in
+      ap (λ k. entries_by o k journal) (sym (run_number o (first_view o r.first r.number) r.steps r.last r.run))
+      ∙ (All-head (OwnOf journal) r.last later own ∙ run_mine (first_view o r.first r.number) r.steps r.last r.run) in
       All-cons (HasWritten journal) r runs one (all_written journal runs (All-tail (OwnOf journal) r.last later own))
 
   all_kept : (journal : List o.Entry) (runs : List (PassRun o)) → All (SeenOf journal) (map (λ (r : PassRun o). r.last) runs) → All (KeepsSteps journal) runs
   all_kept journal [] seen = All-nil (KeepsSteps journal)
   all_kept journal (r ∷ runs) seen =
       let later = map (λ (s : PassRun o). s.last) runs in
-      let one = run_kept journal (first_view o r.number) r.steps r.last r.run (All-head (SeenOf journal) r.last later seen) (first_in_time r.number) in
+      let one = run_kept journal (first_view o r.first r.number) r.steps r.last r.run (All-head (SeenOf journal) r.last later seen) (first_in_time r.first r.number) in
       All-cons (KeepsSteps journal) r runs one (all_kept journal runs (All-tail (SeenOf journal) r.last later seen))
 
   all_seen : (journal : List o.Entry) (runs : List (PassRun o)) → All (SeenOf journal) (map (λ (r : PassRun o). r.last) runs) → All (λ (r : PassRun o). SeenOf journal r.last) runs
@@ -134,17 +142,19 @@ module _ (o : Object) where
 
   all_passes : (runs : List (PassRun o)) (k : ℕ) → HasNumber o (map (λ (r : PassRun o). r.last) runs) k → HasRun o runs k
   all_passes [] k has = has
-  all_passes (r ∷ runs) k (inl is) = inl (sym (run_number o (first_view o r.number) r.steps r.last r.run) ∙ is)
+  all_passes (r ∷ runs) k (inl is) = inl (sym (run_number o (first_view o r.first r.number) r.steps r.last r.run) ∙ is)
   all_passes (r ∷ runs) k (inr has) = inr (all_passes runs k has)
 
   all_authors : (runs : List (PassRun o)) (journal : List o.Entry) → All (λ (e : o.Entry). HasNumber o (map (λ (r : PassRun o). r.last) runs) (o.by e)) journal → All (λ (e : o.Entry). HasRun o runs (o.by e)) journal
   all_authors runs journal authors =
       All-weaker (λ (e : o.Entry). HasNumber o (map (λ (r : PassRun o). r.last) runs) (o.by e)) (λ (e : o.Entry). HasRun o runs (o.by e)) (λ e. all_passes runs (o.by e)) journal authors
 
-  pub one_history : (journal : List o.Entry) (runs : List (PassRun o)) → Closes o journal (map (λ (r : PassRun o). r.last) runs) → IsOneHistory o journal runs
-  one_history journal runs h =
-      let authors = all_authors runs journal h.authors in record {
-        legal = journal_legal o journal runs h.seen h.mine authors;
+  pub one_history : (first : o.State) (journal : List o.Entry) (runs : List (PassRun o)) → Closes o first journal (map (λ (r : PassRun o). r.last) runs) → IsOneHistory o first journal runs
+  one_history first journal runs h =
+      let authors = all_authors runs journal h.authors in
+      let begins = all_begin first runs h.first in record {
+        legal = journal_legal o first journal runs begins h.seen h.mine authors;
+        begins = begins;
         apart = subst (AllPairs ◌≢◌) (run_numbers runs) h.apart;
         authors = authors;
         writes = all_written journal runs h.mine;

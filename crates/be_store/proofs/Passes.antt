@@ -3,7 +3,7 @@ use Rattle.std.proofs.Common.{◌≡◌, ℕ, take, Option, Some, None, sym, ap,
 use Rattle.std.specs.Option.{option_map_or}
 use Rattle.be_core.specs.declared.event.Phase.{Phase}
 use Rattle.be_core.specs.declared.event.Phase.TheVariants.{Idle, Looked, Announced, Pinned}
-use Rattle.be_journal.specs.Journal.{replay}
+use Rattle.be_journal.specs.Journal.{replay_from}
 use Rattle.be_paged_reading.specs.Version.{IsVersion}
 use Rattle.be_table.specs.declared.pass.Knowledge.{Knowledge}
 use Rattle.be_table.specs.Reading.{pinned_page_state, word_of_page}
@@ -25,9 +25,14 @@ pinned_phase (Announced a) n e = absurd cc
 pinned_phase (Pinned a m) n e = (a, ap (λ k. Pinned a k) (ap (number_in m) e))
 
 -- What a look at the pinned version reads, starting from the page that the pass reported before.
-pub looked_volume : (a c : Knowledge) (n page : ℕ) → IsPinnedTo a n → c ≡ a → page ≡ page_at a.seen n → IsVersion (pinned_page_state c) (word_of_page c.image) (page_at c.seen n) (replay (take n (entries c.seen)))
+pub looked_volume : (a c : Knowledge) (n page : ℕ) → IsPinnedTo a n → c ≡ a → page ≡ page_at a.seen n → IsVersion (pinned_page_state c) (word_of_page c.image) (page_at c.seen n) (replay_from c.limits.volume (take n (entries c.seen)))
     → IsVersion (pinned_page_state c) (word_of_page c.image) page (volume_pinned a)
 looked_volume a c n page pin same is h =
-    let volume : replay (take n (entries c.seen)) ≡ volume_pinned a =
-    ap (λ (k : Knowledge). replay (take n (entries k.seen))) same ∙ sym (ap (λ o. option_map_or (λ m. replay (take m (entries a.seen))) o empty) pin) in
+    let volume : replay_from c.limits.volume (take n (entries c.seen)) ≡ volume_pinned a =
+    ap (λ (k : Knowledge). replay_from k.limits.volume (take n (entries k.seen))) same ∙ sym (ap (λ o. option_map_or (λ m. replay_from a.limits.volume (take m (entries a.seen))) o empty) pin) in
     subst (IsVersion (pinned_page_state c) (word_of_page c.image) page) volume (looked_version a c n page same is h)
+
+-- A look at the pinned version reads the volume that its own pass is pinned to.
+pub read_version : (a c : Knowledge) (page : ℕ) → c ≡ a → IsVersion (pinned_page_state c) (word_of_page c.image) page (volume_pinned a)
+    → IsVersion (pinned_page_state c) (word_of_page c.image) page (volume_pinned c)
+read_version a c page same = subst (λ (k : Knowledge). IsVersion (pinned_page_state c) (word_of_page c.image) page (volume_pinned k)) (sym same)

@@ -60,6 +60,7 @@ module _ (a : Knowledge) (writers : List ℕ) (m c : Knowledge) (is : m ≡ trie
         number = h.number;
         mine = h.mine;
         pass = h.pass;
+        limits = h.limits;
         pin = h.pin;
         moves = record { locked = h.moves.locked; lock = h.moves.lock; worked = h.moves.worked; work = h.moves.work; given = h.moves.given; publish = h.moves.publish; at = h.moves.at };
       }
@@ -74,7 +75,7 @@ module _ (a : Knowledge) (writers : List ℕ) (m c : Knowledge) (is : m ≡ trie
   learns_at_last h = by (subst (λ (k : Knowledge). Learns k c) is h)
     where
       by : Learns (tried a writers) c → Learns a c
-      by h = record { more = h.more; mine = h.mine; pass = h.pass; pin = h.pin; moves = moved h.moves }
+      by h = record { more = h.more; mine = h.mine; pass = h.pass; limits = h.limits; pin = h.pin; moves = moved h.moves }
         where
           moved : (c.history ≡ a.history) ⊎ LocksOnly (tried a writers) c → (c.history ≡ a.history) ⊎ LocksOnly a c
           moved (inl none) = inl none

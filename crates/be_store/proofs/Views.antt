@@ -3,9 +3,9 @@ use Rattle.std.proofs.Common.{◌≡◌, ◌<◌, ◌+◌, ℕ, inl, inr, List, 
 use Rattle.std.specs.Prelude.{◌≢◌, All, AllPairs, map}
 use Rattle.std.specs.Option.{option_map_or}
 use Rattle.std.proofs.lemmas.List.{length-map}
-use Rattle.std.proofs.lemmas.List.Elements.{All-cons, All-nil}
+use Rattle.std.proofs.lemmas.List.Elements.{All-cons, All-nil, All-head, All-tail}
 use Rattle.be_journal.specs.declared.entries.Entry.{Entry}
-use Rattle.be_journal.specs.Journal.{Agrees, by_pass, replay}
+use Rattle.be_journal.specs.Journal.{Agrees, by_pass, replay_from}
 use Rattle.be_table.specs.declared.pass.Commit.{Commit}
 use Rattle.be_table.specs.declared.pass.Knowledge.{Knowledge}
 use Rattle.be_table.specs.History.{AreOfPasses, StartsWith}
@@ -37,9 +37,9 @@ write_step a c ops n dones h =
     ap entries h.seen
     ∙ (entries_append (a.seen ++ h.others) (h.commit ∷ [])
     ∙ (ap (λ x. entries (a.seen ++ h.others) ++ x ∷ []) h.entry ∙ ap (λ l. l ++ e ∷ []) front)) in
-    let accepted : Agrees (replay (entries a.seen ++ entries h.others)) e = subst (λ l. Agrees (replay l) e) front h.answered in
+    let accepted : Agrees (replay_from a.limits.volume (entries a.seen ++ entries h.others)) e = subst (λ l. Agrees (replay_from a.limits.volume l) e) front h.answered in
     let number : n ≡ length (entries c.seen) = h.number ∙ sym (length-map c.seen (λ (x : Commit). x.entry)) in
-    (entries h.others, refl, accepted, (λ j. record { number = h.pass j; seen = seen j; mine = h.mine j; pin = ap pinned_number h.pin j }), number)
+    (entries h.others, refl, accepted, (λ j. record { number = h.pass j; first = (h.limits j).volume; seen = seen j; mine = h.mine j; pin = ap pinned_number h.pin j }), number)
 
 longer_seen : (a c : Knowledge) (more : StartsWith c.seen a.seen) → entries c.seen ≡ entries a.seen ++ entries more.0
 longer_seen a c more = ap entries more.1 ∙ entries_append a.seen more.0
@@ -47,20 +47,21 @@ longer_seen a c more = ap entries more.1 ∙ entries_append a.seen more.0
 pub learn_step : (a c : Knowledge) → Learns a c → IsStep a (Learn (entries c.seen)) c
 learn_step a c h =
     let seen = longer_seen a c h.more in
-    (entries h.more.0, (λ j. record { number = h.pass j; seen = seen j; mine = h.mine j; pin = ap pinned_number h.pin j }), refl)
+    (entries h.more.0, (λ j. record { number = h.pass j; first = (h.limits j).volume; seen = seen j; mine = h.mine j; pin = ap pinned_number h.pin j }), refl)
 
 pub pin_step : (a c : Knowledge) (n : ℕ) → Pins a c n → IsStep a (Pin n) c
 pin_step a c n h =
     let seen = longer_seen a c h.more in
     let number : c.number ≡ a.number = ap (λ (k : Knowledge). k.number) h.same in
     let mine : c.mine ≡ a.mine = ap (λ (k : Knowledge). k.mine) h.same in
-    (entries h.more.0, (λ j. record { number = number j; seen = seen j; mine = mine j; pin = h.pin j }), h.number ∙ sym (length-map c.seen (λ (x : Commit). x.entry)))
+    let limits : c.limits.volume ≡ a.limits.volume = ap (λ (k : Knowledge). k.limits.volume) h.same in
+    (entries h.more.0, (λ j. record { number = number j; first = limits j; seen = seen j; mine = mine j; pin = h.pin j }), h.number ∙ sym (length-map c.seen (λ (x : Commit). x.entry)))
 
 pub unpin_step : (a c : Knowledge) → Unpins a c → IsStep a Unpin c
 unpin_step a c h = ap view_of h.0
 
-read_at : (a : Knowledge) (n : ℕ) → IsPinnedTo a n → volume_pinned a ≡ replay (take n (entries a.seen))
-read_at a n pin = ap (λ o. option_map_or (λ m. replay (take m (entries a.seen))) o empty) pin
+read_at : (a : Knowledge) (n : ℕ) → IsPinnedTo a n → volume_pinned a ≡ replay_from a.limits.volume (take n (entries a.seen))
+read_at a n pin = ap (λ o. option_map_or (λ m. replay_from a.limits.volume (take m (entries a.seen))) o empty) pin
 
 pub read_step : (a c : Knowledge) (n : ℕ) (ask : State → Answer) → IsPinnedTo a n → HasRead a c → IsStep a (Read ask (Some (ask (volume_pinned a)))) c
 read_step a c n ask pin h = (n, pin, ap ask (read_at a n pin), ap view_of h)
@@ -70,8 +71,8 @@ pub vain_step : (a c : Knowledge) (n : ℕ) (ask : State → Answer) → IsPinne
 vain_step a c n ask pin h = (n, pin, tt, ap view_of h)
 
 -- A read that isn't among the steps.
-pub any_read : (log : List Entry) (a : Knowledge) (n : ℕ) → ReadsPrefix volume log (view_of a) → IsPinnedTo a n → volume_pinned a ≡ state_of volume (take n log)
-any_read log a n h pin = read_at a n pin ∙ ap replay (h n pin)
+pub any_read : (log : List Entry) (a : Knowledge) (n : ℕ) → ReadsPrefix volume log (view_of a) → IsPinnedTo a n → volume_pinned a ≡ state_of volume a.limits.volume (take n log)
+any_read log a n h pin = read_at a n pin ∙ ap (replay_from a.limits.volume) (h n pin)
 
 -- Refreshing a live query with `refresh_changed`. The pass learns, and then reads at the pin that
 -- it had.
@@ -83,13 +84,13 @@ refresh_steps a c n ask h pin same =
 
 pub meeting_call : (a c : Knowledge) (log : List Commit) → StartsWith log a.seen → c ≡ met a log → Call a (Learn (entries log)) c
 meeting_call a c log more h = (
-  subst (Learns a) (sym h) (record { more = more; mine = refl; pass = refl; pin = refl; moves = inl refl }),
+  subst (Learns a) (sym h) (record { more = more; mine = refl; pass = refl; limits = refl; pin = refl; moves = inl refl }),
   ap (λ (k : Knowledge). entries k.seen) (sym h),
 )
 
 pub witness_call : (a c : Knowledge) → c ≡ one_step_on a → Call a (Learn (entries a.seen)) c
 witness_call a c h = (
-  subst (Learns a) (sym h) (record { more = starts_refl a.seen; mine = refl; pass = refl; pin = refl; moves = inl refl }),
+  subst (Learns a) (sym h) (record { more = starts_refl a.seen; mine = refl; pass = refl; limits = refl; pin = refl; moves = inl refl }),
   ap (λ (k : Knowledge). entries k.seen) (sym h),
 )
 
@@ -162,11 +163,17 @@ view_numbers : (passes : List Knowledge) → map (λ (a : Knowledge). a.number) 
 view_numbers [] = refl
 view_numbers (a ∷ passes) = ap (λ l. a.number ∷ l) (view_numbers passes)
 
-pub closing : (count : ℕ) (log : List Entry) (passes : List Knowledge) → IsClosed count log passes → Closes volume log (map view_of passes)
-closing count log passes h = let kept = h.keeps in record { apart = subst (AllPairs ◌≢◌) (view_numbers passes) h.apart; authors = all_by count log passes h.by h.all; seen = all_seen log passes kept; mine = all_own log passes kept }
+all_first : (first : State) (passes : List Knowledge) → All (λ (a : Knowledge). a.limits.volume ≡ first) passes → All (λ (z : PassView volume). z.first ≡ first) (map view_of passes)
+all_first first [] begins = All-nil (λ (z : PassView volume). z.first ≡ first)
+all_first first (a ∷ passes) begins =
+    All-cons (λ (z : PassView volume). z.first ≡ first) (view_of a) (map view_of passes) (All-head (λ (k : Knowledge). k.limits.volume ≡ first) a passes begins)
+    (all_first first passes (All-tail (λ (k : Knowledge). k.limits.volume ≡ first) a passes begins))
 
-pub given_runs : (count : ℕ) (log : List Entry) (passes : List Knowledge) (runs : List (PassRun volume)) → IsClosed count log passes → map (λ (r : PassRun volume). r.last) runs ≡ map view_of passes → IsOneHistory volume log runs
-given_runs count log passes runs h same = one_history volume log runs (subst (Closes volume log) (sym same) (closing count log passes h))
+pub closing : (first : State) (count : ℕ) (log : List Entry) (passes : List Knowledge) → IsClosed first count log passes → Closes volume first log (map view_of passes)
+closing first count log passes h = let kept = h.keeps in record { first = all_first first passes h.first; apart = subst (AllPairs ◌≢◌) (view_numbers passes) h.apart; authors = all_by count log passes h.by h.all; seen = all_seen log passes kept; mine = all_own log passes kept }
+
+pub given_runs : (first : State) (count : ℕ) (log : List Entry) (passes : List Knowledge) (runs : List (PassRun volume)) → IsClosed first count log passes → map (λ (r : PassRun volume). r.last) runs ≡ map view_of passes → IsOneHistory volume first log runs
+given_runs first count log passes runs h same = one_history volume first log runs (subst (Closes volume first log) (sym same) (closing first count log passes h))
 
 -- The runs of these passes, in order.
 pub record AreRunsOf (passes : List PassCalls) (runs : List (PassRun volume)) : Type 0 where
@@ -179,9 +186,9 @@ runs_of : (passes : List PassCalls) → (runs : List (PassRun volume)) × AreRun
 runs_of [] = ([], record { numbers = refl; steps = refl; views = refl; last = refl })
 runs_of (p ∷ passes) =
     let made = calls_run p.first p.steps p.last p.made in
-    let run : AreSteps volume (first_view volume p.first.number) made.0 (view_of p.last) = subst (λ (v : PassView volume). AreSteps volume v made.0 (view_of p.last)) p.new made.1 in
+    let run : AreSteps volume (first_view volume p.first.limits.volume p.first.number) made.0 (view_of p.last) = subst (λ (v : PassView volume). AreSteps volume v made.0 (view_of p.last)) p.new made.1 in
     let more = runs_of passes in (
-      record { number = p.first.number; steps = made.0; last = view_of p.last; run = run } ∷ more.0,
+      record { number = p.first.number; first = p.first.limits.volume; steps = made.0; last = view_of p.last; run = run } ∷ more.0,
       record {
         numbers = ap (λ l. p.first.number ∷ l) more.1.numbers;
         steps = (λ j. made.2 j ∷ more.1.steps j);
@@ -190,10 +197,10 @@ runs_of (p ∷ passes) =
       },
     )
 
-pub some_runs : (count : ℕ) (log : List Entry) (passes : List PassCalls) → IsClosed count log (map (λ (p : PassCalls). p.last) passes) → (runs : List (PassRun volume))
+pub some_runs : (first : State) (count : ℕ) (log : List Entry) (passes : List PassCalls) → IsClosed first count log (map (λ (p : PassCalls). p.last) passes) → (runs : List (PassRun volume))
     × (map (λ (r : PassRun volume). r.number) runs ≡ map (λ (p : PassCalls). p.first.number) passes) × (map (steps_of volume) runs ≡ map (λ (p : PassCalls). p.steps) passes)
     × (map (views_of volume) runs ≡ map views_known passes) × (map (λ (r : PassRun volume). r.last) runs ≡ map view_of (map (λ (p : PassCalls). p.last) passes))
-    × IsOneHistory volume log runs
-some_runs count log passes h =
+    × IsOneHistory volume first log runs
+some_runs first count log passes h =
     let r = runs_of passes in
-    (r.0, r.1.numbers, r.1.steps, r.1.views, r.1.last, given_runs count log (map (λ (p : PassCalls). p.last) passes) r.0 h r.1.last)
+    (r.0, r.1.numbers, r.1.steps, r.1.views, r.1.last, given_runs first count log (map (λ (p : PassCalls). p.last) passes) r.0 h r.1.last)

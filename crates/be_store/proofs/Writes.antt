@@ -2,9 +2,9 @@
 use Rattle.std.proofs.Common.{arith, false, ◌≡◌, ◌≤◌, inl, inr, ℕ, List, [], ◌∷◌, ◌++◌, length, Ok, Err, sym, ap, ◌∙◌, subst}
 use Rattle.std.specs.Prelude.{IfErr, IsOk, Result, MatchResult}
 use Rattle.std.specs.Result.{IsErrAnd}
-use Rattle.be_journal.specs.Journal.{replay}
+use Rattle.be_journal.specs.Journal.{replay_from}
 use Rattle.be_core.specs.Machine.{has}
-use Rattle.be_table.specs.declared.limits.Limits.{Limits}
+use Rattle.be_table.specs.Setting.{Setting as Limits}
 use Rattle.be_table.specs.declared.pass.Commit.{Commit}
 use Rattle.be_table.specs.declared.pass.Knowledge.{Knowledge}
 use Rattle.be_table.specs.declared.pass.Move.{Move}
@@ -30,24 +30,23 @@ use Rattle.be_store.specs.Writing.{Begins, HasRoomAtFull, Publishes, IsHeldBack}
 use Rattle.be_store.proofs.Refusals.{steps_refuse}
 
 -- The version at the writer state's page is that of the whole journal.
-pub current_encoded : (k : Knowledge) (page : ℕ) → Begins k → page ≡ page_at k.seen (length k.seen) → EncodesVolume (reach_at k.seen (length k.seen)) (word_of_page k.words) page (replay (entries k.seen))
-current_encoded k page t is = subst (λ p. EncodesVolume (reach_at k.seen (length k.seen)) (word_of_page k.words) p (replay (entries k.seen))) (sym is) t.encoded
+pub current_encoded : (k : Knowledge) (page : ℕ) → Begins k → page ≡ page_at k.seen (length k.seen) → EncodesVolume (reach_at k.limits k.seen (length k.seen)) (word_of_page k.words) page (replay_from k.limits.volume (entries k.seen))
+current_encoded k page t is = subst (λ p. EncodesVolume (reach_at k.limits k.seen (length k.seen)) (word_of_page k.words) p (replay_from k.limits.volume (entries k.seen))) (sym is) t.encoded
 
 -- A pass that has just taken the lock begins a write.
 pub begins_locked : (a k : Knowledge) → TakesLock a k → Begins k
-begins_locked a k t = record { small = t.pass.within.few_pages; unpublished = ap (λ (x : Knowledge). x.published) t.same; begun = t.begun; encoded = t.encoded }
+begins_locked a k t = record { small = t.pass.within.limits.few_pages; unpublished = ap (λ (x : Knowledge). x.published) t.same; begun = t.begun; encoded = t.encoded }
 
 -- A scan frees only pages that no version has.
 pub begins_scanned : (old new : Work) (least : ℕ) → MakesScan old new least → Begins old.knows → Begins new.knows
 begins_scanned old new least h b =
     let k : Knowledge = old.knows in
-    let begun : (q : ℕ) → page_state_among new.knows.places q ≡ at_start (has (reach_at k.seen (length k.seen)) q) = λ q. ap (λ ps. page_state_among ps q) h.places ∙ swept_in least k.places q ∙ b.begun q in
+    let begun : (q : ℕ) → page_state_among new.knows.places q ≡ at_start (has (reach_at k.limits k.seen (length k.seen)) q) = λ q. ap (λ ps. page_state_among ps q) h.places ∙ swept_in least k.places q ∙ b.begun q in
     let same : new.knows ≡ record k { scanned = 0; least = least; places = new.knows.places; held = new.knows.held; steps = new.knows.steps; history = new.knows.history } = ap (λ (w : Work). w.knows) h.same in record {
       small = subst (λ (x : Knowledge). x.limits.pages ≤ largest_pool) (sym same) b.small;
       unpublished = ap (λ (x : Knowledge). x.published) same ∙ b.unpublished;
-      begun = λ q. begun q ∙ ap (λ (x : List Commit). at_start (has (reach_at x (length x)) q)) (sym (ap (λ (x : Knowledge). x.seen) same));
-      encoded = subst (λ (x : List Commit × List ℕ). EncodesVolume (reach_at x.0 (length x.0)) (word_of_page x.1) (page_at x.0 (length x.0)) (replay (entries x.0)))
-          (λ i. (sym (ap (λ (x : Knowledge). x.seen) same) i, sym (ap (λ (x : Knowledge). x.words) same) i)) b.encoded;
+      begun = λ q. begun q ∙ ap (λ (x : Knowledge). at_start (has (reach_at x.limits x.seen (length x.seen)) q)) (sym same);
+      encoded = subst (λ (x : Knowledge). EncodesVolume (reach_at x.limits x.seen (length x.seen)) (word_of_page x.words) (page_at x.seen (length x.seen)) (replay_from x.limits.volume (entries x.seen))) (sym same) b.encoded;
     }
 
 -- What a write does to the pass, stated relative to the state before the scan that came first.
@@ -61,7 +60,7 @@ published_from w v c ops n dones kept p =
       commit = p.commit;
       entry = p.entry ∙ ap (λ k. record { by = k; ops = ops; dones = dones }) number;
       seen = p.seen ∙ ap (λ l. l ++ p.commit ∷ []) seen;
-      answered = (p.answered.0, ap (λ l. steps (replay (entries l)) ops) (sym seen) ∙ p.answered.1);
+      answered = (p.answered.0, ap (λ (x : Limits × List Commit). steps (replay_from x.0.volume (entries x.1)) ops) (λ i. (sym limits i, sym seen i)) ∙ p.answered.1);
       number = p.number;
       worked = p.worked;
       work = subst (λ (x : Limits × ℕ × List Move). WorksOn x.0 x.1 x.2 p.worked) (λ i. (limits i, number i, begun i)) p.work;
@@ -84,7 +83,7 @@ both_from (Err e) P R Q S f g m = g e m
 
 pub published : (w v r p : Work) (ops : List Op) (page n : ℕ) (dones shown : List Done) (made : State)
     → open_of v ≡ open_of w → r.knows ≡ v.knows → p.knows ≡ publishes (with_history r.knows p.knows.history) (entry_by r.knows ops shown) page → shown ≡ dones
-    → steps (replay (entries w.knows.seen)) ops ≡ Ok (made, dones) → n ≡ length p.knows.seen
+    → steps (replay_from w.knows.limits.volume (entries w.knows.seen)) ops ≡ Ok (made, dones) → n ≡ length p.knows.seen
     → HasWorked r.knows.limits r.knows.number r.knows.history → Moves r.knows (Publish r.knows.number page (given_of r.knows) ∷ []) p.knows → Publishes w.knows p.knows ops n dones
 published w v r p ops page n dones shown made kept same is lent stepped number worked moves =
     let pass : r.knows.number ≡ w.knows.number = ap (λ (k : Knowledge). k.number) same ∙ ap (λ (o : StaysOpen). o.number) kept in
@@ -113,13 +112,13 @@ full_accepts _ _ _ _ volume ops least old new (inr h) = (h.1, h.2)
 
 -- A lack of room in the journal is reported before a lack of pages.
 pub full_unroomed : (w v r : Work) (full_of : Work → ℕ → Type 0) (ops : List Op) (least : ℕ) (f e : Refusal) → w.knows.published ≡ false → f ≡ Full least
-    → IsRefusedList open_of page_state_in_work words_of full_of (replay (entries w.knows.seen)) ops f w v → r ≡ v → HasNoRoom e v.knows → IsHeldBack w.knows r.knows ops e
+    → IsRefusedList open_of page_state_in_work words_of full_of (replay_from w.knows.limits.volume (entries w.knows.seen)) ops f w v → r ≡ v → HasNoRoom e v.knows → IsHeldBack w.knows r.knows ops e
 full_unroomed w v r full_of ops least f e unpublished is refused same none =
-    let h = full_accepts open_of page_state_in_work words_of full_of (replay (entries w.knows.seen)) ops least w v (subst (λ g. IsRefusedList open_of page_state_in_work words_of full_of (replay (entries w.knows.seen)) ops g w v) is refused) in
+    let h = full_accepts open_of page_state_in_work words_of full_of (replay_from w.knows.limits.volume (entries w.knows.seen)) ops least w v (subst (λ g. IsRefusedList open_of page_state_in_work words_of full_of (replay_from w.knows.limits.volume (entries w.knows.seen)) ops g w v) is refused) in
     let k : open_of r ≡ open_of w = ap open_of same ∙ h.1.kept in record {
       same = record { pass = ap (λ (o : StaysOpen). o.number) k; limits = ap (λ (o : StaysOpen). o.limits) k; pin = ap (λ (o : StaysOpen). o.phase) k };
       seen = ap (λ (o : StaysOpen). o.seen) k;
-      reason = inr (inl (subst (λ (o : StaysOpen). IsOk (steps (replay (entries o.seen)) ops)) (sym k) h.0, subst (λ (x : Work). HasNoRoom e x.knows) (sym same) none));
+      reason = inr (inl (subst (λ (o : StaysOpen). IsOk (steps (replay_from o.limits.volume (entries o.seen)) ops)) (sym k) h.0, subst (λ (x : Work). HasNoRoom e x.knows) (sym same) none));
       unpublished = ap (λ (o : StaysOpen). o.published) k ∙ unpublished;
       begun = ap (λ (o : StaysOpen). o.begun) k;
     }

@@ -3,13 +3,13 @@
 use Rattle.std.specs.Prelude.{◌≡◌, ℕ, ◌-◌, All, List, [], ◌∷◌, map, Some, IfSome, slice_get}
 use Rattle.std.specs.Prelude.{take}
 use Rattle.be_journal.specs.declared.entries.Entry.{Entry}
-use Rattle.be_journal.specs.Journal.{replay}
+use Rattle.be_journal.specs.Journal.{replay_from}
 use Rattle.be_table.specs.declared.pass.Knowledge.{Knowledge}
 use Rattle.be_table.specs.History.{StartsWith}
 use Rattle.be_table.specs.Rule.{entries}
 use Rattle.be_table.specs.Steps.{IsPass, entry_by}
 use Rattle.be_table.specs.Trace.{HasTrace}
-use Rattle.be_table.specs.declared.limits.Limits.{Limits}
+use Rattle.be_table.specs.Setting.{Setting as Limits}
 use Rattle.be_table.specs.declared.pass.Move.{Move}
 use Rattle.be_volume.specs.declared.ops.Done.{Done}
 use Rattle.be_volume.specs.declared.ops.Op.{Op}
@@ -52,7 +52,7 @@ pub record PassCalls : Type 0 where
   pub first : Knowledge
   pub steps : List (Step volume)
   pub last : Knowledge
-  pub new : view_of first ≡ first_view volume first.number
+  pub new : view_of first ≡ first_view volume first.limits.volume first.number
   pub fresh : first.history ≡ []
   pub made : Calls first steps last
 
@@ -70,7 +70,8 @@ HasWrites log z = (a c : Knowledge) (steps : List (Step volume)) (ops : List Op)
 -- Whenever the pass was pinned to n, it read the volume after the first n entries of the journal.
 abbrev pub ReadsFronts : List Entry → Knowledge → Type 0
 ReadsFronts log z = (a : Knowledge) (steps : List (Step volume)) (n : ℕ) → IsPass a
-    → IsPinnedTo a n → Calls a steps z → volume_pinned a ≡ replay (take n log)
+    → IsPinnedTo a n → Calls a steps z → volume_pinned a
+    ≡ replay_from a.limits.volume (take n log)
 
 -- After each of its calls, the pass's history was a prefix of this list of moves.
 abbrev pub HasFronts : List Move → Knowledge → Type 0

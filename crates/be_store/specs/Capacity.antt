@@ -9,7 +9,7 @@ use Rattle.be_table.specs.History.{StartsWith}
 use Rattle.be_table.specs.Rule.{reach_at}
 use Rattle.be_table.specs.Trace.{HasTrace, RunsTo}
 use Rattle.be_table.specs.Works.{HadAnnounced, IsSpent}
-use Rattle.be_table.specs.declared.limits.Limits.{Limits}
+use Rattle.be_table.specs.Setting.{Setting as Limits}
 use Rattle.be_table.specs.declared.pass.Knowledge.{Knowledge}
 use Rattle.be_volume.specs.Items.{StaysWithin, items}
 use Rattle.be_volume.specs.Volume.{State}
@@ -18,7 +18,8 @@ use Rattle.be_store.specs.Passes.{IsBetweenCalls, IsPinnedTo, volume_seen}
 
 -- How many of the pool's pages the current version has.
 abbrev pub current_pages : Knowledge → ℕ
-current_pages c = count_below (has (reach_at c.seen (length c.seen))) c.limits.pages
+current_pages c = count_below (has (reach_at c.limits c.seen (length c.seen)))
+    c.limits.pages
 
 -- How many of the pool's pages the write itself held when it found no free page.
 abbrev pub held_pages : Knowledge → ℕ

@@ -5,7 +5,7 @@ use Rattle.std.specs.Prelude.{drop, length, take, IsOk}
 use Rattle.std.specs.declared.result.Result.{Result}
 use Rattle.std.specs.declared.result.Result.TheVariants.{Ok, Err}
 use Rattle.be_journal.specs.declared.entries.Entry.{Entry}
-use Rattle.be_journal.specs.Journal.{Agrees, by_pass, replay}
+use Rattle.be_journal.specs.Journal.{Agrees, by_pass, replay_from}
 use Rattle.be_journal.specs.Text.{lines_from}
 use Rattle.be_pages.specs.Refusal.{IsFullOf}
 use Rattle.be_table.specs.declared.pass.Commit.{Commit}
@@ -66,10 +66,12 @@ pub record Accepts (a c : Knowledge) (ops : List Op) (n : ℕ) (dones : List Don
   pub seen : c.seen ≡ (a.seen ++ others) ++ commit ∷ []
   pub entry : commit.entry ≡ entry_by a ops dones
   pub apart : by_pass a.number (entries others) ≡ []
-  pub answered : Agrees (replay (entries (a.seen ++ others))) (entry_by a ops dones)
+  pub answered : Agrees (replay_from a.limits.volume (entries (a.seen ++ others)))
+      (entry_by a ops dones)
   pub number : n ≡ length c.seen
   pub mine : c.mine ≡ a.mine ++ entry_by a ops dones ∷ []
   pub pass : c.number ≡ a.number
+  pub limits : c.limits ≡ a.limits
   pub pin : c.phase ≡ a.phase
   pub moves : PublishesOnce a c commit.page
 
@@ -79,6 +81,7 @@ pub record Learns (a c : Knowledge) : Type 0 where
   pub more : StartsWith c.seen a.seen
   pub mine : c.mine ≡ a.mine
   pub pass : c.number ≡ a.number
+  pub limits : c.limits ≡ a.limits
   pub pin : c.phase ≡ a.phase
   pub moves : (c.history ≡ a.history) ⊎ LocksOnly a c
 

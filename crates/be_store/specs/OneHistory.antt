@@ -9,9 +9,10 @@ use Rattle.be_store.specs.SmallMachine.{AreSteps, IsLegalFor, entries_by, first_
 -- The steps of one pass starting from its first view, each with the view after it.
 pub record PassRun (o : Object) : Type 0 where
   pub number : ℕ
+  pub first : o.State
   pub steps : List (Step o × PassView o)
   pub last : PassView o
-  pub run : AreSteps o (first_view o number) steps last
+  pub run : AreSteps o (first_view o first number) steps last
 
 -- The steps of a run, without the views.
 abbrev pub steps_of : (o : Object) → PassRun o → List (Step o)
@@ -31,7 +32,7 @@ IsKept o journal a (Learn log) = StartsWith journal log × StartsWith log a.seen
 IsKept o journal a (Pin n) = (n ≤ length journal) × StartsWith (take n journal) a.seen
 IsKept o journal a Unpin = Unit {0}
 IsKept o journal a (Read q r) = (n : ℕ) × (a.pin ≡ Some n)
-    × IfSome r (λ x. x ≡ o.answer q (state_of o (take n journal)))
+    × IfSome r (λ x. x ≡ o.answer q (state_of o a.first (take n journal)))
 
 -- If a pass with this view is pinned to n, the first n entries that it has seen are those of the
 -- journal. Each of its reads is therefore of the object after a prefix of the journal, even if the
@@ -63,15 +64,16 @@ abbrev pub HasRun : (o : Object) → List (PassRun o) → ℕ → Type 0
 HasRun o [] k = ⊥
 HasRun o (r ∷ runs) k = (r.number ≡ k) ⊎ HasRun o runs k
 
--- The journal is a legal history of the object. The runs belong to different passes, each of which
--- has seen a prefix of the journal at the end. The journal contains the writes of each run exactly
--- once, in the order of its steps, and no others. It determines what each step returned, and which
--- entries the pass could read between its steps.
-pub record IsOneHistory (o : Object) (journal : List o.Entry) (runs : List (PassRun o)) : Type 0
-  where
-    pub legal : IsLegalFor o journal
-    pub apart : AllPairs ◌≢◌ (map (λ (r : PassRun o). r.number) runs)
-    pub authors : All (λ (e : o.Entry). HasRun o runs (o.by e)) journal
-    pub writes : All (λ (r : PassRun o). entries_by o r.number journal ≡ written o r.steps) runs
-    pub kept : All (λ (r : PassRun o). AreKept o journal (first_view o r.number) r.steps) runs
-    pub seen : All (λ (r : PassRun o). StartsWith journal r.last.seen) runs
+-- The journal is a legal history of the object that begins with this state, and so do the runs.
+-- They belong to different passes, each of which has seen a prefix of the journal at the end. The
+-- journal contains the writes of each run exactly once, in the order of its steps, and no others.
+-- It determines what each step returned, and which entries the pass could read between its steps.
+pub record IsOneHistory (o : Object) (first : o.State) (journal : List o.Entry)
+    (runs : List (PassRun o)) : Type 0 where
+  pub legal : IsLegalFor o first journal
+  pub begins : All (λ (r : PassRun o). r.first ≡ first) runs
+  pub apart : AllPairs ◌≢◌ (map (λ (r : PassRun o). r.number) runs)
+  pub authors : All (λ (e : o.Entry). HasRun o runs (o.by e)) journal
+  pub writes : All (λ (r : PassRun o). entries_by o r.number journal ≡ written o r.steps) runs
+  pub kept : All (λ (r : PassRun o). AreKept o journal (first_view o r.first r.number) r.steps) runs
+  pub seen : All (λ (r : PassRun o). StartsWith journal r.last.seen) runs

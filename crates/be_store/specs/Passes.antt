@@ -4,7 +4,7 @@ use Rattle.std.specs.Coded.{Coded-set, coded_ℕ, Unit-prop, →_prop}
 use Rattle.std.specs.Option.{option_map_or}
 use Rattle.be_core.specs.declared.event.Phase.{Phase}
 use Rattle.be_core.specs.declared.event.Phase.TheVariants.{Idle, Looked, Announced, Pinned}
-use Rattle.be_journal.specs.Journal.{replay}
+use Rattle.be_journal.specs.Journal.{replay_from}
 use Rattle.be_table.specs.declared.pass.Knowledge.{Knowledge}
 use Rattle.be_table.specs.Place.{Opened, SeatFacts}
 use Rattle.be_table.specs.Rule.{entries}
@@ -43,13 +43,13 @@ IsPinnedTo a n = pinned_number a.phase ≡ Some n
 
 -- The volume after everything that the pass has seen.
 abbrev pub volume_seen : Knowledge → State
-volume_seen a = replay (entries a.seen)
+volume_seen a = replay_from a.limits.volume (entries a.seen)
 
 -- The volume that a pinned pass reads. For a pass that is pinned to n, this is the volume after the
 -- first n entries of the journal.
 abbrev pub volume_pinned : Knowledge → State
-volume_pinned a = option_map_or (λ n. replay (take n (entries a.seen))) (pinned_number a.phase)
-    empty
+volume_pinned a = option_map_or (λ n. replay_from a.limits.volume (take n (entries a.seen)))
+    (pinned_number a.phase) empty
 
 -- The pass has only read, so nothing but its count of steps has changed.
 abbrev pub HasRead : Knowledge → Knowledge → Type 0

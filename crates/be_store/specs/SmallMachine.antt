@@ -13,36 +13,37 @@ pub record Object : Type 1 where
   pub Question : Type 0
   pub Answer : Type 0
   pub by : Entry → ℕ
-  pub empty : State
   pub Accepts : State → Entry → Type 0
   pub after : State → Entry → State
   pub answer : Question → State → Answer
 
--- The state after these entries, applied in order.
-abbrev pub state_of : (o : Object) → List o.Entry → o.State
-state_of o log = fold (λ s e. o.after s e) o.empty log
+-- The state after these entries, applied in order to the first state.
+abbrev pub state_of : (o : Object) → o.State → List o.Entry → o.State
+state_of o first log = fold (λ s e. o.after s e) first log
 
--- The object accepts each entry in the state after the entries before it. The entry at position i,
--- counting from 0, is `get_or log i e` for any e.
-abbrev pub IsLegalFor : (o : Object) → List o.Entry → Type 0
-IsLegalFor o log = (i : ℕ) (e : o.Entry) → i < length log → e ≡ get_or log i e
-    → o.Accepts (state_of o (take i log)) e
+-- From the first state on, the object accepts each entry in the state after the entries before it.
+-- The entry at position i, counting from 0, is `get_or log i e` for any e.
+abbrev pub IsLegalFor : (o : Object) → o.State → List o.Entry → Type 0
+IsLegalFor o first log = (i : ℕ) (e : o.Entry) → i < length log → e ≡ get_or log i e
+    → o.Accepts (state_of o first (take i log)) e
 
 -- The entries by the pass k, in order.
 abbrev pub entries_by : (o : Object) → ℕ → List o.Entry → List o.Entry
 entries_by o k log = filter (λ e. nat_eq (o.by e) k) log
 
--- What a pass knows: its number, the prefix of the journal that it has seen, its own entries, and,
--- if it is pinned, the number of entries to which it is pinned.
+-- What a pass knows: its number, the object's state before the first entry, the prefix of the
+-- journal that it has seen, its own entries, and, if it is pinned, the number of entries to which
+-- it is pinned.
 pub record PassView (o : Object) : Type 0 where
   pub number : ℕ
+  pub first : o.State
   pub seen : List o.Entry
   pub mine : List o.Entry
   pub pin : Option ℕ
 
 -- What the pass k knows at first.
-abbrev pub first_view : (o : Object) → ℕ → PassView o
-first_view o k = record { number = k; seen = []; mine = []; pin = None }
+abbrev pub first_view : (o : Object) → o.State → ℕ → PassView o
+first_view o first k = record { number = k; first = first; seen = []; mine = []; pin = None }
 
 -- What a call does and returns.
 pub data Step (o : Object) : Type 0 where
@@ -65,7 +66,8 @@ pub data Step (o : Object) : Type 0 where
 -- those in its `mine`.
 abbrev pub Leads : (o : Object) → PassView o → Step o → PassView o → Type 0
 Leads o a (Apply e n) c =
-    (others : List o.Entry) × (o.by e ≡ a.number) × o.Accepts (state_of o (a.seen ++ others)) e
+    (others : List o.Entry) × (o.by e ≡ a.number)
+    × o.Accepts (state_of o a.first (a.seen ++ others)) e
     × (c ≡ record a { seen = (a.seen ++ others) ++ e ∷ []; mine = a.mine ++ e ∷ [] })
     × (n ≡ length c.seen)
 Leads o a (Learn log) c = (others : List o.Entry) × (c ≡ record a { seen = a.seen ++ others })
@@ -74,7 +76,7 @@ Leads o a (Pin n) c = (others : List o.Entry)
     × (c ≡ record a { seen = a.seen ++ others; pin = Some n }) × (n ≡ length c.seen)
 Leads o a Unpin c = c ≡ record a { pin = None }
 Leads o a (Read q r) c = (n : ℕ) × (a.pin ≡ Some n)
-    × IfSome r (λ x. x ≡ o.answer q (state_of o (take n a.seen))) × (c ≡ a)
+    × IfSome r (λ x. x ≡ o.answer q (state_of o a.first (take n a.seen))) × (c ≡ a)
 
 -- The steps of one pass from the view a, each with the view after it, lead to the view z.
 abbrev pub AreSteps : (o : Object) → PassView o → List (Step o × PassView o) → PassView o → Type 0
@@ -88,9 +90,12 @@ HasNumber o (z ∷ views) k = (z.number ≡ k) ⊎ HasNumber o views k
 
 -- At the end, the passes with these views close the store and get this journal. No two views belong
 -- to the same pass. Each entry is by one of these passes. The journal begins with what each pass
--- has seen, and its entries by each pass are exactly that pass's own entries. `IsClosed` says that
--- these are all passes of the store. The definitions above say nothing about two passes together.
-pub record Closes (o : Object) (journal : List o.Entry) (views : List (PassView o)) : Type 0 where
+-- has seen, and its entries by each pass are exactly that pass's own entries. All passes know the
+-- same first state. `IsClosed` says that these are all passes of the store. The definitions above
+-- say nothing about two passes together.
+pub record Closes (o : Object) (start : o.State) (journal : List o.Entry)
+    (views : List (PassView o)) : Type 0 where
+  pub first : All (λ (z : PassView o). z.first ≡ start) views
   pub apart : AllPairs ◌≢◌ (map (λ (z : PassView o). z.number) views)
   pub authors : All (λ (e : o.Entry). HasNumber o views (o.by e)) journal
   pub seen : All (λ (z : PassView o). StartsWith journal z.seen) views

@@ -1,6 +1,6 @@
 -- The volume as the object of the small machine, and what a pass knows as one of the machine's
 -- views.
-use Rattle.std.specs.Prelude.{◌≢◌, ℕ, ◌<◌, AllPairs, List, map}
+use Rattle.std.specs.Prelude.{◌≡◌, ◌≢◌, ℕ, ◌<◌, All, AllPairs, List, map}
 use Rattle.std.specs.declared.option.Option.{Option}
 use Rattle.std.specs.declared.result.Result.{Result}
 use Rattle.be_journal.specs.declared.entries.Entry.{Entry}
@@ -14,7 +14,7 @@ use Rattle.be_value.specs.declared.refusals.Refusal.{Refusal}
 use Rattle.be_value.specs.declared.values.Kind.{Kind}
 use Rattle.be_value.specs.declared.values.Value.{Value}
 use Rattle.be_volume.specs.Ahead.{state_after}
-use Rattle.be_volume.specs.Volume.{State, empty}
+use Rattle.be_volume.specs.Volume.{State}
 use Rattle.be_store.specs.SmallMachine.{Object, PassView, Step, Leads}
 
 -- What a read returns: nodes or the reason why there are none, one attribute of a node, all its
@@ -37,7 +37,6 @@ volume = record {
   Question = State → Answer;
   Answer = Answer;
   by = λ e. e.by;
-  empty = empty;
   Accepts = Agrees;
   after = λ s e. state_after s e.ops;
   answer = λ ask s. ask s;
@@ -47,6 +46,7 @@ volume = record {
 abbrev pub view_of : Knowledge → PassView volume
 view_of a = record {
   number = a.number;
+  first = a.limits.volume;
   seen = entries a.seen;
   mine = a.mine;
   pin = pinned_number a.phase;
@@ -56,10 +56,13 @@ view_of a = record {
 abbrev pub IsStep : Knowledge → Step volume → Knowledge → Type 0
 IsStep a s c = Leads volume (view_of a) s (view_of c)
 
--- What holds when a store with this many passes was closed with these passes, whose numbers differ.
+-- What holds when a store that began with this volume and has this many passes was closed with
+-- these passes, whose numbers differ.
 -- `open` numbers the passes, and each keeps its number. `close` requires all passes of the store,
 -- and ensures the rest about these passes and the journal.
-pub record IsClosed (count : ℕ) (log : List Entry) (passes : List Knowledge) : Type 0 where
+pub record IsClosed (start : State) (count : ℕ) (log : List Entry) (passes : List Knowledge) :
+    Type 0 where
+  pub first : All (λ (a : Knowledge). a.limits.volume ≡ start) passes
   pub apart : AllPairs ◌≢◌ (map (λ (a : Knowledge). a.number) passes)
   pub all : (k : ℕ) → k < count → Has passes k
   pub by : AreOfPasses count log

@@ -30,8 +30,8 @@ pub record Begins (k : Knowledge) : Type 0 where
   pub small : k.limits.pages ≤ largest_pool
   pub unpublished : k.published ≡ false
   pub begun : (q : ℕ) → page_state_among k.places q
-      ≡ at_start (has (reach_at k.seen (length k.seen)) q)
-  pub encoded : EncodesVolume (reach_at k.seen (length k.seen)) (word_of_page k.words)
+      ≡ at_start (has (reach_at k.limits k.seen (length k.seen)) q)
+  pub encoded : EncodesVolume (reach_at k.limits k.seen (length k.seen)) (word_of_page k.words)
       (page_at k.seen (length k.seen)) (volume_seen k)
 
 -- An early scan, which is a whole scan if enough pages were retired since the last scan to make one

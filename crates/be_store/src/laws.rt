@@ -7,7 +7,7 @@
 ghost use Rattle.std.specs.Prelude.{◌≡◌, ◌≤◌, ◌<◌, ◌++◌, ℕ, List, IsOk, length};
 ghost use Rattle.be_store.specs.Imports.{by_pass, empty, entries, newcomer, state_after, state_ops};
 ghost use Rattle.be_store.specs.Imports.{steps, AreOfPasses, CanEncodeEach, Commit, Done, Full};
-ghost use Rattle.be_store.specs.Imports.{IsLegal, IsPass, Knowledge, Limits, Op, Refusal};
+ghost use Rattle.be_store.specs.Imports.{IsLegalFrom, IsPass, Knowledge, Op, Refusal, Setting};
 ghost use Rattle.be_store.specs.Imports.{StartsWith};
 ghost use Rattle.be_store.specs.Alone.{IsAlone, WritesNext};
 ghost use Rattle.be_store.specs.Calls.{Calls};
@@ -24,19 +24,20 @@ ghost use Rattle.be_store.specs.Views.{volume};
 use crate::{Pass, Store};
 use be_journal::replay_push;
 
-/// What a pass has seen is a legal journal whose entries were made by passes of the store. The
-/// pass's own writes are exactly the entries with its number. The store's pages can hold the volume
-/// after each entry.
+/// What a pass has seen is a journal that is legal from the store's first volume on, whose entries
+/// were made by passes of the store. The pass's own writes are exactly the entries with its number.
+/// The store's pages can hold the volume after each entry.
 pub fn seen_is_legal(store: &Store, pass: &Pass)
     requires { IsPassOf store.now pass.now }
     ensures pass { IsPass pass.now.knows }
-    ensures legal { IsLegal (entries pass.now.knows.seen) }
+    ensures legal { IsLegalFrom store.now.limits.volume (entries pass.now.knows.seen) }
     ensures by { AreOfPasses store.now.limits.passes (entries pass.now.knows.seen) }
     ensures mine { by_pass pass.now.knows.number (entries pass.now.knows.seen)
         ≡ pass.now.knows.mine }
     ensures number { pass.now.knows.number < store.now.limits.passes }
     ensures room { length pass.now.knows.seen ≤ store.now.limits.commits }
-    ensures volumes { CanEncodeEach store.now.limits.pages (entries pass.now.knows.seen) }
+    ensures volumes { CanEncodeEach store.now.limits.pages store.now.limits.volume
+        (entries pass.now.knows.seen) }
 {
     pass.is_pass();
 }
@@ -136,11 +137,11 @@ pub fn steps_are_shown()
 /// A pass is out if it was unpinned at its last move. It is out when it is new and after it unpins,
 /// and it stays out until it pins.
 pub fn unpinned_is_out()
-    ensures new { (limits its : Limits) (steps k : ℕ) → IsOut limits (newcomer its steps k) }
-    ensures unpin { (limits : Limits) (a c : Knowledge) → Unpins a c → IsOut limits c }
-    ensures write { (limits : Limits) (a c : Knowledge) (ops : List Op) (n : ℕ)
+    ensures new { (limits its : Setting) (steps k : ℕ) → IsOut limits (newcomer its steps k) }
+    ensures unpin { (limits : Setting) (a c : Knowledge) → Unpins a c → IsOut limits c }
+    ensures write { (limits : Setting) (a c : Knowledge) (ops : List Op) (n : ℕ)
         (dones : List Done) → IsOut limits a → Accepts a c ops n dones → IsOut limits c }
-    ensures other { (limits : Limits) (a c : Knowledge) → IsOut limits a → Learns a c
+    ensures other { (limits : Setting) (a c : Knowledge) → IsOut limits a → Learns a c
         → IsOut limits c }
 {}
 
@@ -149,10 +150,10 @@ pub fn unpinned_is_out()
 /// after the write. The contracts of public calls provide the premises: `meet` ensures the lists of
 /// moves, and a refused write ensures the reason.
 pub fn large_enough_unpinned()
-    ensures once { (limits : Limits) (a c : Knowledge) (ops : List Op) (least : ℕ)
+    ensures once { (limits : Setting) (a c : Knowledge) (ops : List Op) (least : ℕ)
         → c.limits ≡ limits → c.number ≡ a.number → IsOut limits a → OthersRest limits a c
         → HasLargePool c ops → ¬ (IsReason a c ops (Full least)) }
-    ensures retried { (limits : Limits) (a c : Knowledge) (ops : List Op) (tries least : ℕ)
+    ensures retried { (limits : Setting) (a c : Knowledge) (ops : List Op) (tries least : ℕ)
         → c.limits ≡ limits → c.number ≡ a.number → IsOut limits a → OthersRest limits a c
         → HasLargePool c ops → ¬ (IsLastReason tries a c ops (Full least)) }
 {}

@@ -43,6 +43,7 @@ mod pinned;
 mod states;
 mod store;
 mod tries;
+mod ways;
 mod writing;
 
 pub use answers::{Answer, Updates};
@@ -56,6 +57,7 @@ pub use be_table::{Announcement, Limits, Seat as Pass, Status, Witness};
 pub use be_value::{Bytes, Kind, Name, Refusal, Text, Value};
 pub use be_volume::{Done, Op};
 pub use be_volume_state::Place;
+pub use be_ways::{Way, ways_text};
 pub use conditional::ApplyIfError;
 pub use live::Live;
 pub use pinned::Pinned;

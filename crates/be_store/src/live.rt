@@ -40,7 +40,7 @@ pub struct Live {
 impl Model for Live {
     ghost use Rattle.be_store.specs.Imports.{option_map, IsStrictlyIncreasing};
     ghost use Rattle.be_store.specs.Live.{LiveQuery, coded_live};
-    ghost use Rattle.be_store.specs.Marks.{IsMarked};
+    ghost use Rattle.be_store.specs.Marks.{IsMarked, opened_of};
 
     ghost Value = { LiveQuery };
 
@@ -49,7 +49,7 @@ impl Model for Live {
     ghost view = { λ l. record {
       query = l.query;
       last = l.last.items;
-      table = option_map (λ m. m.witness.table) l.mark;
+      table = option_map opened_of l.mark;
     } };
 
     ghost invariant = { λ l. IsStrictlyIncreasing l.last.items
@@ -248,11 +248,13 @@ impl Live {
         answer?;
         self.last.reserve(updates.created.len())?;
         let witness = store.witness(pass);
+        let setting = store.setting();
         take_out(&mut self.last, updates.removed.as_slice());
         put_in(&mut self.last, updates.created.as_slice());
         self.mark = Some(Mark {
             witness,
             number: pin,
+            setting,
         });
         Ok(updates)
     }
@@ -278,8 +280,13 @@ impl Live {
         let number = store.query_prepared(self.alloc, pass, &mut self.query, &mut nodes)?;
         let updates = changes(self.alloc, self.last.as_slice(), nodes.as_slice())?;
         let witness = store.witness(pass);
+        let setting = store.setting();
         self.last = nodes;
-        self.mark = Some(Mark { witness, number });
+        self.mark = Some(Mark {
+            witness,
+            number,
+            setting,
+        });
         Ok(updates)
     }
 

@@ -9,7 +9,7 @@
 //! ensures it.
 ghost use Rattle.std.specs.Prelude.{◌≡◌, ◌+◌, ℕ, List, None, Some, length, map, take};
 ghost use Rattle.be_store.specs.Imports.{entries, entry_by, met, newcomer, one_step_on, Agrees};
-ghost use Rattle.be_store.specs.Imports.{Commit, Done, Entry, Knowledge, Limits, Op, StartsWith};
+ghost use Rattle.be_store.specs.Imports.{Commit, Done, Entry, Knowledge, Op, Setting, StartsWith};
 ghost use Rattle.be_store.specs.Imports.{State};
 ghost use Rattle.be_store.specs.Calls.{Call, Calls, PassCalls, known_after, views_known};
 ghost use Rattle.be_store.specs.Conditional.{AcceptsAt, IsUnapplied};
@@ -24,8 +24,8 @@ ghost use Rattle.be_store.specs.Views.{Answer, IsClosed, IsStep, view_of, volume
 
 /// A pass that `open` returns has the first view.
 pub fn new_pass_has_first_view()
-    ensures { (limits : Limits) (steps k : ℕ) → view_of (newcomer limits steps k)
-        ≡ first_view volume k }
+    ensures { (limits : Setting) (steps k : ℕ) → view_of (newcomer limits steps k)
+        ≡ first_view volume limits.volume k }
 {}
 
 /// An accepted write is the step Apply, with its entry and the number that it returned.
@@ -74,7 +74,7 @@ pub fn read_is_step()
         → HasRead a c → IsStep a (Read ask None) c }
     ensures any { (log : List Entry) (a : Knowledge) (n : ℕ)
         → ReadsPrefix volume log (view_of a) → IsPinnedTo a n
-        → volume_pinned a ≡ state_of volume (take n log) }
+        → volume_pinned a ≡ state_of volume a.limits.volume (take n log) }
 {}
 
 /// Refreshing a live query with `refresh_changed` makes two steps. The pass learns, and then reads
@@ -111,8 +111,8 @@ pub fn calls_are_run()
 
 /// Closing a store is the last step. It determines what then holds for the passes and the journal.
 pub fn close_is_step()
-    ensures { (count : ℕ) (log : List Entry) (passes : List Knowledge) → IsClosed count log passes
-        → Closes volume log (map view_of passes) }
+    ensures { (first : State) (count : ℕ) (log : List Entry) (passes : List Knowledge)
+        → IsClosed first count log passes → Closes volume first log (map view_of passes) }
 {}
 
 /// The journal that `close` returns explains all runs of its passes. `given` states this for any
@@ -120,12 +120,12 @@ pub fn close_is_step()
 /// since it was new. The resulting runs have the numbers of the passes, the steps of their calls,
 /// and the views that the passes had after each step and at the end.
 pub fn one_history()
-    ensures given { (count : ℕ) (log : List Entry) (passes : List Knowledge)
-        (runs : List (PassRun volume)) → IsClosed count log passes
+    ensures given { (first : State) (count : ℕ) (log : List Entry) (passes : List Knowledge)
+        (runs : List (PassRun volume)) → IsClosed first count log passes
         → map (λ (r : PassRun volume). r.last) runs ≡ map view_of passes
-        → IsOneHistory volume log runs }
-    ensures made { (count : ℕ) (log : List Entry) (passes : List PassCalls)
-        → IsClosed count log (map (λ (p : PassCalls). p.last) passes)
+        → IsOneHistory volume first log runs }
+    ensures made { (first : State) (count : ℕ) (log : List Entry) (passes : List PassCalls)
+        → IsClosed first count log (map (λ (p : PassCalls). p.last) passes)
         → (runs : List (PassRun volume))
         × (map (λ (r : PassRun volume). r.number) runs
         ≡ map (λ (p : PassCalls). p.first.number) passes)
@@ -133,5 +133,5 @@ pub fn one_history()
         × (map (views_of volume) runs ≡ map views_known passes)
         × (map (λ (r : PassRun volume). r.last) runs
         ≡ map view_of (map (λ (p : PassCalls). p.last) passes))
-        × IsOneHistory volume log runs }
+        × IsOneHistory volume first log runs }
 {}

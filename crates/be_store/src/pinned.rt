@@ -6,10 +6,13 @@
 ghost use Rattle.std.specs.Prelude.{◌≡◌, ◌⊎◌, ◌<◌, ◌≤◌, ◌++◌, ◌*◌, ◌^◌, ℕ, true, false, [], None};
 ghost use Rattle.std.specs.Prelude.{Ok, IsOk, IfOk, IfErr, IfNone, IfSome, OnErr, OnOk, length};
 ghost use Rattle.std.specs.Prelude.{map as each};
+ghost use Rattle.std.specs.Coded.{codes};
+ghost use Rattle.be_table.specs.Setting.{coded_setting};
 ghost use Rattle.be_store.specs.Imports.{are_places, attribute, attributes_at, chosen, covered};
 ghost use Rattle.be_store.specs.Imports.{covers, cursor_bytes, from_number, given, has_index};
-ghost use Rattle.be_store.specs.Imports.{index_kind, index_kinds, left, name_in, nodes_from, page};
-ghost use Rattle.be_store.specs.Imports.{page_with, pinned_number, scan, Answers, IsAnyOf};
+ghost use Rattle.be_store.specs.Imports.{index_kind, index_kinds, is_held, left, name_in};
+ghost use Rattle.be_store.specs.Imports.{nodes_from, page, page_with, pinned_number, scan};
+ghost use Rattle.be_store.specs.Imports.{Answers, IsAnyOf};
 ghost use Rattle.be_store.specs.Imports.{IsReadInto, IsSeatOf, IsStrictlyIncreasing, NotCovered};
 ghost use Rattle.be_store.specs.Imports.{OutOfMemory, ReportsColumns};
 ghost use Rattle.be_store.specs.Finding.{FailsWith, FindsAtPin};
@@ -35,7 +38,7 @@ pub struct Pinned<'a> {
     store: &'a Store,
     pass: &'a mut Pass,
     number: u64,
-    ghost seat: { IsSeatOf store.now pass.now },
+    ghost seat: { IsSeatOf store.now pass.now } by { Prim.hlevel (codes, coded_setting) },
     ghost between: { IsAtRest store.now pass.now } by { IsAtRest-prop store.now pass.now },
 }
 
@@ -201,6 +204,15 @@ impl Pinned<'_> {
         ensures value { result ≡ attribute (volume_pinned self.old.pass.now.knows) node name.now }
     {
         self.store.get(self.pass, node, name)
+    }
+
+    /// Equivalent to `Store::is_held`.
+    pub fn is_held(&mut self, alloc: Global, node: u64, name: &Name) -> bool
+        requires pinned { (n : ℕ) × IsPinnedTo self.old.pass.now.knows n }
+        ensures read { HasReadThrough self.old self.new }
+        ensures held { result ≡ is_held (volume_pinned self.old.pass.now.knows) node name.now }
+    {
+        self.store.is_held(alloc, self.pass, node, name)
     }
 
     /// Equivalent to `Store::columns`.

@@ -1,11 +1,12 @@
-//! Reads the operations that rebuild a version, through any page reader.
+//! Reads the operations that rebuild a version, and what its indices hold, through any page reader.
 ghost use Rattle.std.specs.Prelude.{◌≡◌, ◌<◌, ◌≤◌, ◌++◌, [], IfNone, IfOk, IfSome, length};
-ghost use Rattle.be_store.specs.Imports.{given, left, IsVersion, State};
+ghost use Rattle.be_store.specs.Imports.{given, is_held, left, IsVersion, State};
 
 use be_paged::whole;
 use be_pages::Look;
+use be_value::Name;
 use be_volume::Op;
-use be_volume_state::{Place, next_list};
+use be_volume_state::{Place, Whole, next_list};
 use std::alloc::{AllocError, Global};
 
 /// Returns the next list of a version's operations, and gives the reader back.
@@ -29,4 +30,22 @@ pub(crate) fn read_on<L: Look>(
     let mut reader = whole(alloc, look, version_page);
     let list = next_list(&mut reader, place);
     (reader.into_look(), list)
+}
+
+/// Returns `true` if the index of that name has the node in a version, and gives the reader back.
+pub(crate) fn held_in<L: Look>(
+    alloc: Global,
+    look: L,
+    version_page: u64,
+    node: u64,
+    name: &Name,
+) -> (L, bool)
+    ghost volume: { State }
+    requires version { IsVersion (L.page_state look) (L.words look) version_page volume }
+    ensures held { result.1 ≡ is_held volume node name.now }
+    ensures kept { L.kept result.0 ≡ L.kept look }
+{
+    let mut reader = whole(alloc, look, version_page);
+    let is_held = reader.is_held(node, name);
+    (reader.into_look(), is_held)
 }

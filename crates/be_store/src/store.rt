@@ -9,7 +9,7 @@ ghost use Rattle.be_store.specs.Passes.{IsPassOf, IsPinnedTo, HasRead, volume_pi
 use crate::answers::Answer;
 use crate::asking::{ask, ask_into, ask_prepared, choose_at};
 use crate::entries::entries_from;
-use crate::states::read_on;
+use crate::states::{held_in, read_on};
 use crate::tries::{back_off, longer, was_busy};
 use crate::writing::write;
 use crate::{Limits, Pass};
@@ -18,12 +18,13 @@ use be_journal::{Entry, Journal};
 use be_paged::{attrs, first_page, get, indices, next, nodes};
 use be_plan::{Cover, PreparedQuery};
 use be_query::Query;
-use be_table::{PinnedLook, Status, VersionTable, Witness, Writing};
+use be_table::{PinnedLook, Setting, Status, VersionTable, Witness, Writing};
 use be_value::{Kind, Name, Refusal, Value};
-use be_volume::{Done, Op};
+use be_volume::{Done, Op, Volume};
 use be_volume_state::Place;
 use std::alloc::Global;
 use std::marker::Model;
+use std::snapshot::Snapshot;
 
 /// A shared store. A pass may be used only with the store that created it.
 #[derive(Drop)]
@@ -33,23 +34,29 @@ pub struct Store {
 
 impl Model for Store {
     ghost use Rattle.be_store.specs.Imports.{Opened};
+    ghost use Rattle.be_store.specs.Live.{coded_opened};
 
     ghost Value = { Opened };
+
+    ghost coded = { coded_opened };
 
     ghost view = { λ s. s.table };
 }
 
 impl Store {
-    ghost use Rattle.std.specs.Prelude.{All};
+    ghost use Rattle.std.specs.Prelude.{◌+◌, ◌*◌, ◌^◌, All, slice_index};
+    ghost use Rattle.be_store.specs.Imports.{begins_empty, begins_with, pages_below, EncodesVolume};
+    ghost use Rattle.be_store.specs.Imports.{IsNumbered};
     ghost use Rattle.be_table.specs.declared.pass.Move.TheVariants as moves;
     ghost use Rattle.be_store.specs.Imports.{are_places, attribute, attributes_at, chosen, covered};
     ghost use Rattle.be_store.specs.Imports.{covers, entries, given, has_index, index_kinds};
-    ghost use Rattle.be_store.specs.Imports.{knows_of, left, longer, met, nodes_from, one_step_on};
-    ghost use Rattle.be_store.specs.Imports.{pinned_number, pinned_page_state, scan, unpins};
+    ghost use Rattle.be_store.specs.Imports.{is_held, knows_of, left, longer, met, nodes_from};
+    ghost use Rattle.be_store.specs.Imports.{one_step_on, pinned_number, pinned_page_state, scan};
+    ghost use Rattle.be_store.specs.Imports.{unpins};
     ghost use Rattle.be_store.specs.Imports.{with_history, word_of_page, AllAt, Answers, AreNew};
     ghost use Rattle.be_store.specs.Imports.{AreOfPasses, CanEncodeEach, FoundHeld, Has, HasTrace};
-    ghost use Rattle.be_store.specs.Imports.{IsLargeRefused, IsLegal, IsOpenRefused, IsPossible};
-    ghost use Rattle.be_store.specs.Imports.{IsStrictlyIncreasing};
+    ghost use Rattle.be_store.specs.Imports.{IsLargeRefused, IsLegalFrom, IsOpenRefused};
+    ghost use Rattle.be_store.specs.Imports.{IsPossible, IsStrictlyIncreasing};
     ghost use Rattle.be_store.specs.Imports.{IsVersion, IsWithin, IsWitnessOf, KeepsSeen, Moves};
     ghost use Rattle.be_store.specs.Imports.{NotCovered, OutOfMemory, StartsWith, TakesLock};
     ghost use Rattle.be_store.specs.Calls.{AreInOneTrace, HasWrites, ReadsFronts};
@@ -62,7 +69,7 @@ impl Store {
     /// allocates all pages, 4 KiB each, and briefly needs memory for a second copy of their words.
     pub fn open(alloc: Global, limits: Limits) -> Result<(Store, Vec<Pass>), Refusal>
         ensures { MatchResult result
-            (λ r. (r.0.limits ≡ limits) × (length r.1.items ≡ limits.passes)
+            (λ r. (r.0.limits ≡ begins_empty limits) × (length r.1.items ≡ limits.passes)
             × AreNew r.0 0 r.1.items × IsWithin limits)
             (λ e. IsOpenRefused limits e) }
     {
@@ -74,12 +81,44 @@ impl Store {
     /// large store, but for the greater height of its trees.
     pub fn open_large(alloc: Global, limits: Limits) -> Result<(Store, Vec<Pass>), Refusal>
         ensures { MatchResult result
-            (λ r. (r.0.limits ≡ limits) × (length r.1.items ≡ limits.passes)
+            (λ r. (r.0.limits ≡ begins_empty limits) × (length r.1.items ≡ limits.passes)
             × AreNew r.0 0 r.1.items × IsPossible limits)
             (λ e. IsLargeRefused limits e) }
     {
         let (table, seats) = VersionTable::open_large(alloc, limits, &first_page())?;
         Ok((Store { table }, seats))
+    }
+
+    /// Does what `open_large` does, for a store that begins with a given volume. `words` are all of
+    /// the store's words: 528 that are 0, and then 512 a page. The pages below `used` encode the
+    /// volume, from page 0 on. The only error is `OutOfMemory`.
+    pub fn open_with(
+        alloc: Global,
+        limits: Limits,
+        words: &[u64],
+        used: u64,
+        volume: Snapshot<Volume>,
+    ) -> Result<(Store, Vec<Pass>), Refusal>
+        requires limits { IsPossible limits }
+        requires used { used ≤ limits.pages }
+        requires numbers { IsNumbered volume.value × (volume.value.next ≤ 2 ^ 63) }
+        requires size { length words.now ≡ 528 + 512 * limits.pages }
+        requires blank { (k : ℕ) → k < 528 → slice_index words.now k ≡ 0 }
+        requires encoded { EncodesVolume (pages_below used) (word_of_page words.now) 0
+            volume.value }
+        ensures ok { IfOk result (λ r. (r.0.limits ≡ begins_with limits used volume.value)
+            × (length r.1.items ≡ limits.passes) × AreNew r.0 0 r.1.items) }
+        ensures err { IfErr result (λ e. e ≡ OutOfMemory) }
+    {
+        let (table, seats) = VersionTable::open_with(alloc, limits, words, used, volume)?;
+        Ok((Store { table }, seats))
+    }
+
+    /// Returns what the store was opened with, which only contracts see.
+    pub(crate) fn setting(&self) -> Snapshot<Setting>
+        ensures { result.value ≡ self.now.limits }
+    {
+        self.table.setting()
     }
 
     /// Takes the lock and returns an open write. The pass is blank until the caller puts back the
@@ -236,7 +275,7 @@ impl Store {
         requires pinned { (n : ℕ) × IsPinnedTo pass.old.knows n }
         ensures look { (result.0.table ≡ self.now) × (result.0.knows ≡ pass.old.knows) }
         ensures version { IsVersion (pinned_page_state result.0.knows)
-            (word_of_page result.0.knows.image) result.1 (volume_pinned pass.old.knows) }
+            (word_of_page result.0.knows.image) result.1 (volume_pinned result.0.knows) }
     {
         let page = pass.version_page();
         (self.table.pinned_look(pass.move_out()), page)
@@ -384,6 +423,23 @@ impl Store {
         let value = get(&mut look, page, node, name);
         *pass = look.into_seat();
         value
+    }
+
+    /// Returns `true` if the index with this name has the node in the pinned version. It then has
+    /// the node's attribute. `false` means that there is no such index, node or attribute, that the
+    /// attribute has another kind than the index, or that it was set before the index was created.
+    /// Costs one descent of the catalog and, if the node has the attribute, one of the index.
+    /// Allocates no memory.
+    pub fn is_held(&self, alloc: Global, pass: &mut Pass, node: u64, name: &Name) -> bool
+        requires pass { IsPassOf self.now pass.old }
+        requires pinned { (n : ℕ) × IsPinnedTo pass.old.knows n }
+        ensures pass { IsPassOf self.now pass.new × HasRead pass.old.knows pass.new.knows }
+        ensures held { result ≡ is_held (volume_pinned pass.old.knows) node name.now }
+    {
+        let (reader, page) = self.reader(pass);
+        let (reader, is_held) = held_in(alloc, reader, page, node, name);
+        *pass = reader.into_seat();
+        is_held
     }
 
     /// Returns the attributes of a node in the pinned version, sorted by the bytes of their names.
@@ -629,12 +685,12 @@ impl Store {
     pub fn close(self, passes: Vec<Pass>) -> Journal
         requires passes { AllAt self.id passes.items }
         requires all { (k : ℕ) → k < self.limits.passes → Has (map knows_of passes.items) k }
-        ensures legal { IsLegal result.entries }
+        ensures legal { IsLegalFrom self.limits.volume result.entries }
         ensures by { AreOfPasses self.limits.passes result.entries }
         ensures passes { KeepsSeen result.entries (map knows_of passes.items) }
         ensures writes { All (HasWrites result.entries) (map knows_of passes.items) }
         ensures reads { All (ReadsFronts result.entries) (map knows_of passes.items) }
-        ensures volumes { CanEncodeEach self.limits.pages result.entries }
+        ensures volumes { CanEncodeEach self.limits.pages self.limits.volume result.entries }
         ensures limit { result.limit ≡ self.limits.commits }
         ensures moves { AreInOneTrace self.limits (map knows_of passes.items) }
     {

@@ -5,12 +5,12 @@ use Rattle.std.specs.Prelude.{Result}
 use Rattle.std.specs.Result.{result_map_both}
 use Rattle.be_value.specs.declared.refusals.Refusal.{Refusal}
 use Rattle.be_volume.specs.Ahead.{state_after, reached}
-use Rattle.be_volume.specs.Volume.{State, empty, advance, step, steps}
+use Rattle.be_volume.specs.Volume.{State, advance, step, steps}
 use Rattle.be_volume.specs.declared.ops.Done.{Done}
 use Rattle.be_volume.specs.declared.ops.Op.{Op}
 use Rattle.be_volume.proofs.FactLemmas.{steps_bound}
 use Rattle.be_volume.proofs.StepLemmas.{refused_stays}
-use Rattle.be_journal.specs.Journal.{replay, Agrees, HasOperations}
+use Rattle.be_journal.specs.Journal.{replay_from, Agrees, HasOperations}
 use Rattle.be_journal.specs.declared.entries.Entry.{Entry}
 use Rattle.be_table.specs.History.{IsHistory}
 
@@ -47,6 +47,6 @@ replayed s (e ∷ es) are =
     omega (arith, entered s e.ops have.0, replayed (state_after s e.ops) es (All-tail HasOperations e es are))
 
 -- the next number after a journal is far below the maximum
-pub next_fits : (es : List Entry) → IsHistory es → length es < 4294967296 → (replay es).next + 64 < 2 ^ 64
+pub next_fits : (volume : State) (es : List Entry) → volume.next ≤ 2 ^ 63 → IsHistory volume es → length es < 4294967296 → (replay_from volume es).next + 64 < 2 ^ 64
 unfolding IsHistory
-next_fits es h short = omega (arith, short, replayed empty es h.1)
+next_fits volume es low h short = omega (arith, low, short, replayed volume es h.1)

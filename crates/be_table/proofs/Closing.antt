@@ -10,9 +10,9 @@ use Rattle.be_table.specs.declared.pass.Move.{Move}
 use Rattle.be_table.specs.Trace.{RunsTo, AllRest, HasTrace}
 use Rattle.be_journal.specs.declared.entries.Entry.{Entry}
 use Rattle.be_table.specs.declared.writer_state.WriterState.{WriterState}
-use Rattle.be_table.specs.declared.limits.Limits.{Limits}
+use Rattle.be_table.specs.Setting.{Setting as Limits}
 use Rattle.be_table.specs.declared.pass.Knowledge.{Knowledge}
-use Rattle.be_journal.specs.Journal.{IsLegal, Log}
+use Rattle.be_journal.specs.Journal.{IsLegalFrom, Log}
 use Rattle.be_table.specs.History.{AreOfPasses}
 use Rattle.be_table.specs.Laws.{ArrivalIsNoEvent}
 use Rattle.be_table.specs.Place.{SeatFacts}
@@ -39,8 +39,8 @@ all_kept limits b i (a ∷ v) f = (entries-start b.log a.seen f.0.seen, f.0.mine
 
 -- once all passes are in one seat, the slot holds the journal
 pub ends : (limits : Limits) (i : ℕ) (v : View) (words : List ℕ) (slots : List (Option WriterState)) → AllIdle v.passes → ((k : ℕ) → k < limits.passes → Has v.passes k) → Final (Seen (Shows limits) i v) words slots
-    → (writer_state : WriterState) × (get_elem? slots 0 ≡ some (Some writer_state)) × IsLegal writer_state.journal.entries × AreOfPasses limits.passes writer_state.journal.entries × KeepsSeen writer_state.journal.entries v.passes
-    × CanEncodeEach limits.pages writer_state.journal.entries × (writer_state.journal.limit ≡ limits.commits) × HasTrace limits v.passes
+    → (writer_state : WriterState) × (get_elem? slots 0 ≡ some (Some writer_state)) × IsLegalFrom limits.volume writer_state.journal.entries × AreOfPasses limits.passes writer_state.journal.entries × KeepsSeen writer_state.journal.entries v.passes
+    × CanEncodeEach limits.pages limits.volume writer_state.journal.entries × (writer_state.journal.limit ≡ limits.commits) × HasTrace limits v.passes
 ends limits i v words slots idle all f =
     let s = f.0 in let b = f.1.0.0 in let h = f.1.0.1 in let t = f.1.0.2 in
     let fit = (h.views i v f.1.1).0 in
@@ -49,10 +49,10 @@ ends limits i v words slots idle all f =
     let is = sym home.2.journal in (
       home.0,
       f.4 0 (Some home.0) (ap (λ hs. get_elem? hs 0) home.1),
-      subst IsLegal is (is_legal (entries b.log) h.sound.legal),
+      subst (IsLegalFrom limits.volume) is (is_legal limits.volume (entries b.log) h.sound.legal),
       subst (AreOfPasses limits.passes) is h.sound.by_passes,
       subst (λ l. KeepsSeen l v.passes) is (all_kept limits b i v.passes fit),
-      subst (CanEncodeEach limits.pages) is (log_encoded limits b h.sound),
+      subst (CanEncodeEach limits.pages limits.volume) is (log_encoded limits b h.sound),
       home.2.limit ∙ h.sound.commits,
       record { trace = t.0; runs = (t.1.words, b.world, t.1.runs); rests = t.1.rests i v f.1.1 },
     )
@@ -110,10 +110,10 @@ AllAt-parts id [] s h = (tt, h.0.0, h.0.1)
 AllAt-parts id (x ∷ ss) s h = let r = AllAt-parts id ss s h.1 in ((h.0, r.0), r.1, r.2)
 
 pub record Closes (limits : Limits) (known : List Knowledge) (journal : Log) : Type 0 where
-  pub legal : IsLegal journal.entries
+  pub legal : IsLegalFrom limits.volume journal.entries
   pub by_passes : AreOfPasses limits.passes journal.entries
   pub keeps : KeepsSeen journal.entries known
-  pub volumes : CanEncodeEach limits.pages journal.entries
+  pub volumes : CanEncodeEach limits.pages limits.volume journal.entries
   pub limit : journal.limit ≡ limits.commits
   pub traced : HasTrace limits known
 

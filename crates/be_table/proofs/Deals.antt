@@ -1,8 +1,8 @@
 -- Splitting and joining seats, and the rule at the start.
-use Rattle.std.proofs.Common.{◌≡◌, ◌≢◌, ◌⊎◌, ℕ, zero, suc, ◌+◌, ◌*◌, ◌<◌, ◌≤◌, ◌==◌, eqb, eq-eqb, ne_eqb, List, [], ◌∷◌, ◌++◌, map, length, take, set, false, true≢false, if◌then◌else◌, Option, Some, None, refl, sym, ap, ◌∙◌, subst, inl, inr, ⊎_elim, arith, IsTrue, nat_lt, ◌&&◌, not}
+use Rattle.std.proofs.Common.{◌≡◌, ◌≢◌, ◌⊎◌, ℕ, zero, suc, ◌+◌, ◌*◌, ◌<◌, ◌≤◌, eqb, eq-eqb, ne_eqb, List, [], ◌∷◌, ◌++◌, map, length, take, set, false, true≢false, if◌then◌else◌, Option, Some, None, refl, sym, ap, ◌∙◌, subst, inl, inr, ⊎_elim, arith, nat_lt, ◌&&◌, not}
 use Rattle.be_table.specs.declared.pass.View.{View}
 use Rattle.std.proofs.lemmas.Bool.{cases_lt}
-use borrow.Author.Tests.{lt-ltb, le-ltb}
+use borrow.Author.Tests.{lt-ltb, le-ltb, ltb-true}
 use Rattle.std.specs.Prelude.{slice_index}
 use mathlib.Core.Option.{some, some-injective, some-ne-none}
 use lib.ListN.{get_elem?}
@@ -17,18 +17,18 @@ use Rattle.be_core.proofs.Schedules.{first-sound}
 use Rattle.be_table.specs.declared.writer_state.WriterState.{WriterState}
 use Rattle.be_pages.specs.declared.page_pool.Place.{Place as PagePlace}
 use Rattle.be_pages.specs.declared.page_pool.Place.TheVariants.{Free, Current}
-use Rattle.be_table.specs.declared.limits.Limits.{Limits}
+use Rattle.be_table.specs.Setting.{Setting as Limits, IsSetting, pages_below}
 use Rattle.be_table.specs.declared.pass.Commit.{Commit}
 use Rattle.be_table.specs.declared.pass.Knowledge.{Knowledge}
 use Rattle.be_table.specs.declared.pass.Move.{Move}
 use Rattle.be_pages.specs.Place.{undone_place, place_of}
 use Rattle.be_table.specs.Laws.{SplitIsNoEvent, AttestIsNoEvent, JoinIsNoEvent}
 use Rattle.be_table.specs.WriterState.{ShowsPlaces, shows_free, shows_taken, retired_with}
-use Rattle.be_journal.specs.Journal.{replay}
-use Rattle.be_volume.specs.Volume.{empty}
+use Rattle.be_journal.specs.Journal.{replay_from}
+use Rattle.be_volume.specs.Volume.{State}
 use Rattle.be_table.specs.Versions.{in_pages, CanEncodeEach, EncodesVolume}
 use Rattle.be_table.specs.Place.{SeatFacts}
-use Rattle.be_table.specs.Rule.{alone, ViewFits, AreFronts, empty_view, witnessing, kept_seat, front_seat, undealt, writer_state_places, Board, IsPossible, IsSoundBoard, AreInside, reach_at, page_at, word_place, Fits, IsAbsent, AllFit, IsTrace, Shows, newcomer, newcomers, everyone, one_step_on, first_seat, other_seats, seats_together}
+use Rattle.be_table.specs.Rule.{alone, ViewFits, AreFronts, empty_view, witnessing, kept_seat, front_seat, undealt, writer_state_places, Board, IsSoundBoard, AreInside, OwnPages, reach_at, page_at, word_place, Fits, IsAbsent, AllFit, IsTrace, Shows, newcomer, newcomers, everyone, one_step_on, first_seat, other_seats, seats_together}
 use Rattle.be_table.specs.Seats.{IsReported}
 use Rattle.be_table.specs.Works.{AreNewAt}
 use Rattle.be_table.proofs.Histories.{starts_itself, by_pass-nil, legal-nil, below-nil}
@@ -237,25 +237,36 @@ unfolding newcomers
 newcomers-absent limits j k zero lt = tt
 newcomers-absent limits j k (suc n) lt = ((λ e. omega arith), newcomers-absent limits j (suc k) n (omega arith))
 
-some_page : (limits : Limits) → IsPossible limits → 0 < limits.pages
-some_page limits within = let w = within.some_pages in omega arith
+below_suc : (n p : ℕ) → has (pages_below n) p ≡ nat_lt p n → (p < n) ⊎ (n ≤ p) → (n < p) ⊎ (p ≤ n) → has (n ∷ pages_below n) p ≡ nat_lt p (suc n)
+below_suc n p h (inl lt) d = rw (ne_eqb n p (λ e. absurd (omega (arith, lt))), lt-ltb p (suc n) (omega (arith, lt))) (h ∙ lt-ltb p n lt)
+below_suc n p h (inr le) (inl past) = rw (ne_eqb n p (λ e. absurd (omega (arith, past))), le-ltb p (suc n) (omega (arith, past))) (h ∙ le-ltb p n le)
+below_suc n p h (inr le) (inr same) = rw (eq-eqb n p (omega (arith, le, same)), lt-ltb p (suc n) (omega (arith, same))) refl
 
--- version 0 has only page 0
-first_inside : (pages : ℕ) → 0 < pages → AreInside pages []
-first_inside pages positive zero zero le r = positive
-first_inside pages positive zero (suc p) le r = absurd (let e : has (0 ∷ []) (suc p) ≡ false = rw (ne_eqb 0 (suc p) (λ z. absurd (omega arith))) refl in cc)
-first_inside pages positive (suc n) p le r = absurd (omega arith)
+-- a page is among the pages below n if its number is below n
+pub has_below : (n p : ℕ) → has (pages_below n) p ≡ nat_lt p n
+has_below zero p = sym (le-ltb p 0 (omega arith))
+has_below (suc n) p = below_suc n p (has_below n p) (cases_lt p n) (cases_lt n p)
 
-first_own : (n : ℕ) → n ≤ 0 → IsTrue (has (reach_at [] n) (page_at [] n))
-first_own zero le = refl
-first_own (suc n) le = absurd (omega arith)
+-- version 0 has only pages below `used`
+first_inside : (limits : Limits) → IsSetting limits → AreInside limits []
+first_inside limits within zero p le r = let lt : p < limits.used = ltb-true p limits.used (sym (has_below limits.used p) ∙ r) in let fits = within.used_inside in omega (arith, lt)
+first_inside limits within (suc n) p le r = absurd (omega arith)
 
-none_encoded : (pages : ℕ) → CanEncodeEach pages []
+-- a version has at least its version page
+pub used_of : (used : ℕ) (words : ℕ → ℕ → ℕ) (volume : State) → EncodesVolume (pages_below used) words 0 volume → 0 < used
+used_of zero words volume h = absurd (true≢false (sym h.version.in_use))
+used_of (suc n) words volume h = omega arith
+
+first_own : (limits : Limits) → IsSetting limits → OwnPages limits []
+first_own limits within zero le = has_below limits.used 0 ∙ lt-ltb 0 limits.used within.some_used
+first_own limits within (suc n) le = absurd (omega arith)
+
+none_encoded : (pages : ℕ) (volume : State) → CanEncodeEach pages volume []
 unfolding CanEncodeEach
-none_encoded pages = λ n lt. absurd (omega (arith, lt))
+none_encoded pages volume = λ n lt. absurd (omega (arith, lt))
 
 abbrev first_board : Limits → List ℕ → Board
-first_board limits words = record { log = []; world = first_state limits.pages limits.passes limits.commits (λ p i. slice_index words (word_place p i)); seat_of = λ _. 0 }
+first_board limits words = record { log = []; world = first_state limits.pages limits.used limits.passes limits.commits (λ p i. slice_index words (word_place p i)); seat_of = λ _. 0 }
 
 newcomers_fit : (limits : Limits) (words : List ℕ) (k n : ℕ) → k + n ≡ limits.passes → AllFit limits (first_board limits words) 0 (newcomers limits 0 k n)
 unfolding newcomers
@@ -271,36 +282,32 @@ unfolding newcomers
 newcomers_rest limits k zero = tt
 newcomers_rest limits k (suc n) = (([], tt, refl), newcomers_rest limits (suc k) n)
 
-zero_first : (p : ℕ) → (p == 0) ≡ has (0 ∷ []) p
-zero_first zero = refl
-zero_first (suc p) = rw (ne_eqb 0 (suc p) (λ z. absurd (omega arith)), ne_eqb (suc p) 0 (λ z. absurd (omega arith))) refl
-
-pub begins : (limits : Limits) (words : List ℕ) (writer_state : WriterState) → IsPossible limits → length words ≡ 528 + 512 * limits.pages → ((k : ℕ) → k < 528 → slice_index words k ≡ 0)
+pub begins : (limits : Limits) (words : List ℕ) (writer_state : WriterState) → IsSetting limits → length words ≡ 528 + 512 * limits.pages → ((k : ℕ) → k < 528 → slice_index words k ≡ 0)
     → writer_state.journal.entries ≡ [] → writer_state.journal.limit ≡ limits.commits → writer_state.page ≡ 0 → length (writer_state_places writer_state) ≡ limits.pages → ShowsPlaces (writer_state_places writer_state) (first_board limits words).world → map undone_place (writer_state_places writer_state) ≡ (writer_state_places writer_state) → writer_state.left ≡ 0
-    → EncodesVolume (0 ∷ []) (in_pages (λ p i. slice_index words (word_place p i))) 0 empty
+    → EncodesVolume (pages_below limits.used) (in_pages (λ p i. slice_index words (word_place p i))) 0 limits.volume
     → Shows limits (opening words (Some writer_state ∷ []) (everyone limits))
 begins limits words writer_state within size blank none limit page count shown idle left first = (
   first_board limits words,
   record {
     table = record {
-      words = record { size = size; lock = blank 0 (omega arith); current = blank 8 (omega arith); announced = λ k lt. blank (16 + 8 * k) (let f = within.few in omega arith); pages = λ p i a b. refl; unused = λ k u. blank k u.0 };
+      words = record { size = size; lock = blank 0 (omega arith); current = blank 8 (omega arith); announced = λ k lt. blank (16 + 8 * k) (let f = within.limits.few in omega arith); pages = λ p i a b. refl; unused = λ k u. blank k u.0 };
       home = (writer_state, refl, record { journal = none; limit = limit; page = page; count = count; shown = shown; idle = idle; left = omega (arith, left) });
       version = refl;
     };
     sound = record {
       within = within;
-      legal = legal-nil;
+      legal = legal-nil limits.volume;
       by_passes = below-nil limits.passes;
       room = omega arith;
       page = omega arith;
-      inside = first_inside limits.pages (some_page limits within);
-      own_pages = first_own;
+      inside = first_inside limits within;
+      own_pages = first_own limits within;
       pages = refl;
       passes = refl;
       commits = refl;
       writer = λ h e. absurd (cc);
       reaches = λ n p le. reached n p le;
-      machine = first-sound limits.pages limits.passes limits.commits (λ p i. slice_index words (word_place p i)) (some_page limits within);
+      machine = first-sound limits.pages limits.used limits.passes limits.commits (λ p i. slice_index words (word_place p i)) within.used_inside;
       encoded = λ n le. encoded n le;
     };
     views = one;
@@ -312,12 +319,12 @@ begins limits words writer_state within size blank none limit page count shown i
     rested zero u e = subst (λ (x : View). AllRest [] x.passes) (some-injective (everyone limits) u e) (newcomers_rest limits 0 limits.passes)
     rested (suc j) u e = absurd (some-ne-none u (sym e))
 
-    encoded : (n : ℕ) → n ≤ 0 → EncodesVolume (reach_at [] n) (in_pages ((first_board limits words).world.image n)) (page_at [] n) (replay (take n []))
+    encoded : (n : ℕ) → n ≤ 0 → EncodesVolume (reach_at limits [] n) (in_pages ((first_board limits words).world.image n)) (page_at [] n) (replay_from limits.volume (take n []))
     encoded zero le = first
     encoded (suc n) le = absurd (omega arith)
 
-    reached : (n p : ℕ) → n ≤ 0 → (first_board limits words).world.reach n p ≡ has (reach_at [] n) p
-    reached zero p le = zero_first p
+    reached : (n p : ℕ) → n ≤ 0 → (first_board limits words).world.reach n p ≡ has (reach_at limits [] n) p
+    reached zero p le = sym (has_below limits.used p)
     reached (suc n) p le = absurd (omega arith)
 
     one : (j : ℕ) (u : View) → get_elem? (everyone limits ∷ []) j ≡ some u → ViewFits limits (first_board limits words) j u
@@ -345,8 +352,8 @@ newcomers-deal limits of i t k n v e = subst (λ u. Splits (Shows limits) i u (o
 abbrev pub Me2 : Type 0
 Me2 = Me (Option WriterState) View
 
-pub newcomer_reported : (limits : Limits) (t k : ℕ) → IsPossible limits → k < limits.passes → IsReported (newcomer limits t k) k 0
-newcomer_reported limits t k within lt = record { number_is = refl; seen_is = refl; writes = refl; pass = record { within = within; legal = legal-nil; number_below = lt; by_passes = below-nil limits.passes; room = omega arith; inside = first_inside limits.pages (some_page limits within); own_pages = first_own; volumes = none_encoded limits.pages; pin = tt; mine = by_pass-nil k; encoded = λ x n e. absurd (cc) } }
+pub newcomer_reported : (limits : Limits) (t k : ℕ) → IsSetting limits → k < limits.passes → IsReported (newcomer limits t k) k 0
+newcomer_reported limits t k within lt = record { number_is = refl; seen_is = refl; writes = refl; pass = record { within = within; legal = legal-nil limits.volume; number_below = lt; by_passes = below-nil limits.passes; room = omega arith; inside = first_inside limits within; own_pages = first_own limits within; volumes = none_encoded limits.pages limits.volume; pin = tt; mine = by_pass-nil k; encoded = λ x n e. absurd (cc) } }
 
 pub AreNewAt-push : (id : TableId) (limits : Limits) (k : ℕ) (ss : List SeatFacts) (s : SeatFacts) → AreNewAt id limits k ss → (s.blank ≡ false) × (s.table ≡ id) × (s.knows ≡ newcomer limits (k + length ss + 1) (k + length ss)) → AreNewAt id limits k (ss ++ s ∷ [])
 AreNewAt-push id limits k [] s h new = (subst (λ n. (s.blank ≡ false) × (s.table ≡ id) × (s.knows ≡ newcomer limits (n + 1) n)) (let e : k + length {A = SeatFacts} [] ≡ k = omega arith in e) new, tt)
@@ -362,20 +369,28 @@ pub newcomers-none : (limits : Limits) (t k n : ℕ) → n ≡ 0 → undealt lim
 unfolding newcomers
 newcomers-none limits t k n e = ap (undealt limits t k) e
 
--- page 0 is current, and all others are free
-pub first_places : (limits : Limits) (words : List ℕ) (places : List PagePlace) → IsPossible limits → length places ≡ limits.pages → ((q : ℕ) → q < 1 → place_of places q ≡ Current) → ((q : ℕ) → 1 ≤ q → q < limits.pages → place_of places q ≡ Free)
+-- the pages below `used` are current, and all others are free
+pub first_places : (limits : Limits) (words : List ℕ) (places : List PagePlace) → IsSetting limits → length places ≡ limits.pages → ((q : ℕ) → q < limits.used → place_of places q ≡ Current) → ((q : ℕ) → limits.used ≤ q → q < limits.pages → place_of places q ≡ Free)
     → ShowsPlaces places (first_board limits words).world × (map undone_place places ≡ places)
 first_places limits words places within count used unused = (record { free = λ p. (at p).0; taken = λ p. (at p).1; retired = λ p. (at p).2 }, sym (mapped undone_place refl places places refl (λ q lt. (at q).3)))
   where
-    at : (p : ℕ) → ((nat_lt p limits.pages && not (p == 0)) ≡ shows_free (place_of places p)) × (false ≡ shows_taken (place_of places p)) × (None ≡ retired_with (place_of places p)) × (place_of places p ≡ undone_place (place_of places p))
-    at zero = rw (used 0 (omega arith), lt-ltb 0 limits.pages (some_page limits within)) (refl, refl, refl, refl)
-    at (suc p) = elim (cases_lt (suc p) limits.pages) [
-      | inl lt ↦ rw (unused (suc p) (omega arith) lt, ne_eqb (suc p) 0 (λ z. absurd (omega arith)), lt-ltb (suc p) limits.pages lt) (refl, refl, refl, refl)
-      | inr le ↦ rw (get_or_past places (suc p) Current (omega (arith, le, count)), le-ltb (suc p) limits.pages le) (refl, refl, refl, refl)
+    Lies : ℕ → Type 0
+    Lies p = ((nat_lt p limits.pages && not (nat_lt p limits.used)) ≡ shows_free (place_of places p)) × (false ≡ shows_taken (place_of places p)) × (None ≡ retired_with (place_of places p)) × (place_of places p ≡ undone_place (place_of places p))
+
+    beyond : (p : ℕ) → limits.used ≤ p → (p < limits.pages) ⊎ (limits.pages ≤ p) → Lies p
+    beyond p past c = elim c [
+      | inl lt ↦ rw (unused p past lt, le-ltb p limits.used past, lt-ltb p limits.pages lt) (refl, refl, refl, refl)
+      | inr le ↦ rw (get_or_past places p Current (omega (arith, le, count)), le-ltb p limits.pages le) (refl, refl, refl, refl)
     ]
 
-pub begins_as : (limits : Limits) (words : List ℕ) (slots : List (Option WriterState)) (writer_state : WriterState) → slots ≡ Some writer_state ∷ [] → IsPossible limits → length words ≡ 528 + 512 * limits.pages → ((k : ℕ) → k < 528 → slice_index words k ≡ 0)
-    → writer_state.journal.entries ≡ [] → writer_state.journal.limit ≡ limits.commits → writer_state.page ≡ 0 → length (writer_state_places writer_state) ≡ limits.pages → ((q : ℕ) → q < 1 → place_of (writer_state_places writer_state) q ≡ Current) → ((q : ℕ) → 1 ≤ q → q < limits.pages → place_of (writer_state_places writer_state) q ≡ Free) → writer_state.left ≡ 0 → EncodesVolume (0 ∷ []) (in_pages (λ p i. slice_index words (word_place p i))) 0 empty → Shows limits (opening words slots (everyone limits))
+    at : (p : ℕ) → Lies p
+    at p = elim (cases_lt p limits.used) [
+      | inl lt ↦ rw (used p lt, lt-ltb p limits.used lt, lt-ltb p limits.pages (let fits = within.used_inside in omega (arith, lt))) (refl, refl, refl, refl)
+      | inr past ↦ beyond p past (cases_lt p limits.pages)
+    ]
+
+pub begins_as : (limits : Limits) (words : List ℕ) (slots : List (Option WriterState)) (writer_state : WriterState) → slots ≡ Some writer_state ∷ [] → IsSetting limits → length words ≡ 528 + 512 * limits.pages → ((k : ℕ) → k < 528 → slice_index words k ≡ 0)
+    → writer_state.journal.entries ≡ [] → writer_state.journal.limit ≡ limits.commits → writer_state.page ≡ 0 → length (writer_state_places writer_state) ≡ limits.pages → ((q : ℕ) → q < limits.used → place_of (writer_state_places writer_state) q ≡ Current) → ((q : ℕ) → limits.used ≤ q → q < limits.pages → place_of (writer_state_places writer_state) q ≡ Free) → writer_state.left ≡ 0 → EncodesVolume (pages_below limits.used) (in_pages (λ p i. slice_index words (word_place p i))) 0 limits.volume → Shows limits (opening words slots (everyone limits))
 begins_as limits words slots writer_state e within size blank none limit page count used unused left first =
     let x = first_places limits words (writer_state_places writer_state) within count used unused in
     subst (λ (xs : List (Option WriterState)). Shows limits (opening words xs (everyone limits))) (sym e) (begins limits words writer_state within size blank none limit page count x.0 x.1 left first)

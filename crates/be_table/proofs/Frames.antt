@@ -13,13 +13,14 @@ use Rattle.be_core.specs.declared.event.Phase.TheVariants.{Idle, Looked, Announc
 use Rattle.be_core.specs.Machine.{World, Writer, Sound, InTime, update, to, has, after_fill}
 use Rattle.be_core.proofs.Places.{update-same, test-other}
 use Rattle.be_table.specs.declared.writer_state.WriterState.{WriterState}
-use Rattle.be_table.specs.declared.limits.Limits.{Limits}
+use Rattle.be_table.specs.Setting.{Setting as Limits, IsSetting}
 use Rattle.be_table.specs.declared.pass.Commit.{Commit}
 use Rattle.be_table.specs.declared.pass.Knowledge.{Knowledge}
 use Rattle.be_journal.specs.declared.entries.Entry.{Entry}
-use Rattle.be_journal.specs.Journal.{by_pass, replay}
-use Rattle.be_table.specs.History.{StartsWith, AreOfPasses}
-use Rattle.be_table.specs.Rule.{alone, ViewFits, AreFronts, Board, entries, nothing, reach_at, page_at, lock_word, announce_word, word_place, PagesAgree, is_writer, known_writer, WordsAgree, IsHome, IsPossible, ReachesAgree, AreInside, IsSoundBoard, Holds, ImageIs, Fits, AllFit, ViewsFit, FitsBoard, one_step_on}
+use Rattle.be_journal.specs.Journal.{by_pass, replay_from}
+use Rattle.be_volume.specs.Volume.{State as Volume}
+use Rattle.be_table.specs.History.{StartsWith, AreOfPasses, IsHistory}
+use Rattle.be_table.specs.Rule.{alone, ViewFits, AreFronts, Board, entries, nothing, reach_at, page_at, lock_word, announce_word, word_place, PagesAgree, is_writer, known_writer, WordsAgree, IsHome, ReachesAgree, AreInside, OwnPages, IsSoundBoard, Holds, ImageIs, Fits, AllFit, ViewsFit, FitsBoard, one_step_on}
 use Rattle.be_table.specs.Steps.{IsPass, finds_held}
 use Rattle.be_table.specs.Reading.{word_of_page}
 use Rattle.be_table.specs.Versions.{in_pages, CanEncode, CanEncodeEach, EncodesVolume}
@@ -86,12 +87,12 @@ at_front [] more n lt = absurd (omega arith)
 at_front (c ∷ seen) more zero lt = refl
 at_front (c ∷ seen) more (suc n) lt = at_front seen more n (omega arith)
 
-pub reach-append : (seen more : List Commit) (n : ℕ) → n ≤ length seen → reach_at (seen ++ more) n ≡ reach_at seen n
-reach-append seen more zero le = refl
-reach-append seen more (suc n) le = ap (λ (c : Commit). c.reach) (at_front seen more n (omega arith))
+pub reach-append : (limits : Limits) (seen more : List Commit) (n : ℕ) → n ≤ length seen → reach_at limits (seen ++ more) n ≡ reach_at limits seen n
+reach-append limits seen more zero le = refl
+reach-append limits seen more (suc n) le = ap (λ (c : Commit). c.reach) (at_front seen more n (omega arith))
 
-pub reach-front : (log seen : List Commit) → StartsWith log seen → (n : ℕ) → n ≤ length seen → reach_at log n ≡ reach_at seen n
-reach-front log seen s n le = ap (λ l. reach_at l n) s.1 ∙ reach-append seen s.0 n le
+pub reach-front : (limits : Limits) (log seen : List Commit) → StartsWith log seen → (n : ℕ) → n ≤ length seen → reach_at limits log n ≡ reach_at limits seen n
+reach-front limits log seen s n le = ap (λ l. reach_at limits l n) s.1 ∙ reach-append limits seen s.0 n le
 
 pub page-append : (seen more : List Commit) (n : ℕ) → n ≤ length seen → page_at (seen ++ more) n ≡ page_at seen n
 page-append seen more zero le = refl
@@ -100,61 +101,62 @@ page-append seen more (suc n) le = ap (λ (c : Commit). c.page) (at_front seen m
 pub page-front : (log seen : List Commit) → StartsWith log seen → (n : ℕ) → n ≤ length seen → page_at log n ≡ page_at seen n
 page-front log seen s n le = ap (λ l. page_at l n) s.1 ∙ page-append seen s.0 n le
 
-inside-front : (pages : ℕ) (log seen : List Commit) → StartsWith log seen → AreInside pages log → AreInside pages seen
-inside-front pages log seen s h n p le r = h n p (let l = longer_seen log seen s in omega arith) (subst (λ l. IsTrue (has l p)) (sym (reach-front log seen s n le)) r)
+inside-front : (limits : Limits) (log seen : List Commit) → StartsWith log seen → AreInside limits log → AreInside limits seen
+inside-front limits log seen s h n p le r = h n p (let l = longer_seen log seen s in omega arith) (subst (λ l. IsTrue (has l p)) (sym (reach-front limits log seen s n le)) r)
 
 -- what holds for the journal also holds at each version that the pass has seen
-encoded_front : (log seen : List Commit) (words : ℕ → ℕ → ℕ) → StartsWith log seen → (n : ℕ) → n ≤ length seen → EncodesVolume (reach_at log n) words (page_at log n) (replay (take n (entries log)))
-    → EncodesVolume (reach_at seen n) words (page_at seen n) (replay (take n (entries seen)))
-encoded_front log seen words s n le h =
+encoded_front : (limits : Limits) (log seen : List Commit) (words : ℕ → ℕ → ℕ) → StartsWith log seen → (n : ℕ) → n ≤ length seen → EncodesVolume (reach_at limits log n) words (page_at log n) (replay_from limits.volume (take n (entries log)))
+    → EncodesVolume (reach_at limits seen n) words (page_at seen n) (replay_from limits.volume (take n (entries seen)))
+encoded_front limits log seen words s n le h =
     let more = entries-start log seen s in
     let front : take n (entries log) ≡ take n (entries seen) = ap (take n) more.1 ∙ take_front (entries seen) more.0 n (let l = length-map seen (λ (c : Commit). c.entry) in omega (arith, l, le)) in
-    subst (λ (q : List ℕ × ℕ × List Entry). EncodesVolume q.0 words q.1 (replay q.2)) (λ k. (reach-front log seen s n le k, page-front log seen s n le k, front k)) h
+    subst (λ (q : List ℕ × ℕ × List Entry). EncodesVolume q.0 words q.1 (replay_from limits.volume q.2)) (λ k. (reach-front limits log seen s n le k, page-front log seen s n le k, front k)) h
 
 -- the image of a pinned version encodes the volume
-pinned_encoded : (limits : Limits) (b : Board) (i : ℕ) (a : Knowledge) → IsSoundBoard limits b → Fits limits b i a → (x n : ℕ) → a.phase ≡ Pinned x n → EncodesVolume (reach_at a.seen n) (word_of_page a.image) (page_at a.seen n) (replay (take n (entries a.seen)))
+pinned_encoded : (limits : Limits) (b : Board) (i : ℕ) (a : Knowledge) → IsSoundBoard limits b → Fits limits b i a → (x n : ℕ) → a.phase ≡ Pinned x n → EncodesVolume (reach_at limits a.seen n) (word_of_page a.image) (page_at a.seen n) (replay_from limits.volume (take n (entries a.seen)))
 pinned_encoded limits b i a s f x n e =
     let low : (x ≤ n) × (n ≤ length a.seen) = subst (InTime (length a.seen)) e f.pin in
     let late : (x ≤ n) × (n ≤ b.world.current) = subst (InTime b.world.current) (f.phase ∙ e) (s.machine.in_time a.number) in
     let l = longer_seen b.log a.seen f.seen in
-    encoded_front b.log a.seen (word_of_page a.image) f.seen n low.1
-    (encodes_same (reach_at b.log n) (in_pages (b.world.image n)) (word_of_page a.image) (page_at b.log n) (replay (take n (entries b.log)))
+    encoded_front limits b.log a.seen (word_of_page a.image) f.seen n low.1
+    (encodes_same (reach_at limits b.log n) (in_pages (b.world.image n)) (word_of_page a.image) (page_at b.log n) (replay_from limits.volume (take n (entries b.log)))
     (λ q r. clipped (λ j. slice_index a.image (word_place q j)) (b.world.image n q) (λ j lt. f.image x n q j e (subst IsTrue (sym (s.reaches n q late.1)) r) lt))
     (s.encoded n (omega (arith, low.1, l))))
 
 -- the pages can encode the volume after each entry, and therefore after each entry of a prefix of
 -- the journal
-pub log_encoded : (limits : Limits) (b : Board) → IsSoundBoard limits b → CanEncodeEach limits.pages (entries b.log)
+pub log_encoded : (limits : Limits) (b : Board) → IsSoundBoard limits b → CanEncodeEach limits.pages limits.volume (entries b.log)
 unfolding CanEncodeEach
 log_encoded limits b s = λ n lt.
     let low : suc n ≤ length b.log = (let l = length-map b.log (λ (c : Commit). c.entry) in omega (arith, l, lt)) in record {
-      used = reach_at b.log (suc n);
+      used = reach_at limits b.log (suc n);
       words = b.world.image (suc n);
       page = page_at b.log (suc n);
       encoded = s.encoded (suc n) low;
       inside = λ p r. s.inside (suc n) p low r;
     }
 
-pub encoded_before : (pages : ℕ) (log seen : List Entry) → StartsWith log seen → CanEncodeEach pages log → CanEncodeEach pages seen
+pub encoded_before : (pages : ℕ) (volume : Volume) (log seen : List Entry) → StartsWith log seen → CanEncodeEach pages volume log → CanEncodeEach pages volume seen
 unfolding CanEncodeEach
-encoded_before pages log seen s all = λ n lt.
+encoded_before pages volume log seen s all = λ n lt.
     let front : take (suc n) log ≡ take (suc n) seen = ap (take (suc n)) s.1 ∙ take_front seen s.0 (suc n) (omega (arith, lt)) in
-    subst (λ (es : List Entry). CanEncode pages (replay es)) front (all n (let l = longer_seen log seen s in omega (arith, l, lt)))
+    subst (λ (es : List Entry). CanEncode pages (replay_from volume es)) front (all n (let l = longer_seen log seen s in omega (arith, l, lt)))
 
 pub is_pass : (limits : Limits) (b : Board) (i : ℕ) (a : Knowledge) → IsSoundBoard limits b → Fits limits b i a → IsPass a
 is_pass limits b i a s f = record {
-  within = subst IsPossible (sym f.limits_are) s.within;
-  legal = legal-front (entries b.log) (entries a.seen) (entries-start b.log a.seen f.seen) s.legal;
+  within = subst IsSetting (sym f.limits_are) s.within;
+  legal = subst (λ (l : Limits). IsHistory l.volume (entries a.seen)) (sym f.limits_are) (legal-front limits.volume (entries b.log) (entries a.seen) (entries-start b.log a.seen f.seen) s.legal);
   number_below = subst (λ (l : Limits). a.number < l.passes) (sym f.limits_are) f.number;
   by_passes = subst (λ (l : Limits). AreOfPasses l.passes (entries a.seen)) (sym f.limits_are) (below-front limits.passes (entries b.log) (entries a.seen) (entries-start b.log a.seen f.seen) s.by_passes);
   room = subst (λ (l : Limits). length a.seen ≤ l.commits) (sym f.limits_are) (let w = s.room in let l = longer_seen b.log a.seen f.seen in omega arith);
-  inside = subst (λ (l : Limits). AreInside l.pages a.seen) (sym f.limits_are) (inside-front limits.pages b.log a.seen f.seen s.inside);
-  own_pages = λ n le. subst (λ (q : List ℕ × ℕ). IsTrue (has q.0 q.1)) (λ k. (reach-front b.log a.seen f.seen n le k, page-front b.log a.seen f.seen n le k)) (s.own_pages n (let l = longer_seen b.log a.seen f.seen in omega arith));
-  volumes = subst (λ (l : Limits). CanEncodeEach l.pages (entries a.seen)) (sym f.limits_are)
-      (encoded_before limits.pages (entries b.log) (entries a.seen) (entries-start b.log a.seen f.seen) (log_encoded limits b s));
+  inside = subst (λ (l : Limits). AreInside l a.seen) (sym f.limits_are) (inside-front limits b.log a.seen f.seen s.inside);
+  own_pages = subst (λ (l : Limits). OwnPages l a.seen) (sym f.limits_are)
+      (λ n le. subst (λ (q : List ℕ × ℕ). IsTrue (has q.0 q.1)) (λ k. (reach-front limits b.log a.seen f.seen n le k, page-front b.log a.seen f.seen n le k)) (s.own_pages n (let l = longer_seen b.log a.seen f.seen in omega arith)));
+  volumes = subst (λ (l : Limits). CanEncodeEach l.pages l.volume (entries a.seen)) (sym f.limits_are)
+      (encoded_before limits.pages limits.volume (entries b.log) (entries a.seen) (entries-start b.log a.seen f.seen) (log_encoded limits b s));
   pin = f.pin;
   mine = f.own;
-  encoded = λ x n e. pinned_encoded limits b i a s f x n e;
+  encoded = λ x n e. subst (λ (l : Limits). EncodesVolume (reach_at l a.seen n) (word_of_page a.image) (page_at a.seen n) (replay_from l.volume (take n (entries a.seen)))) (sym f.limits_are) (pinned_encoded limits b i a s f x n e);
 }
 
 pub in_time_later : (c d : ℕ) (p : Phase) → c ≤ d → InTime c p → InTime d p
@@ -261,8 +263,8 @@ fits_world limits b w j x h p whole image f = record {
 pub not_other : (k j : ℕ) → j ≢ k → eqb k j ≡ false
 not_other k j ne = ne_eqb k j (λ q. ne (sym q))
 
-pub sound_world : (limits : Limits) (b : Board) (w : World) → IsSoundBoard limits b → w.pages ≡ b.world.pages → w.passes ≡ b.world.passes → w.commits ≡ b.world.commits → w.image ≡ b.world.image → ((h : Writer) → w.writer ≡ Some h → h.pass < limits.passes) → ReachesAgree w b.log → Sound w → IsSoundBoard limits (record b { world = w })
-sound_world limits b w h pages passes commits image writer reaches sound = record { within = h.within; legal = h.legal; by_passes = h.by_passes; room = h.room; page = h.page; inside = h.inside; own_pages = h.own_pages; pages = pages ∙ h.pages; passes = passes ∙ h.passes; commits = commits ∙ h.commits; writer = writer; reaches = reaches; machine = sound; encoded = λ n le. subst (λ (f : ℕ → ℕ → ℕ → ℕ). EncodesVolume (reach_at b.log n) (in_pages (f n)) (page_at b.log n) (replay (take n (entries b.log)))) (sym image) (h.encoded n le) }
+pub sound_world : (limits : Limits) (b : Board) (w : World) → IsSoundBoard limits b → w.pages ≡ b.world.pages → w.passes ≡ b.world.passes → w.commits ≡ b.world.commits → w.image ≡ b.world.image → ((h : Writer) → w.writer ≡ Some h → h.pass < limits.passes) → ReachesAgree limits w b.log → Sound w → IsSoundBoard limits (record b { world = w })
+sound_world limits b w h pages passes commits image writer reaches sound = record { within = h.within; legal = h.legal; by_passes = h.by_passes; room = h.room; page = h.page; inside = h.inside; own_pages = h.own_pages; pages = pages ∙ h.pages; passes = passes ∙ h.passes; commits = commits ∙ h.commits; writer = writer; reaches = reaches; machine = sound; encoded = λ n le. subst (λ (f : ℕ → ℕ → ℕ → ℕ). EncodesVolume (reach_at limits b.log n) (in_pages (f n)) (page_at b.log n) (replay_from limits.volume (take n (entries b.log)))) (sym image) (h.encoded n le) }
 
 home_phases : (o : Option Writer) (w : World) (phases : ℕ → Phase) (log : List Commit) (homes : List (mathlib.Core.Option.Option (Option WriterState))) → IsHome o w log homes → IsHome o (record w { phases = phases }) log homes
 home_phases None w phases log homes h = let x = h.2 in (h.0, h.1, record { journal = x.journal; limit = x.limit; page = x.page; count = x.count; shown = record { free = x.shown.free; taken = x.shown.taken; retired = x.shown.retired }; idle = x.idle; left = x.left })

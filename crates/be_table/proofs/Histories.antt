@@ -3,10 +3,11 @@ use Rattle.std.proofs.Common.{◌≡◌, ◌≢◌, ℕ, ◌<◌, eqb, eq-eqb, n
 use Rattle.std.proofs.lemmas.List.{append-nil}
 use Rattle.std.proofs.lemmas.List.Elements.{filter-append}
 use Rattle.be_journal.specs.declared.entries.Entry.{Entry}
-use Rattle.be_journal.specs.Journal.{replay, IsLegal, by_pass, Agrees, HasOperations}
+use Rattle.be_journal.specs.Journal.{replay_from, IsLegalFrom, by_pass, Agrees, HasOperations}
 use Rattle.be_journal.proofs.LegalLemmas.{legal_push, legal_front}
 use Rattle.std.proofs.lemmas.List.{get_or_append_left}
 use Rattle.std.proofs.lemmas.List.Elements.{All-nil, All-push}
+use Rattle.be_volume.specs.Volume.{State}
 use Rattle.be_table.specs.History.{StartsWith, AreOfPasses, IsHistory}
 
 pub starts_itself : {A : Type 0} (log : List A) → StartsWith log log
@@ -15,24 +16,24 @@ starts_itself log = ([], sym (append-nil log))
 pub starts_more : {A : Type 0} (log seen more : List A) → StartsWith log seen → StartsWith (log ++ more) seen
 starts_more log seen more s = (s.0 ++ more, ap (λ l. l ++ more) s.1 ∙ append_assoc seen s.0 more)
 
-pub legal-push : (log : List Entry) (e : Entry) → IsHistory log → Agrees (replay log) e → HasOperations e → IsHistory (log ++ e ∷ [])
+pub legal-push : (volume : State) (log : List Entry) (e : Entry) → IsHistory volume log → Agrees (replay_from volume log) e → HasOperations e → IsHistory volume (log ++ e ∷ [])
 unfolding IsHistory
-legal-push log e l d o = (legal_push log e l.0 d, All-push HasOperations log e l.1 o)
+legal-push volume log e l d o = (legal_push volume log e l.0 d, All-push HasOperations log e l.1 o)
 
-pub legal-front : (log seen : List Entry) → StartsWith log seen → IsHistory log → IsHistory seen
+pub legal-front : (volume : State) (log seen : List Entry) → StartsWith log seen → IsHistory volume log → IsHistory volume seen
 unfolding IsHistory
-legal-front log seen s l = (legal_front seen s.0 (subst IsLegal s.1 l.0), front seen s.0 (subst (All HasOperations) s.1 l.1))
+legal-front volume log seen s l = (legal_front volume seen s.0 (subst (IsLegalFrom volume) s.1 l.0), front seen s.0 (subst (All HasOperations) s.1 l.1))
   where
     front : (xs ys : List Entry) → All HasOperations (xs ++ ys) → All HasOperations xs
     front xs ys g = λ i d lt. subst HasOperations (get_or_append_left xs ys d i lt) (g i d (let l = length-append xs ys in omega arith))
 
-pub legal-nil : IsHistory []
+pub legal-nil : (volume : State) → IsHistory volume []
 unfolding IsHistory
-legal-nil = ((λ i entry lt. absurd (omega arith)), All-nil HasOperations)
+legal-nil volume = ((λ i entry lt. absurd (omega arith)), All-nil HasOperations)
 
-pub is_legal : (log : List Entry) → IsHistory log → IsLegal log
+pub is_legal : (volume : State) (log : List Entry) → IsHistory volume log → IsLegalFrom volume log
 unfolding IsHistory
-is_legal log l = l.0
+is_legal volume log l = l.0
 
 pub below-nil : (passes : ℕ) → AreOfPasses passes []
 unfolding AreOfPasses

@@ -13,7 +13,7 @@ use Rattle.be_core.proofs.Scans.{part-sound, whole-sound, all_swept}
 use Rattle.be_table.specs.declared.writer_state.WriterState.{WriterState}
 use Rattle.be_pages.specs.declared.page_pool.Place.{Place}
 use Rattle.be_pages.specs.declared.page_pool.Place.TheVariants.{Free, Reserved, Filled, Current, GivenUp, Retired}
-use Rattle.be_table.specs.declared.limits.Limits.{Limits}
+use Rattle.be_table.specs.Setting.{Setting as Limits}
 use Rattle.be_table.specs.declared.pass.Knowledge.{Knowledge}
 use Rattle.be_table.specs.declared.pass.Move.{Move}
 use Rattle.be_table.specs.declared.pass.Move.TheVariants.{Scan, Fill, Return}
@@ -112,7 +112,7 @@ module _ (limits : Limits) (slots i : ℕ) (a : Knowledge) (carried : List (ℕ 
       let v = b.world in
       let w : World = after_fill v p j x in
       let lp : p < v.pages = omega (arith, may.0, m.count) in
-      let few : v.passes ≤ 64 = rw h.sound.passes h.sound.within.few in
+      let few : v.passes ≤ 64 = rw h.sound.passes h.sound.within.limits.few in
       let in_hand : IsTrue (v.taken p || v.free p) = rw (m.shown.free p, m.shown.taken p) may.1 in (
         alone (fills a p j x),
         keeps,
@@ -232,7 +232,7 @@ module _ (limits : Limits) (slots i : ℕ) (a : Knowledge) (carried : List (ℕ 
       let x = slice_index s.words (word_place p 0) in
       let w : World = after_fill v p 0 x in
       let lv : p < v.pages = omega (arith, lp, m.count) in
-      let few : v.passes ≤ 64 = rw h.sound.passes h.sound.within.few in
+      let few : v.passes ≤ 64 = rw h.sound.passes h.sound.within.limits.few in
       let in_hand : IsTrue (v.taken p || v.free p) = rw (m.shown.free p, m.shown.taken p, is) refl in
       let found : x ≡ slice_index a.words (word_place p 0) = h.table.words.pages p 0 lv (omega arith) ∙ sym (m.words p 0 lv (omega arith)) in
       let stays : set a.words (word_place p 0) x ≡ a.words = ap (set a.words (word_place p 0)) found ∙ set-get_or a.words (word_place p 0) 0 in (
@@ -309,7 +309,7 @@ module _ (limits : Limits) (slots i : ℕ) (a : Knowledge) (carried : List (ℕ 
                     (record {
                       log = m.log;
                       writer = refl;
-                      turn = rw h.sound.passes h.sound.within.some_pass;
+                      turn = rw h.sound.passes h.sound.within.limits.some_pass;
                       count = length-map a.places (swept_place (lowest_then a n)) ∙ m.count;
                       shown = (let z = shows-sweep a.places v m.shown (lowest_then a n) in record { free = z.free; taken = z.taken; retired = z.retired });
                       size = m.size;
@@ -325,7 +325,7 @@ module _ (limits : Limits) (slots i : ℕ) (a : Knowledge) (carried : List (ℕ 
                     let count = length-map a.places (swept_place l) in
                     let inside : p < v.pages = omega (arith, lp, count, m.count) in
                     let x = all_swept v h.sound.machine (known_writer a) a.number j (refl, refl, unpublished) refl y.1 p inside
-                    (λ o lo hi. h.sound.reaches o p hi ∙ ap (λ g. has (reach_at g o) p) (sym m.log) ∙ un o (subst (λ q. q ≤ o) least lo) (let q = ap length m.log in let g = h.table.version in omega arith)) in
+                    (λ o lo hi. h.sound.reaches o p hi ∙ ap (λ g. has (reach_at limits g o) p) (sym m.log) ∙ ap (λ (l : Limits). has (reach_at l a.seen o) p) (sym fa.limits_are) ∙ un o (subst (λ q. q ≤ o) least lo) (let q = ap length m.log in let g = h.table.version in omega arith)) in
                     rw (z.free p, z.taken p) at (subst (λ l. IsTrue ((v.free p || is_below l (v.retired p)) || v.taken p)) least x),
                 mine,
               ),

@@ -55,8 +55,8 @@ module _ (xs : List Place) (few : length xs ≤ largest_pool) (none : (q : ℕ) 
   }
 
 -- when a write begins, it has the pages of the current version
-pub begun_version : (c : Knowledge) → ((q : ℕ) → page_state_among c.places q ≡ at_start (has (reach_at c.seen (length c.seen)) q)) → (page : ℕ) (volume : State)
-    → EncodesVolume (reach_at c.seen (length c.seen)) (word_of_page c.words) page volume → IsVersion (page_state_among c.places) (word_of_page c.words) page volume
+pub begun_version : (c : Knowledge) → ((q : ℕ) → page_state_among c.places q ≡ at_start (has (reach_at c.limits c.seen (length c.seen)) q)) → (page : ℕ) (volume : State)
+    → EncodesVolume (reach_at c.limits c.seen (length c.seen)) (word_of_page c.words) page volume → IsVersion (page_state_among c.places) (word_of_page c.words) page volume
 begun_version c begun page volume h = subst (λ (s : ℕ → PageState). IsVersion s (word_of_page c.words) page volume) (λ k q. sym (begun q) k) h.version
 
 -- what may happen to a page, of the version or not, while the version is replaced
@@ -78,10 +78,10 @@ pub kept_exactly : {S K : Type 0} (kept_of : S → K) (page_state_of : S → ℕ
 kept_exactly kept_of page_state_of words_of pages before now old new swaps begun exact once q = kept_once (has pages q) (exact q) (begun q) (once q) (swaps.each q)
 
 -- the same for an open write that began with a version and has created another
-module _ (old new : Work) (from page : ℕ) (volume made : State) (begun : (q : ℕ) → page_state_among old.knows.places q ≡ at_start (has (reach_at old.knows.seen (length old.knows.seen)) q))
-    (encoded : EncodesVolume (reach_at old.knows.seen (length old.knows.seen)) (word_of_page old.knows.words) from volume)
+module _ (old new : Work) (from page : ℕ) (volume made : State) (begun : (q : ℕ) → page_state_among old.knows.places q ≡ at_start (has (reach_at old.knows.limits old.knows.seen (length old.knows.seen)) q))
+    (encoded : EncodesVolume (reach_at old.knows.limits old.knows.seen (length old.knows.seen)) (word_of_page old.knows.words) from volume)
     (version : IsVersion (page_state_among new.knows.places) (word_of_page new.knows.words) page made)
     (swaps : Swaps open_of page_state_in_work words_of (reach (word_of_page old.knows.words) from) (reach (word_of_page new.knows.words) page) old new) where
   pub keeps_exactly : (q : ℕ) → (times q (reach (word_of_page new.knows.words) page) ≡ bit (state_is_kept (page_state_among new.knows.places q))) × (page_state_among new.knows.places q ≢ Taken)
-  keeps_exactly q = kept_exactly open_of page_state_in_work words_of (reach_at old.knows.seen (length old.knows.seen))
+  keeps_exactly q = kept_exactly open_of page_state_in_work words_of (reach_at old.knows.limits old.knows.seen (length old.knows.seen))
       (reach (word_of_page old.knows.words) from) (reach (word_of_page new.knows.words) page) old new swaps begun encoded.exact (reaches_once (page_state_among new.knows.places) (word_of_page new.knows.words) page made version) q

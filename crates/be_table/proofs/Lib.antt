@@ -29,3 +29,4 @@ pub mod Unused
 pub mod Worked
 pub mod Shares
 pub mod Announced
+pub mod Crosses

@@ -10,8 +10,8 @@ use Rattle.atomic_table.specs.Table.{keeps, takes, gives, step, carried_after, A
 use Rattle.be_core.specs.Machine.{has, World, Writer, MayLock, after_lock, after_unlock}
 use Rattle.be_core.proofs.Writers.{after_lock-sound, after_unlock-sound}
 use Rattle.be_table.specs.declared.writer_state.WriterState.{WriterState}
-use Rattle.be_table.specs.declared.limits.Limits.{Limits}
-use Rattle.be_journal.specs.Journal.{replay}
+use Rattle.be_table.specs.Setting.{Setting as Limits}
+use Rattle.be_journal.specs.Journal.{replay_from}
 use Rattle.be_table.specs.declared.pass.Commit.{Commit}
 use Rattle.be_table.specs.declared.pass.Knowledge.{Knowledge}
 use Rattle.be_table.specs.declared.pass.Move.TheVariants.{Lock, Unlock}
@@ -54,14 +54,14 @@ at_work limits s b i a h at writes =
     subst (λ (o : Option Writer). FitsBoard limits s (held_by b o) × Holds (held_by b o) a) r.writer (h, r)
 
 -- the table's words encode the volume after the journal
-now_encoded : (limits : Limits) (s : Table) (b : Board) → FitsBoard limits s b → EncodesVolume (reach_at b.log (length b.log)) (word_of_page s.words) (page_at b.log (length b.log)) (replay (entries b.log))
+now_encoded : (limits : Limits) (s : Table) (b : Board) → FitsBoard limits s b → EncodesVolume (reach_at limits b.log (length b.log)) (word_of_page s.words) (page_at b.log (length b.log)) (replay_from limits.volume (entries b.log))
 now_encoded limits s b h =
     let n = length b.log in let w = b.world in let version = h.table.version in
     let all : take n (entries b.log) ≡ entries b.log = ap (λ m. take m (entries b.log)) (sym (length-map b.log (λ (c : Commit). c.entry))) ∙ take_all (entries b.log) in
-    subst (λ es. EncodesVolume (reach_at b.log n) (word_of_page s.words) (page_at b.log n) (replay es)) all
-    (encodes_same (reach_at b.log n) (in_pages (w.image n)) (word_of_page s.words) (page_at b.log n) (replay (take n (entries b.log)))
+    subst (λ es. EncodesVolume (reach_at limits b.log n) (word_of_page s.words) (page_at b.log n) (replay_from limits.volume es)) all
+    (encodes_same (reach_at limits b.log n) (in_pages (w.image n)) (word_of_page s.words) (page_at b.log n) (replay_from limits.volume (take n (entries b.log)))
     (λ q r.
-    let reached : IsTrue (w.reach w.current q) = subst IsTrue (sym (h.sound.reaches w.current q (le_refl w.current) ∙ ap (λ m. has (reach_at b.log m) q) version)) r in
+    let reached : IsTrue (w.reach w.current q) = subst IsTrue (sym (h.sound.reaches w.current q (le_refl w.current) ∙ ap (λ m. has (reach_at limits b.log m) q) version)) r in
     let inside : q < w.pages = h.sound.machine.inside w.current q reached in
     clipped (λ j. slice_index s.words (word_place q j)) (w.image n q) (λ j lt. h.table.words.pages q j inside lt ∙ h.sound.machine.now q j reached ∙ ap (λ m. w.image m q j) version))
     (h.sound.encoded n (le_refl n)))
@@ -79,7 +79,7 @@ module _ (limits : Limits) (slots i : ℕ) (a : Knowledge) (carried : List (ℕ 
       let d : Board = record b { world = w } in
       let fa = (h.views i (alone a) at).0.0 in
       let below : k < b.world.passes = rw h.sound.passes fa.number in
-      let few : b.world.passes ≤ 64 = rw h.sound.passes h.sound.within.few in
+      let few : b.world.passes ≤ 64 = rw h.sound.passes h.sound.within.limits.few in
       let c = takes_lock a b.log (writer_state_places writer_state) s.words in
       let v = words_lock b.world (page_at b.log (length b.log)) s.words t.words (k + 1) w.writer few refl in
       let fc : Fits limits d i c = record {
@@ -93,7 +93,7 @@ module _ (limits : Limits) (slots i : ℕ) (a : Knowledge) (carried : List (ℕ 
         whole = λ _. record {
           log = refl;
           writer = ap (λ n. Some record { pass = k; scanned = 0; least = n; published = false }) t.version;
-          turn = rw h.sound.passes h.sound.within.some_pass;
+          turn = rw h.sound.passes h.sound.within.limits.some_pass;
           count = x.count;
           shown = record { free = x.shown.free; taken = λ p. sym (h.sound.machine.unheld refl p) ∙ x.shown.taken p; retired = x.shown.retired };
           size = t.words.size;
@@ -116,7 +116,7 @@ module _ (limits : Limits) (slots i : ℕ) (a : Knowledge) (carried : List (ℕ 
           },
           ((below, refl), refl),
         ),
-        (writer_state, b.log, s.words, (refl, fa.seen, is_pass limits d i c sd fc, record { journal = x.journal; limit = x.limit ∙ h.sound.commits ∙ ap (λ (l : Limits). l.commits) (sym fa.limits_are); page = x.page; places = refl; idle = x.idle; left = x.left; count = x.count ∙ h.sound.pages ∙ ap (λ (l : Limits). l.pages) (sym fa.limits_are); size = t.words.size ∙ ap (λ n. 528 + 512 * n) (h.sound.pages ∙ ap (λ (l : Limits). l.pages) (sym fa.limits_are)); begun = λ q. begun (writer_state_places writer_state) b.world h.sound.machine x.shown x.count (let few = h.sound.within.few_pages in let count = x.count in let pages = h.sound.pages in omega arith) x.idle q ∙ ap at_start (h.sound.reaches b.world.current q (le_refl b.world.current) ∙ ap (λ n. has (reach_at b.log n) q) t.version); encoded = now_encoded limits s b h })),
+        (writer_state, b.log, s.words, (refl, fa.seen, is_pass limits d i c sd fc, record { journal = x.journal; limit = x.limit ∙ h.sound.commits ∙ ap (λ (l : Limits). l.commits) (sym fa.limits_are); page = x.page; places = refl; idle = x.idle; left = x.left; count = x.count ∙ h.sound.pages ∙ ap (λ (l : Limits). l.pages) (sym fa.limits_are); size = t.words.size ∙ ap (λ n. 528 + 512 * n) (h.sound.pages ∙ ap (λ (l : Limits). l.pages) (sym fa.limits_are)); begun = λ q. begun (writer_state_places writer_state) b.world h.sound.machine x.shown x.count (let few = h.sound.within.limits.few_pages in let count = x.count in let pages = h.sound.pages in omega arith) x.idle q ∙ ap at_start (h.sound.reaches b.world.current q (le_refl b.world.current) ∙ ap (λ n. has (reach_at limits b.log n) q) t.version ∙ ap (λ (l : Limits). has (reach_at l b.log (length b.log)) q) (sym fa.limits_are)); encoded = subst (λ (l : Limits). EncodesVolume (reach_at l b.log (length b.log)) (word_of_page s.words) (page_at b.log (length b.log)) (replay_from l.volume (entries b.log))) (sym fa.limits_are) (now_encoded limits s b h) })),
       )
 
   taken : (o : Option Writer) (passes : ℕ) → lock_word o ≢ 0 → ((g : Writer) → o ≡ Some g → g.pass < passes) → is_writer o a.number ≡ false → (lock_word o ≢ a.number + 1) × (lock_word o < passes + 1)
@@ -166,7 +166,7 @@ module _ (limits : Limits) (slots i : ℕ) (a : Knowledge) (writer_state : Write
       let w : World = after_unlock b.world in
       let d : Board = record b { world = w } in
       let fa = (h.views i (alone a) at).0.0 in
-      let few : b.world.passes ≤ 64 = rw h.sound.passes h.sound.within.few in
+      let few : b.world.passes ≤ 64 = rw h.sound.passes h.sound.within.limits.few in
       let c = without_lock a in
       let v = words_lock b.world (page_at b.log (length b.log)) s.words t.words 0 None few refl in
       let shown = shows-unlock a.places b.world m.shown in

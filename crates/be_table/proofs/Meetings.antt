@@ -7,7 +7,7 @@ use native.Mathlib.Decide.{dec_lt}
 use borrow.Author.Tests.{lt-ltb, le-ltb}
 use Rattle.atomic_table.specs.Table.{Step, keeps, step, Allows, Splits}
 use Rattle.be_table.specs.declared.writer_state.WriterState.{WriterState}
-use Rattle.be_table.specs.declared.limits.Limits.{Limits}
+use Rattle.be_table.specs.Setting.{Setting as Limits}
 use Rattle.be_table.specs.declared.marks.PinnedVersion.{PinnedVersion}
 use Rattle.be_table.specs.declared.pass.Commit.{Commit}
 use Rattle.be_table.specs.declared.pass.Knowledge.{Knowledge}

@@ -7,7 +7,7 @@ use Rattle.be_core.specs.declared.event.Phase.TheVariants.{Idle, Looked, Announc
 use Rattle.be_core.specs.Machine.{World, InTime, to, has, phase_after_look, phase_after_announce, phase_after_look_again, after_look, after_announce, after_look_again, after_unpin}
 use Rattle.be_core.proofs.Readers.{after_look-sound, after_announce-sound, after_look_again-sound, after_unpin-sound}
 use Rattle.be_table.specs.declared.writer_state.WriterState.{WriterState}
-use Rattle.be_table.specs.declared.limits.Limits.{Limits}
+use Rattle.be_table.specs.Setting.{Setting as Limits}
 use Rattle.be_table.specs.declared.pass.Knowledge.{Knowledge}
 use Rattle.be_table.specs.Laws.{AllowsBy, IsLook, IsAnnounce, IsLookAgain, IsRead, IsUnpin}
 use Rattle.be_table.specs.declared.pass.Move.TheVariants.{Look, Announce, LookAgain, Unpin}
@@ -67,7 +67,7 @@ module _ (limits : Limits) (slots i : ℕ) (a : Knowledge) (carried : List (ℕ 
       let k = a.number in
       let low : x ≤ length a.seen = subst (InTime (length a.seen)) is fa.pin in
       let below : k < b.world.passes = rw h.sound.passes fa.number in
-      let few : b.world.passes ≤ 64 = rw h.sound.passes h.sound.within.few in
+      let few : b.world.passes ≤ 64 = rw h.sound.passes h.sound.within.limits.few in
       let looked : b.world.phases k ≡ Looked x = fa.phase ∙ is in
       let pq : phase_after_announce (b.world.phases k) ≡ Announced x = ap phase_after_announce looked in
       let one : x + 1 ≡ suc x = omega arith in
@@ -111,7 +111,7 @@ module _ (limits : Limits) (slots i : ℕ) (a : Knowledge) (carried : List (ℕ 
       let fa = (h.views i (alone a) at).0.0 in
       let k = a.number in
       let below : k < b.world.passes = rw h.sound.passes fa.number in
-      let few : b.world.passes ≤ 64 = rw h.sound.passes h.sound.within.few in
+      let few : b.world.passes ≤ 64 = rw h.sound.passes h.sound.within.limits.few in
       let r = fits_board_phase limits s b i a Idle Idle a.seen a.image (set s.words (16 + 8 * k) 0) refl h at
       (after_unpin-sound b.world h.sound.machine k (below, (x, n, fa.phase ∙ is)))
       (words_announce b.world (page_at b.log (length b.log)) s.words t.words k 0 Idle below few refl)
@@ -120,13 +120,13 @@ module _ (limits : Limits) (slots i : ℕ) (a : Knowledge) (carried : List (ℕ 
 
 module _ (limits : Limits) (slots i : ℕ) (a : Knowledge) (carried : List (ℕ × Option WriterState)) where
   -- a load of a word of a pinned version finds the word in its image
-  pub pinned_by : (x n p j : ℕ) → a.phase ≡ Pinned x n → IsTrue (has (reach_at a.seen n) p) → j < 512 → AllowsBy limits slots i (alone a, carried) (word_place p j) (λ n. n) (IsRead a.number n p j) (PinnedRead (step slots (word_place p j) 0 0 none) (alone a, carried))
+  pub pinned_by : (x n p j : ℕ) → a.phase ≡ Pinned x n → IsTrue (has (reach_at a.limits a.seen n) p) → j < 512 → AllowsBy limits slots i (alone a, carried) (word_place p j) (λ n. n) (IsRead a.number n p j) (PinnedRead (step slots (word_place p j) 0 0 none) (alone a, carried))
   pinned_by x n p j is reached lt s b h sized at fits =
       let t = h.table in
       let fa = (h.views i (alone a) at).0.0 in
       let low : (x ≤ n) × (n ≤ length a.seen) = subst (InTime (length a.seen)) is fa.pin in
       let more = longer_seen b.log a.seen fa.seen in
-      let here : IsTrue (has (reach_at b.log n) p) = subst (λ l. IsTrue (has l p)) (sym (reach-front b.log a.seen fa.seen n low.1)) reached in
+      let here : IsTrue (has (reach_at limits b.log n) p) = subst (λ l. IsTrue (has l p)) (sym (reach-front limits b.log a.seen fa.seen n low.1)) (subst (λ (l : Limits). IsTrue (has (reach_at l a.seen n) p)) fa.limits_are reached) in
       let inside : p < b.world.pages = rw h.sound.pages (h.sound.inside n p (omega (arith, low.1)) here) in
       let r : IsTrue (b.world.reach n p) = subst IsTrue (sym (h.sound.reaches n p (omega (arith, low.1, t.version)))) here in
       let found : slice_index s.words (word_place p j) ≡ b.world.image n p j = t.words.pages p j inside lt ∙ (h.sound.machine.pinned a.number x n p (fa.phase ∙ is) r).3 j in (
@@ -172,7 +172,7 @@ module _ (limits : Limits) (slots i : ℕ) (a : Knowledge) (carried : List (ℕ 
       (moving limits slots i a carried (16 + 8 * a.number) (λ _. 0) (λ n. Unpin a.number) (IsUnpin a.number) (λ h _. Unpinned (step slots (16 + 8 * a.number) 0 0 none) (alone (with_history a h), carried) 0) (λ n w. Unit {0}) (λ n. refl)
       (λ h. unpin_by limits slots i (with_history a h) carried x n is) (λ n v w g. (g, tt)) (λ h n r t. one_of a (unpins (with_history a h)) h carried r t refl refl))
 
-  pub pinned_as : (x n p j word : ℕ) → a.phase ≡ Pinned x n → IsTrue (has (reach_at a.seen n) p) → j < 512 → word ≡ word_place p j → Allows (Shows limits) slots i me word (λ n. n) (PinnedRead (step slots word 0 0 none) me)
+  pub pinned_as : (x n p j word : ℕ) → a.phase ≡ Pinned x n → IsTrue (has (reach_at a.limits a.seen n) p) → j < 512 → word ≡ word_place p j → Allows (Shows limits) slots i me word (λ n. n) (PinnedRead (step slots word 0 0 none) me)
   pinned_as x n p j word is r lt at =
       subst (λ (q : Me1 × ℕ). Allows (Shows limits) slots i q.0 q.1 (λ n. n) (PinnedRead (step slots q.1 0 0 none) q.0)) (λ k. (sym e k, sym at k))
       (resting limits slots i (alone a) carried (word_place p j) (λ n. n) (IsRead a.number n p j) (PinnedRead (step slots (word_place p j) 0 0 none) (alone a, carried)) (pinned_by limits slots i a carried x n p j is r lt)

@@ -54,7 +54,7 @@ unswept l (Retired r) h = retired (nat_lt r l) h
 -- if a whole scan leaves no page free, the write holds each page that belongs to no version from
 -- the lowest number on
 pub all_held : (old new : Work) (least : ℕ) → MakesScan old new least → ((p : ℕ) → p < length new.knows.places → place_of new.knows.places p ≢ Free)
-    → (p : ℕ) → p < length new.knows.places → NoCommitReaches new.knows.seen least p → IsTrue (has new.knows.held p)
+    → (p : ℕ) → p < length new.knows.places → NoCommitReaches new.knows.limits new.knows.seen least p → IsTrue (has new.knows.held p)
 all_held old new least h none p lp un =
     let x = in_hand_of (place_of new.knows.places p) (h.leaves p lp (λ n lo hi. un n (let e = h.lowest_is in omega arith) hi)) (none p lp) in
     let same : place_of new.knows.places p ≡ swept_place least (place_of old.knows.places p) = ap (λ l. place_of l p) h.places ∙ place-map (swept_place least) refl old.knows.places p in

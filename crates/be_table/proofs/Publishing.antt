@@ -12,12 +12,12 @@ use Rattle.be_journal.specs.declared.entries.Entry.{Entry}
 use Rattle.be_table.specs.declared.writer_state.WriterState.{WriterState}
 use Rattle.be_pages.specs.declared.page_pool.Place.{Place}
 use Rattle.be_pages.specs.declared.page_pool.Place.TheVariants.{Free, Reserved, Filled, Current, GivenUp, Retired}
-use Rattle.be_table.specs.declared.limits.Limits.{Limits}
+use Rattle.be_table.specs.Setting.{Setting as Limits}
 use Rattle.be_table.specs.declared.pass.Commit.{Commit}
 use Rattle.be_table.specs.declared.pass.Knowledge.{Knowledge}
 use Rattle.be_table.specs.declared.pass.Move.{Move}
 use Rattle.be_table.specs.declared.pass.Move.TheVariants.{Publish}
-use Rattle.be_journal.specs.Journal.{by_pass, replay}
+use Rattle.be_journal.specs.Journal.{by_pass, replay_from, Agrees}
 use Rattle.be_table.specs.History.{AreOfPasses, StartsWith, IsHistory}
 use Rattle.be_table.specs.Laws.{AllowsBy, IsPublish}
 use Rattle.be_pages.specs.Place.{retired_number, place_of, published_place}
@@ -129,11 +129,11 @@ module _ (xs : List Place) (w : World) (s : Sound w) (shown : ShowsPlaces xs w) 
   ]
 
 -- what an older version encodes
-older_encoded : (log : List Commit) (c : Commit) (words : ℕ → ℕ → ℕ) (n : ℕ) → n ≤ length log → EncodesVolume (reach_at log n) (in_pages words) (page_at log n) (replay (take n (entries log)))
-    → EncodesVolume (reach_at (log ++ c ∷ []) n) (in_pages words) (page_at (log ++ c ∷ []) n) (replay (take n (entries (log ++ c ∷ []))))
-older_encoded log c words n le h =
+older_encoded : (limits : Limits) (log : List Commit) (c : Commit) (words : ℕ → ℕ → ℕ) (n : ℕ) → n ≤ length log → EncodesVolume (reach_at limits log n) (in_pages words) (page_at log n) (replay_from limits.volume (take n (entries log)))
+    → EncodesVolume (reach_at limits (log ++ c ∷ []) n) (in_pages words) (page_at (log ++ c ∷ []) n) (replay_from limits.volume (take n (entries (log ++ c ∷ []))))
+older_encoded limits log c words n le h =
     let front : take n (entries (log ++ c ∷ [])) ≡ take n (entries log) = ap (take n) (entries-append log (c ∷ [])) ∙ take_front (entries log) (entries (c ∷ [])) n (let l = length-map log (λ (x : Commit). x.entry) in omega (arith, l, le)) in
-    subst (λ (q : List ℕ × ℕ × List Entry). EncodesVolume q.0 (in_pages words) q.1 (replay q.2)) (λ k. (sym (reach-append log (c ∷ []) n le) k, sym (page-append log (c ∷ []) n le) k, sym front k)) h
+    subst (λ (q : List ℕ × ℕ × List Entry). EncodesVolume q.0 (in_pages words) q.1 (replay_from limits.volume q.2)) (λ k. (sym (reach-append limits log (c ∷ []) n le) k, sym (page-append log (c ∷ []) n le) k, sym front k)) h
 
 -- a filled page belongs to the new version
 kept_filled : (xs : List Place) (v : ℕ) → v < length xs → place_of xs v ≡ Filled → IsTrue (has (pages_from is_of_next 0 xs) v)
@@ -185,7 +185,8 @@ module _ (limits : Limits) (slots i : ℕ) (a : Knowledge) (carried : List (ℕ 
       let log = b.log ++ commit ∷ [] in
       let d : Board = record { log = log; world = w; seat_of = b.seat_of } in
       let fa = (h.views i (alone a) at).0.0 in
-      let few : g.passes ≤ 64 = rw h.sound.passes h.sound.within.few in
+      let volume : a.limits.volume ≡ limits.volume = ap (λ (l : Limits). l.volume) fa.limits_are in
+      let few : g.passes ≤ 64 = rw h.sound.passes h.sound.within.limits.few in
       let version : g.current ≡ length b.log = h.table.version in
       let seen_is : length a.seen ≡ length b.log = ap length m.log in
       let long : length log ≡ suc (length b.log) = length-append b.log (commit ∷ []) ∙ (omega arith) in
@@ -201,7 +202,7 @@ module _ (limits : Limits) (slots i : ℕ) (a : Knowledge) (carried : List (ℕ 
       ) in
       let sound : Sound w = after_publish-sound g h.sound.machine a.number v given allowed in
       let page : page_at log (length log) ≡ v = ap (page_at log) long ∙ ap (λ (x : Commit). x.page) (at_end b.log commit) in
-      let newest : reach_at log (suc (length b.log)) ≡ commit.reach = ap (λ (x : Commit). x.reach) (at_end b.log commit) in
+      let newest : reach_at limits log (suc (length b.log)) ≡ commit.reach = ap (λ (x : Commit). x.reach) (at_end b.log commit) in
       let journal : entries log ≡ entries a.seen ++ e ∷ [] = entries-append b.log (commit ∷ []) ∙ ap (λ l. entries l ++ e ∷ []) (sym m.log) in
       let whole : take (suc (length b.log)) (entries log) ≡ entries a.seen ++ e ∷ [] = ap (λ k. take k (entries log)) (sym (length-map log (λ (x : Commit). x.entry) ∙ long)) ∙ take_all (entries log) ∙ journal in
       let older = λ (n : ℕ) (le : n ≤ g.current). test-other n (suc g.current) (λ z. absurd (omega arith)) in
@@ -224,47 +225,47 @@ module _ (limits : Limits) (slots i : ℕ) (a : Knowledge) (carried : List (ℕ 
       let below : e.by < limits.passes = subst (λ n. n < limits.passes) (sym may.by) fa.number in
       let sd : IsSoundBoard limits d = record {
         within = h.sound.within;
-        legal = subst IsHistory (sym journal) (legal-push (entries a.seen) e (subst (λ l. IsHistory (entries l)) (sym m.log) h.sound.legal) may.agrees may.operations);
+        legal = subst (IsHistory limits.volume) (sym journal) (legal-push limits.volume (entries a.seen) e (subst (λ l. IsHistory limits.volume (entries l)) (sym m.log) h.sound.legal) (subst (λ v. Agrees (replay_from v (entries a.seen)) e) volume may.agrees) may.operations);
         by_passes = subst (AreOfPasses limits.passes) (sym journal) (below-push limits.passes (entries a.seen) e (subst (λ l. AreOfPasses limits.passes (entries l)) (sym m.log) h.sound.by_passes) below);
         room = let z = may.room in omega arith;
-        page = subst (λ n. n < 4294967296) (sym page) (let z = h.sound.within.few_pages in let y = h.sound.pages in omega arith);
+        page = subst (λ n. n < 4294967296) (sym page) (let z = h.sound.within.limits.few_pages in let y = h.sound.pages in omega arith);
         inside = λ n p le r. elim (cases_lt n (suc (length b.log))) [
-          | inl lt ↦ h.sound.inside n p (omega arith) (subst (λ l. IsTrue (has l p)) (reach-append b.log (commit ∷ []) n (omega arith)) r)
+          | inl lt ↦ h.sound.inside n p (omega arith) (subst (λ l. IsTrue (has l p)) (reach-append limits b.log (commit ∷ []) n (omega arith)) r)
           | inr past ↦
               let at_new : n ≡ suc (length b.log) = omega arith in
-              let z = kept_inside a.places g h.sound.machine m.shown m.count p (subst (λ l. IsTrue (has l p)) (ap (reach_at log) at_new ∙ newest) r) in
+              let z = kept_inside a.places g h.sound.machine m.shown m.count p (subst (λ l. IsTrue (has l p)) (ap (reach_at limits log) at_new ∙ newest) r) in
               let y = h.sound.pages in let x = m.count in omega arith
         ];
         own_pages = λ n le. elim (cases_lt n (suc (length b.log))) [
-          | inl lt ↦ subst (λ (q : List ℕ × ℕ). IsTrue (has q.0 q.1)) (λ k. (sym (reach-append b.log (commit ∷ []) n (omega arith)) k, sym (page-append b.log (commit ∷ []) n (omega arith)) k)) (h.sound.own_pages n (omega arith))
+          | inl lt ↦ subst (λ (q : List ℕ × ℕ). IsTrue (has q.0 q.1)) (λ k. (sym (reach-append limits b.log (commit ∷ []) n (omega arith)) k, sym (page-append b.log (commit ∷ []) n (omega arith)) k)) (h.sound.own_pages n (omega arith))
           | inr past ↦
               let at_new : n ≡ suc (length b.log) = omega arith in
-              subst (λ (q : List ℕ × ℕ). IsTrue (has q.0 q.1)) (λ k. (sym (ap (reach_at log) at_new ∙ newest) k, sym (ap (page_at log) (at_new ∙ sym long) ∙ page) k)) (kept_filled a.places v may.inside may.filled)
+              subst (λ (q : List ℕ × ℕ). IsTrue (has q.0 q.1)) (λ k. (sym (ap (reach_at limits log) at_new ∙ newest) k, sym (ap (page_at log) (at_new ∙ sym long) ∙ page) k)) (kept_filled a.places v may.inside may.filled)
         ];
         pages = h.sound.pages;
         passes = h.sound.passes;
         commits = h.sound.commits;
         writer = λ k q. subst (λ (k : Writer). k.pass < limits.passes) (same_some _ _ q) fa.number;
         reaches = λ n p le. elim (cases_lt n (suc g.current)) [
-          | inl lt ↦ rw (test-other n (suc g.current) (λ z. absurd (omega arith))) (h.sound.reaches n p (omega arith) ∙ ap (λ l. has l p) (sym (reach-append b.log (commit ∷ []) n (omega arith))))
+          | inl lt ↦ rw (test-other n (suc g.current) (λ z. absurd (omega arith))) (h.sound.reaches n p (omega arith) ∙ ap (λ l. has l p) (sym (reach-append limits b.log (commit ∷ []) n (omega arith))))
           | inr past ↦
               let at_new : n ≡ suc g.current = omega arith in
-              subst (λ n. w.reach n p ≡ has (reach_at log n) p) (sym at_new)
-              (ap (λ (f : ℕ → Bool). f p) (update-same g.reach (suc g.current) (λ p. (g.reach g.current p && not (has given p)) || g.taken p)) ∙ reach_new a.places g h.sound.machine m.shown m.count may.none_reserved p ∙ ap (λ l. has l p) (sym (ap (λ k. reach_at log (suc k)) version ∙ newest)))
+              subst (λ n. w.reach n p ≡ has (reach_at limits log n) p) (sym at_new)
+              (ap (λ (f : ℕ → Bool). f p) (update-same g.reach (suc g.current) (λ p. (g.reach g.current p && not (has given p)) || g.taken p)) ∙ reach_new a.places g h.sound.machine m.shown m.count may.none_reserved p ∙ ap (λ l. has l p) (sym (ap (λ k. reach_at limits log (suc k)) version ∙ newest)))
         ];
         machine = sound;
         encoded = λ n le. elim (cases_lt n (suc (length b.log))) [
-          | inl lt ↦ rw (test-other n (suc g.current) (λ z. absurd (omega arith))) (older_encoded b.log commit (g.image n) n (omega arith) (h.sound.encoded n (omega arith)))
+          | inl lt ↦ rw (test-other n (suc g.current) (λ z. absurd (omega arith))) (older_encoded limits b.log commit (g.image n) n (omega arith) (h.sound.encoded n (omega arith)))
           | inr past ↦
               let at_new : n ≡ suc (length b.log) = omega arith in
-              subst (λ n. EncodesVolume (reach_at log n) (in_pages (w.image n)) (page_at log n) (replay (take n (entries log)))) (sym at_new)
-              (subst (λ (q : List ℕ × (ℕ → ℕ → ℕ) × ℕ × List Entry). EncodesVolume q.0 (in_pages q.1) q.2 (replay q.3))
+              subst (λ n. EncodesVolume (reach_at limits log n) (in_pages (w.image n)) (page_at log n) (replay_from limits.volume (take n (entries log)))) (sym at_new)
+              (subst (λ (q : List ℕ × (ℕ → ℕ → ℕ) × ℕ × List Entry). EncodesVolume q.0 (in_pages q.1) q.2 (replay_from limits.volume q.3))
               (λ k. (sym newest k, sym (ap w.image (ap suc (sym version)) ∙ update-same g.image (suc g.current) g.words) k, sym (ap (page_at log) (sym long) ∙ page) k, sym whole k))
-              (encodes_same commit.reach (word_of_page a.words) (in_pages g.words) v (replay (entries a.seen ++ e ∷ []))
+              (encodes_same commit.reach (word_of_page a.words) (in_pages g.words) v (replay_from limits.volume (entries a.seen ++ e ∷ []))
               (λ q r.
               let z = kept_inside a.places g h.sound.machine m.shown m.count q r in
               clipped (g.words q) (λ j. slice_index a.words (word_place q j)) (λ j lt. sym (m.words q j (omega (arith, z, m.count)) lt)))
-              may.encoded))
+              (subst (λ x. EncodesVolume commit.reach (word_of_page a.words) v (replay_from x (entries a.seen ++ e ∷ []))) volume may.encoded)))
         ];
       } in (
         alone c,

@@ -1,5 +1,5 @@
 -- The moves of a table, as the machine's events.
-use Rattle.std.proofs.Common.{List, [], ◌∷◌, ◌++◌, refl, sym, subst, arith}
+use Rattle.std.proofs.Common.{List, [], ◌∷◌, ◌++◌, refl, sym, subst}
 use Rattle.be_core.specs.declared.event.Event.TheVariants as events
 use Rattle.be_core.specs.Machine.{World, Sound, first_state}
 use Rattle.be_core.proofs.Schedules.{first-sound, fill-sound, sound-protected}
@@ -40,8 +40,8 @@ run-sound w [] v s r = subst Sound (sym r) s
 run-sound w (m ∷ ms) v s r = run-sound (after_move w m) ms v (move-sound w m s r.0) r.1
 
 pub runs_are_sound : RunsAreSound
-runs_are_sound limits words ms w within r =
-    let s = run-sound _ ms w (first-sound limits.pages limits.passes limits.commits words (let some = within.some_pages in omega (arith, some))) r in
+runs_are_sound limits words ms w inside r =
+    let s = run-sound _ ms w (first-sound limits.pages limits.used limits.passes limits.commits words inside) r in
     (s, sound-protected w s)
 
 run-front : (w : World) (front rest : List Move) (v : World) → Run w (front ++ rest) v → (mid : World) × Run w front mid × Run mid rest v
@@ -49,4 +49,4 @@ run-front w [] rest v r = (w, refl, r)
 run-front w (m ∷ front) rest v r = let x = run-front (after_move w m) front rest v r.1 in (x.0, (r.0, x.1), x.2)
 
 pub fronts_run : FrontsRun
-fronts_run limits words front rest w r = run-front (first_state limits.pages limits.passes limits.commits words) front rest w r
+fronts_run limits words front rest w r = run-front (first_state limits.pages limits.used limits.passes limits.commits words) front rest w r

@@ -17,6 +17,7 @@ use Rattle.be_table.specs.declared.pass.Knowledge.{Knowledge}
 use Rattle.be_table.specs.Counts.{count_below, is_reached, reached}
 use Rattle.be_table.specs.Reading.{page_state_among, page_state_at}
 use Rattle.be_table.specs.Rule.{largest_pool, reach_at}
+use Rattle.be_table.specs.Setting.{Setting as Limits}
 use Rattle.be_table.specs.Steps.{NoCommitReaches}
 use Rattle.be_table.specs.Versions.{EncodesVolume}
 use Rattle.be_table.specs.Works.{HoldsStill, IsSpent}
@@ -79,29 +80,29 @@ right_false true b e = cc
 right_false false b e = e
 
 -- a page that isn't reached belongs to none of the versions
-unreached : (seen : List Commit) (first k j p : ℕ) → is_reached seen first k p ≡ false → j < k → has (reach_at seen (first + j)) p ≡ false
-unreached seen first zero j p e lt = absurd (omega (arith, lt))
-unreached seen first (suc k) j p e lt = elim (cases_eq j k) [
-  | inl same ↦ ap (λ i. has (reach_at seen (first + i)) p) same ∙ left_false (has (reach_at seen (first + k)) p) (is_reached seen first k p) e
-  | inr ne ↦ unreached seen first k j p (right_false (has (reach_at seen (first + k)) p) (is_reached seen first k p) e) (omega (arith, ne, lt))
+unreached : (limits : Limits) (seen : List Commit) (first k j p : ℕ) → is_reached limits seen first k p ≡ false → j < k → has (reach_at limits seen (first + j)) p ≡ false
+unreached limits seen first zero j p e lt = absurd (omega (arith, lt))
+unreached limits seen first (suc k) j p e lt = elim (cases_eq j k) [
+  | inl same ↦ ap (λ i. has (reach_at limits seen (first + i)) p) same ∙ left_false (has (reach_at limits seen (first + k)) p) (is_reached limits seen first k p) e
+  | inr ne ↦ unreached limits seen first k j p (right_false (has (reach_at limits seen (first + k)) p) (is_reached limits seen first k p) e) (omega (arith, ne, lt))
 ]
 
-no_commit : (seen : List Commit) (least p : ℕ) → is_reached seen least (suc (length seen) - least) p ≡ false → NoCommitReaches seen least p
-no_commit seen least p e = λ n above below.
+no_commit : (limits : Limits) (seen : List Commit) (least p : ℕ) → is_reached limits seen least (suc (length seen) - least) p ≡ false → NoCommitReaches limits seen least p
+no_commit limits seen least p e = λ n above below.
     let j = n - least in
     let is : least + j ≡ n = omega (arith, above) in
-    ap (λ i. has (reach_at seen i) p) (sym is) ∙ unreached seen least (suc (length seen) - least) j p e (omega (arith, above, below))
+    ap (λ i. has (reach_at limits seen i) p) (sym is) ∙ unreached limits seen least (suc (length seen) - least) j p e (omega (arith, above, below))
 
 module _ (a : Knowledge) (least : ℕ) (spent : IsSpent a least) where
-  counted : (p : ℕ) → p < a.limits.pages → 1 ≤ bit (is_reached a.seen least (suc (length a.seen) - least) p) + bit (has a.held p)
-  counted p lt = by (is_reached a.seen least (suc (length a.seen) - least) p) refl
+  counted : (p : ℕ) → p < a.limits.pages → 1 ≤ bit (is_reached a.limits a.seen least (suc (length a.seen) - least) p) + bit (has a.held p)
+  counted p lt = by (is_reached a.limits a.seen least (suc (length a.seen) - least) p) refl
     where
-      by : (b : Bool) → is_reached a.seen least (suc (length a.seen) - least) p ≡ b → 1 ≤ bit b + bit (has a.held p)
+      by : (b : Bool) → is_reached a.limits a.seen least (suc (length a.seen) - least) p ≡ b → 1 ≤ bit b + bit (has a.held p)
       by true e = omega arith
-      by false e = omega (arith, ap bit (spent.1 p lt (no_commit a.seen least p e)))
+      by false e = omega (arith, ap bit (spent.1 p lt (no_commit a.limits a.seen least p e)))
 
-  pub shared : a.limits.pages ≤ reached a.seen least a.limits.pages + count_below (has a.held) a.limits.pages
-  shared = all_counted (is_reached a.seen least (suc (length a.seen) - least)) (has a.held) a.limits.pages counted
+  pub shared : a.limits.pages ≤ reached a.limits a.seen least a.limits.pages + count_below (has a.held) a.limits.pages
+  shared = all_counted (is_reached a.limits a.seen least (suc (length a.seen) - least)) (has a.held) a.limits.pages counted
 
 -- for the current version only
 false_right : (a : Bool) → (a || false) ≡ a
@@ -112,16 +113,16 @@ same_tests : (f g : ℕ → Bool) (n : ℕ) → ((p : ℕ) → f p ≡ g p) → 
 same_tests f g zero same = refl
 same_tests f g (suc n) same = omega (arith, ap bit (same n), same_tests f g n same)
 
-pub shared_now : (a : Knowledge) → IsSpent a (length a.seen) → a.limits.pages ≤ count_below (has (reach_at a.seen (length a.seen))) a.limits.pages + count_below (has a.held) a.limits.pages
+pub shared_now : (a : Knowledge) → IsSpent a (length a.seen) → a.limits.pages ≤ count_below (has (reach_at a.limits a.seen (length a.seen))) a.limits.pages + count_below (has a.held) a.limits.pages
 shared_now a spent =
     let now = length a.seen in
     let one : suc now - now ≡ 1 = omega arith in
-    let same : (p : ℕ) → is_reached a.seen now (suc now - now) p ≡ has (reach_at a.seen now) p = λ p.
-    ap (λ k. is_reached a.seen now k p) one ∙ false_right (has (reach_at a.seen (now + 0)) p) ∙ ap (λ i. has (reach_at a.seen i) p) (plus_none now) in
+    let same : (p : ℕ) → is_reached a.limits a.seen now (suc now - now) p ≡ has (reach_at a.limits a.seen now) p = λ p.
+    ap (λ k. is_reached a.limits a.seen now k p) one ∙ false_right (has (reach_at a.limits a.seen (now + 0)) p) ∙ ap (λ i. has (reach_at a.limits a.seen i) p) (plus_none now) in
     omega (
       arith,
       shared a now spent,
-      same_tests (is_reached a.seen now (suc now - now)) (has (reach_at a.seen now)) a.limits.pages same,
+      same_tests (is_reached a.limits a.seen now (suc now - now)) (has (reach_at a.limits a.seen now)) a.limits.pages same,
     )
   where
     plus_none : (n : ℕ) → n + 0 ≡ n

@@ -8,7 +8,7 @@ use Rattle.atomic_table.specs.Table.{Act, Valid, stepped, homes_after, carried_a
 use Rattle.atomic_table.proofs.Lists.{at_set}
 use Rattle.be_core.specs.Machine.{World}
 use Rattle.be_table.specs.declared.writer_state.WriterState.{WriterState}
-use Rattle.be_table.specs.declared.limits.Limits.{Limits}
+use Rattle.be_table.specs.Setting.{Setting as Limits}
 use Rattle.be_table.specs.declared.pass.Knowledge.{Knowledge}
 use Rattle.be_table.specs.declared.pass.Move.{Move}
 use Rattle.be_table.specs.Laws.{AllowsBy}

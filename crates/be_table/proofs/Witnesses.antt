@@ -3,7 +3,7 @@ use Rattle.std.proofs.Common.{◌≡◌, ℕ, List, [], length, false, Option, r
 use mathlib.Core.Option.{none}
 use Rattle.atomic_table.specs.Table.{keeps, step, Allows, Splits}
 use Rattle.be_table.specs.declared.writer_state.WriterState.{WriterState}
-use Rattle.be_table.specs.declared.limits.Limits.{Limits}
+use Rattle.be_table.specs.Setting.{Setting as Limits}
 use Rattle.be_table.specs.declared.pass.Commit.{Commit}
 use Rattle.be_table.specs.declared.pass.Knowledge.{Knowledge}
 use Rattle.be_table.specs.declared.pass.View.{View}

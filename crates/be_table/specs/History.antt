@@ -1,7 +1,8 @@
 -- What a pass has seen of a journal.
 use Rattle.std.specs.Prelude.{◌≡◌, ℕ, ◌<◌, List, [], ◌∷◌, ◌++◌, All}
-use Rattle.be_journal.specs.Journal.{IsLegal, HasOperations}
+use Rattle.be_journal.specs.Journal.{IsLegalFrom, HasOperations}
 use Rattle.be_journal.specs.declared.entries.Entry.{Entry}
+use Rattle.be_volume.specs.Volume.{State}
 
 -- log begins with seen
 abbrev pub StartsWith : {A : Type 0} → List A → List A → Type 0
@@ -12,6 +13,6 @@ unfoldable pub AreOfPasses : ℕ → List Entry → Type 0
 AreOfPasses passes [] = Unit {0}
 AreOfPasses passes (e ∷ es) = (e.by < passes) × AreOfPasses passes es
 
--- a legal journal of the program's operations
-unfoldable pub IsHistory : List Entry → Type 0
-IsHistory log = IsLegal log × All HasOperations log
+-- a journal of the program's operations that is legal from this volume on
+unfoldable pub IsHistory : State → List Entry → Type 0
+IsHistory volume log = IsLegalFrom volume log × All HasOperations log

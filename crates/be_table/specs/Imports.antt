@@ -1,7 +1,8 @@
 -- What the contracts of this crate cite of other crates' definitions.
 pub use Rattle.be_core.specs.Machine.{bit, has}
 pub use Rattle.be_core.specs.declared.event.Phase.TheVariants.{Pinned}
-pub use Rattle.be_journal.specs.Journal.{Agrees, Grows, IsLegal, extended, replay, with_room}
+pub use Rattle.be_journal.specs.Journal.{Agrees, Grows, IsLegalFrom, extended}
+pub use Rattle.be_journal.specs.Journal.{replay_from, with_room}
 pub use Rattle.be_journal.specs.Text.{lines_from}
 pub use Rattle.be_journal.specs.declared.entries.Entry.{Entry}
 pub use Rattle.be_paged_reading.specs.Page.{reach}
@@ -19,3 +20,4 @@ pub use Rattle.be_volume.specs.Ahead.{state_after}
 pub use Rattle.be_volume.specs.Items.{items}
 pub use Rattle.be_volume.specs.Sound.{IsOperation}
 pub use Rattle.be_volume.specs.Volume.{State, empty}
+pub use Rattle.be_volume_state.specs.Rebuilding.{IsNumbered}

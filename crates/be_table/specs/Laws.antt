@@ -1,5 +1,5 @@
 -- What a step on a word may do, and which event it is.
-use Rattle.std.specs.Prelude.{◌≡◌, ℕ, ◌+◌, ◌*◌, ◌<◌, ◌==◌, List, [], ◌∷◌, ◌++◌, length, map}
+use Rattle.std.specs.Prelude.{◌≡◌, ℕ, ◌+◌, ◌*◌, ◌<◌, ◌≤◌, ◌==◌, List, [], ◌∷◌, ◌++◌, length, map}
 use Rattle.std.specs.Prelude.{slice_index, slice_set, Option, Some, true, false, IsTrue, MatchBool}
 use prog.Atomic.{either}
 use mathlib.Core.Option.{some, none}
@@ -17,7 +17,7 @@ use Rattle.be_core.specs.Machine.{MayFill, MayPublish as MayPublishAt, MayUnlock
 use Rattle.be_core.specs.Machine.{after_announce, after_look_again, after_unpin, after_lock}
 use Rattle.be_core.specs.Machine.{after_scan, after_fill, after_publish, after_return, after_unlock}
 use Rattle.be_table.specs.declared.writer_state.WriterState.{WriterState}
-use Rattle.be_table.specs.declared.limits.Limits.{Limits}
+use Rattle.be_table.specs.Setting.{Setting as Limits}
 use Rattle.be_table.specs.declared.pass.Commit.{Commit}
 use Rattle.be_table.specs.declared.pass.Knowledge.{Knowledge}
 use Rattle.be_journal.specs.declared.entries.Entry.{Entry}
@@ -27,7 +27,7 @@ use Rattle.be_table.specs.WriterState.{is_given, shows_taken}
 use Rattle.be_table.specs.Trace.{MayReturn, Run, RunsTo}
 use Rattle.be_table.specs.Rule.{writer_state_places, LeftAreRetired, Board, FitsBoard, Shows}
 use Rattle.be_table.specs.Rule.{IsUnused}
-use Rattle.be_table.specs.Rule.{IsPossible, entries, page_at, reach_at, word_place, announce_word}
+use Rattle.be_table.specs.Rule.{entries, page_at, reach_at, word_place, announce_word}
 use Rattle.be_table.specs.Rule.{current_word, HasCurrent, alone, beside, empty_view, witnessing}
 use Rattle.be_table.specs.Rule.{informed, first_seat, other_seats, seats_together, one_step_on}
 use Rattle.be_table.specs.Steps.{LookReported, Reported, PinnedAt, Unpinned, PinnedRead, Locked}
@@ -119,7 +119,8 @@ module _ (limits : Limits) (slots id : ℕ) (a : Knowledge) (carried : List (ℕ
         (alone a, carried) 0)
 
     abbrev pub PinnedReadIsItsEvent : Type 0
-    PinnedReadIsItsEvent = (x n p i : ℕ) → a.phase ≡ Pinned x n → IsTrue (has (reach_at a.seen n) p)
+    PinnedReadIsItsEvent = (x n p i : ℕ) → a.phase ≡ Pinned x n
+        → IsTrue (has (reach_at a.limits a.seen n) p)
         → i < 512
         → AllowsBy limits slots id (alone a, carried) (word_place p i) (λ n. n)
         (IsRead a.number n p i) (PinnedRead (step slots (word_place p i) 0 0 none)
@@ -266,7 +267,7 @@ EventsAreMoves = (w : World) (e : Event) → Allowed w e → Run w (moves_of e) 
 -- version is free, taken or changed
 abbrev pub RunsAreSound : Type 0
 RunsAreSound = (limits : Limits) (words : ℕ → ℕ → ℕ) (ms : List Move) (w : World)
-    → IsPossible limits → RunsTo limits words ms w → Sound w × Protected w
+    → limits.used ≤ limits.pages → RunsTo limits words ms w → Sound w × Protected w
 
 -- each prefix of a run is a run
 abbrev pub FrontsRun : Type 0

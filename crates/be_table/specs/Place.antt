@@ -1,7 +1,7 @@
 -- What contracts see of a seat, a witness, a table and an open write.
 use Rattle.std.specs.Prelude.{Bool, ℕ, List}
 use Rattle.atomic_table.specs.Seated.{TableId}
-use Rattle.be_table.specs.declared.limits.Limits.{Limits}
+use Rattle.be_table.specs.Setting.{Setting as Limits}
 use Rattle.be_table.specs.declared.pass.Commit.{Commit}
 use Rattle.be_table.specs.declared.pass.Knowledge.{Knowledge}
 

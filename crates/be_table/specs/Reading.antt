@@ -14,7 +14,7 @@ use Rattle.be_pages.specs.declared.room.PageState.TheVariants.{Filled as Full}
 use Rattle.be_pages.specs.declared.page_pool.Place.{Place}
 use Rattle.be_pages.specs.declared.page_pool.Place.TheVariants.{Free, Reserved, Filled, Current}
 use Rattle.be_pages.specs.declared.page_pool.Place.TheVariants.{GivenUp, Retired}
-use Rattle.be_table.specs.declared.limits.Limits.{Limits}
+use Rattle.be_table.specs.Setting.{Setting as Limits}
 use Rattle.be_table.specs.declared.pass.Commit.{Commit}
 use Rattle.be_table.specs.declared.pass.Knowledge.{Knowledge}
 use Rattle.be_table.specs.declared.pass.Move.{Move}
@@ -68,15 +68,16 @@ open_of w = record {
 }
 
 -- the pages of the pinned version
-abbrev pub reach_of : Phase → List Commit → List ℕ
-reach_of Idle seen = []
-reach_of (Looked a) seen = []
-reach_of (Announced a) seen = []
-reach_of (Pinned a n) seen = reach_at seen n
+abbrev pub reach_of : Limits → Phase → List Commit → List ℕ
+reach_of limits Idle seen = []
+reach_of limits (Looked a) seen = []
+reach_of limits (Announced a) seen = []
+reach_of limits (Pinned a n) seen = reach_at limits seen n
 
 abbrev pub pinned_page_state : Knowledge → ℕ → PageState
 pinned_page_state a q =
-    if nat_lt q largest_pool && has (reach_of a.phase a.seen) q then Old else Nowhere
+    if nat_lt q largest_pool && has (reach_of a.limits a.phase a.seen) q
+    then Old else Nowhere
 
 -- the pass without its count of steps
 abbrev pub steady : Knowledge → Knowledge

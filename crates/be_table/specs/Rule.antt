@@ -7,19 +7,22 @@ use lib.ListN.{get_elem?}
 use Rattle.atomic_table.specs.Table.{State}
 use Rattle.be_core.specs.declared.event.Phase.{Phase}
 use Rattle.be_core.specs.declared.event.Phase.TheVariants.{Idle, Looked, Announced, Pinned}
-use Rattle.be_core.specs.Machine.{World, Writer, Sound, InTime, has, most_pages, AreLimits}
+use Rattle.be_core.specs.Machine.{World, Writer, Sound, InTime, has}
 use Rattle.be_journal.specs.declared.entries.Entry.{Entry}
 use Rattle.be_pages.specs.PagePool.{places}
 use Rattle.be_table.specs.declared.writer_state.WriterState.{WriterState}
 use Rattle.be_pages.specs.declared.page_pool.Place.{Place}
-use Rattle.be_table.specs.declared.limits.Limits.{Limits}
+use Rattle.be_table.specs.Setting.{Setting as Limits}
 use Rattle.be_table.specs.declared.pass.Commit.{Commit}
 use Rattle.be_table.specs.declared.pass.Knowledge.{Knowledge}
 use Rattle.be_table.specs.declared.pass.Move.{Move}
 use Rattle.be_table.specs.declared.pass.View.{View}
 use Rattle.be_pages.specs.Place.{is_retired, undone_place}
 use Rattle.be_table.specs.WriterState.{ShowsPlaces}
-use Rattle.be_journal.specs.Journal.{by_pass, replay}
+use Rattle.be_journal.specs.Journal.{by_pass, replay_from}
+pub use Rattle.be_table.specs.Setting.{IsPossible, IsWithin, AreBad, largest_pool}
+use Rattle.be_table.specs.Setting.{IsSetting, pages_below}
+use Rattle.be_volume.specs.Volume.{empty}
 use Rattle.be_table.specs.History.{StartsWith, AreOfPasses, IsHistory}
 use Rattle.be_table.specs.Trace.{RunsTo, NoneBy, AllRest}
 use Rattle.be_table.specs.Versions.{in_pages, EncodesVolume}
@@ -36,10 +39,10 @@ entries log = map (λ c. c.entry) log
 abbrev pub nothing : Commit
 nothing = record { entry = record { by = 0; ops = []; dones = [] }; page = 0; reach = [] }
 
--- the pages of version n; version 0 has only page 0
-abbrev pub reach_at : List Commit → ℕ → List ℕ
-reach_at log zero = 0 ∷ []
-reach_at log (suc n) = (slice_index_or log n nothing).reach
+-- the pages of version n; version 0 has the pages below `used`
+abbrev pub reach_at : Limits → List Commit → ℕ → List ℕ
+reach_at limits log zero = pages_below limits.used
+reach_at limits log (suc n) = (slice_index_or log n nothing).reach
 
 -- the version page of version n
 abbrev pub page_at : List Commit → ℕ → ℕ
@@ -127,51 +130,38 @@ pub record ShowsBoard (b : Board) (s : State (Option WriterState) View) : Type 0
 
 -- ## The second part: the invariants of the journal and the machine, and what each version encodes
 
--- the maximum number of pages of any table
-abbrev pub largest_pool : ℕ
-largest_pool = 16777216
-
--- limits that a table may have
-abbrev pub IsPossible : Limits → Type 0
-IsPossible limits = AreLimits 8 largest_pool limits.pages limits.passes limits.commits
-
--- limits with which `open` opens a table
-abbrev pub IsWithin : Limits → Type 0
-IsWithin limits = AreLimits 8 most_pages limits.pages limits.passes limits.commits
-
--- limits that `open` refuses as out of range
-abbrev pub AreBad : Limits → Type 0
-AreBad limits = ¬ (IsWithin limits)
-
 -- the pages of each version are those that its commit lists
-abbrev pub ReachesAgree : World → List Commit → Type 0
-ReachesAgree w log = (n p : ℕ) → n ≤ w.current → w.reach n p ≡ has (reach_at log n) p
+abbrev pub ReachesAgree : Limits → World → List Commit → Type 0
+ReachesAgree limits w log = (n p : ℕ) → n ≤ w.current
+    → w.reach n p ≡ has (reach_at limits log n) p
 
 -- the pages of each version are pages of the table
-abbrev pub AreInside : ℕ → List Commit → Type 0
-AreInside pages log = (n p : ℕ) → n ≤ length log → IsTrue (has (reach_at log n) p) → p < pages
+abbrev pub AreInside : Limits → List Commit → Type 0
+AreInside limits log = (n p : ℕ) → n ≤ length log → IsTrue (has (reach_at limits log n) p)
+    → p < limits.pages
 
 -- the version page of each version is one of its pages
-abbrev pub OwnPages : List Commit → Type 0
-OwnPages log = (n : ℕ) → n ≤ length log → IsTrue (has (reach_at log n) (page_at log n))
+abbrev pub OwnPages : Limits → List Commit → Type 0
+OwnPages limits log = (n : ℕ) → n ≤ length log
+    → IsTrue (has (reach_at limits log n) (page_at log n))
 
 pub record IsSoundBoard (limits : Limits) (b : Board) : Type 0 where
-  pub within : IsPossible limits
-  pub legal : IsHistory (entries b.log)
+  pub within : IsSetting limits
+  pub legal : IsHistory limits.volume (entries b.log)
   pub by_passes : AreOfPasses limits.passes (entries b.log)
   pub room : length b.log ≤ limits.commits
   pub page : page_at b.log (length b.log) < 4294967296
-  pub inside : AreInside limits.pages b.log
-  pub own_pages : OwnPages b.log
+  pub inside : AreInside limits b.log
+  pub own_pages : OwnPages limits b.log
   pub pages : b.world.pages ≡ limits.pages
   pub passes : b.world.passes ≡ limits.passes
   pub commits : b.world.commits ≡ limits.commits
   pub writer : (h : Writer) → b.world.writer ≡ Some h → h.pass < limits.passes
-  pub reaches : ReachesAgree b.world b.log
+  pub reaches : ReachesAgree limits b.world b.log
   pub machine : Sound b.world
   pub encoded : (n : ℕ) → n ≤ length b.log
-      → EncodesVolume (reach_at b.log n) (in_pages (b.world.image n)) (page_at b.log n)
-      (replay (take n (entries b.log)))
+      → EncodesVolume (reach_at limits b.log n) (in_pages (b.world.image n)) (page_at b.log n)
+      (replay_from limits.volume (take n (entries b.log)))
 
 -- ## The third part: what each pass knows is true
 
@@ -345,7 +335,8 @@ seats_together v w = record {
 }
 
 abbrev pub nobody : Knowledge
-nobody = newcomer (record { pages = 0; passes = 0; commits = 0 }) 0 0
+nobody = newcomer
+    (record { pages = 0; passes = 0; commits = 0; used = 0; volume = empty }) 0 0
 
 -- the first of these passes, if there is one
 abbrev pub first_of : List Knowledge → Knowledge

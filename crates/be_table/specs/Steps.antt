@@ -13,7 +13,7 @@ use Rattle.be_pages.specs.declared.page_pool.Place.{Place}
 use Rattle.be_pages.specs.declared.page_pool.Place.TheVariants.{Reserved, Filled}
 use Rattle.be_volume.specs.declared.ops.Done.{Done}
 use Rattle.be_volume.specs.declared.ops.Op.{Op}
-use Rattle.be_table.specs.declared.limits.Limits.{Limits}
+use Rattle.be_table.specs.Setting.{Setting as Limits, IsSetting}
 use Rattle.be_table.specs.declared.pass.Commit.{Commit}
 use Rattle.be_table.specs.declared.pass.Knowledge.{Knowledge}
 use Rattle.be_table.specs.declared.pass.Move.{Move}
@@ -23,32 +23,32 @@ use Rattle.be_table.specs.declared.pass.Move.TheVariants.{Scan, Fill, Publish, U
 use Rattle.be_pages.specs.Place.{retired_at, swept_place, is_in_hand, given_place, published_place}
 use Rattle.be_pages.specs.Place.{place_of, undone_place}
 use Rattle.be_table.specs.WriterState.{shows_taken, shows_free, is_of_next, is_given}
-use Rattle.be_journal.specs.Journal.{HasOperations, Agrees, by_pass, replay}
+use Rattle.be_journal.specs.Journal.{HasOperations, Agrees, by_pass, replay_from}
 use Rattle.be_table.specs.History.{StartsWith, AreOfPasses, IsHistory}
 use Rattle.be_table.specs.Reading.{page_state_among, word_of_page}
 use Rattle.be_table.specs.Versions.{at_start, CanEncodeEach, EncodesVolume}
 use Rattle.be_table.specs.Trace.{RunsTo, Makes, HasTrace}
 use Rattle.be_table.specs.Rule.{Reaches, IsKnownBefore, HasCurrent, announce_word}
 use Rattle.be_table.specs.Rule.{writer_state_places}
-use Rattle.be_table.specs.Rule.{LeftAreRetired, IsPossible, AreInside, OwnPages, alone, beside}
+use Rattle.be_table.specs.Rule.{LeftAreRetired, AreInside, OwnPages, alone, beside}
 use Rattle.be_table.specs.Rule.{empty_view, front_of, pass_of, second_of, one_step_on, current_word}
 use Rattle.be_table.specs.Rule.{page_at, reach_at, entries, word_place}
 
 -- what always holds for a pass
 pub record IsPass (a : Knowledge) : Type 0 where
-  pub within : IsPossible a.limits
-  pub legal : IsHistory (entries a.seen)
+  pub within : IsSetting a.limits
+  pub legal : IsHistory a.limits.volume (entries a.seen)
   pub number_below : a.number < a.limits.passes
   pub by_passes : AreOfPasses a.limits.passes (entries a.seen)
   pub room : length a.seen ≤ a.limits.commits
-  pub inside : AreInside a.limits.pages a.seen
-  pub own_pages : OwnPages a.seen
-  pub volumes : CanEncodeEach a.limits.pages (entries a.seen)
+  pub inside : AreInside a.limits a.seen
+  pub own_pages : OwnPages a.limits a.seen
+  pub volumes : CanEncodeEach a.limits.pages a.limits.volume (entries a.seen)
   pub pin : InTime (length a.seen) a.phase
   pub mine : by_pass a.number (entries a.seen) ≡ a.mine
   pub encoded : (x n : ℕ) → a.phase ≡ Pinned x n
-      → EncodesVolume (reach_at a.seen n) (word_of_page a.image) (page_at a.seen n)
-      (replay (take n (entries a.seen)))
+      → EncodesVolume (reach_at a.limits a.seen n) (word_of_page a.image) (page_at a.seen n)
+      (replay_from a.limits.volume (take n (entries a.seen)))
 
 -- a pass after a look that found this journal
 abbrev pub looks : Knowledge → List Commit → Knowledge
@@ -127,12 +127,13 @@ scans_out a n = record a {
 }
 
 -- no version from l to the last one seen has the page
-abbrev pub NoCommitReaches : List Commit → ℕ → ℕ → Type 0
-NoCommitReaches seen l p = (n : ℕ) → l ≤ n → n ≤ length seen → IsFalse (has (reach_at seen n) p)
+abbrev pub NoCommitReaches : Limits → List Commit → ℕ → ℕ → Type 0
+NoCommitReaches limits seen l p = (n : ℕ) → l ≤ n → n ≤ length seen
+    → IsFalse (has (reach_at limits seen n) p)
 
 -- each page that no version from `least` on has is free or taken
 abbrev pub UnreachedAreFree : Knowledge → Type 0
-UnreachedAreFree a = (p : ℕ) → p < length a.places → NoCommitReaches a.seen a.least p
+UnreachedAreFree a = (p : ℕ) → p < length a.places → NoCommitReaches a.limits a.seen a.least p
     → IsTrue (shows_free (place_of a.places p) || shows_taken (place_of a.places p))
 
 abbrev pub scans : Knowledge → ℕ → Knowledge
@@ -195,14 +196,14 @@ pub record MayPublish (limits : Limits) (a : Knowledge) (e : Entry) (v : ℕ) : 
   pub writes : a.writes ≡ true
   pub unpublished : a.published ≡ false
   pub by : e.by ≡ a.number
-  pub agrees : Agrees (replay (entries a.seen)) e
+  pub agrees : Agrees (replay_from a.limits.volume (entries a.seen)) e
   pub operations : HasOperations e
   pub room : length a.seen < limits.commits
   pub inside : v < length a.places
   pub filled : place_of a.places v ≡ Filled
   pub none_reserved : (q : ℕ) → place_of a.places q ≢ Reserved
   pub encoded : EncodesVolume (pages_from is_of_next 0 a.places) (word_of_page a.words) v
-      (replay (entries a.seen ++ e ∷ []))
+      (replay_from a.limits.volume (entries a.seen ++ e ∷ []))
 
 -- a pass that holds the lock may read the reader slot of the pass j
 abbrev pub MayReadAnnouncement : Limits → Me (Option WriterState) View → ℕ → Type 0
@@ -240,9 +241,9 @@ pub record IsFound (writer_state : WriterState) (c : Knowledge) : Type 0 where
   pub count : length c.places ≡ c.limits.pages
   pub size : length c.words ≡ 528 + 512 * c.limits.pages
   pub begun : (q : ℕ) → page_state_among c.places q
-      ≡ at_start (has (reach_at c.seen (length c.seen)) q)
-  pub encoded : EncodesVolume (reach_at c.seen (length c.seen)) (word_of_page c.words)
-      (page_at c.seen (length c.seen)) (replay (entries c.seen))
+      ≡ at_start (has (reach_at c.limits c.seen (length c.seen)) q)
+  pub encoded : EncodesVolume (reach_at c.limits c.seen (length c.seen)) (word_of_page c.words)
+      (page_at c.seen (length c.seen)) (replay_from c.limits.volume (entries c.seen))
 
 -- The lock was free. The pass has taken the writer state out of the slot, and has seen its journal.
 abbrev pub Gets : Me (Option WriterState) View → Me (Option WriterState) View → Type 0

@@ -7,7 +7,7 @@ use Rattle.be_core.specs.Machine.{MayUnpin, MayLock, MayScan, MayFill, MayPublis
 use Rattle.be_core.specs.Machine.{after_look, after_announce, after_look_again, after_unpin}
 use Rattle.be_core.specs.Machine.{after_lock, after_scan, after_fill, after_publish, after_unlock}
 use Rattle.be_core.specs.Machine.{after_return}
-use Rattle.be_table.specs.declared.limits.Limits.{Limits}
+use Rattle.be_table.specs.Setting.{Setting as Limits}
 use Rattle.be_table.specs.declared.pass.Knowledge.{Knowledge}
 use Rattle.be_table.specs.declared.pass.Move.{Move}
 use Rattle.be_table.specs.declared.pass.Move.TheVariants.{Look, Announce, LookAgain, Unpin, Lock}
@@ -61,8 +61,8 @@ Run w (m ∷ ms) w' = MayMove w m × Run (after_move w m) ms w'
 
 -- the moves lead to w from the start of a table with these words in its pages
 abbrev pub RunsTo : Limits → (ℕ → ℕ → ℕ) → List Move → World → Type 0
-RunsTo limits words moves w = Run (first_state limits.pages limits.passes limits.commits words)
-    moves w
+RunsTo limits words moves w = Run
+    (first_state limits.pages limits.used limits.passes limits.commits words) moves w
 
 -- a list of moves that the machine can make from its first state, with some words in its pages
 abbrev pub IsRun : Limits → List Move → Type 0

@@ -7,7 +7,7 @@ use Rattle.be_pages.specs.declared.room.PageState.TheVariants.{Free as Nowhere, 
 use Rattle.be_pages.specs.Pages.{times}
 use Rattle.be_paged_reading.specs.Page.{reach}
 use Rattle.be_paged_reading.specs.Version.{IsVersion}
-use Rattle.be_journal.specs.Journal.{replay}
+use Rattle.be_journal.specs.Journal.{replay_from}
 use Rattle.be_journal.specs.declared.entries.Entry.{Entry}
 use Rattle.be_volume.specs.Volume.{State}
 
@@ -35,7 +35,7 @@ pub record CanEncode (pages : ℕ) (volume : State) : Type 0 where
   pub encoded : EncodesVolume used (in_pages words) page volume
   pub inside : (p : ℕ) → IsTrue (has used p) → p < pages
 
--- `pages` pages can encode the volume after each entry of the journal
-unfoldable pub CanEncodeEach : ℕ → List Entry → Type 0
-CanEncodeEach pages journal = (n : ℕ) → n < length journal
-    → CanEncode pages (replay (take (suc n) journal))
+-- `pages` pages can encode the volume after each entry of a journal that begins with this volume
+unfoldable pub CanEncodeEach : ℕ → State → List Entry → Type 0
+CanEncodeEach pages volume journal = (n : ℕ) → n < length journal
+    → CanEncode pages (replay_from volume (take (suc n) journal))

@@ -4,6 +4,7 @@ use Rattle.std.specs.Prelude.{count_by, zero, IsTrue}
 use Rattle.atomic_table.specs.Seated.{TableId}
 use Rattle.be_journal.specs.declared.entries.Entry.{Entry}
 use Rattle.be_table.specs.declared.limits.Limits.{Limits}
+use Rattle.be_table.specs.Setting.{Setting, IsPossible, IsWithin, AreBad, largest_pool}
 use Rattle.be_table.specs.declared.pass.Commit.{Commit}
 use Rattle.be_table.specs.declared.pass.Knowledge.{Knowledge}
 use Rattle.be_table.specs.declared.pass.Move.{Move}
@@ -19,10 +20,9 @@ use Rattle.be_pages.specs.Place.{undone_place, swept_place, place_of, is_in_hand
 use Rattle.be_table.specs.Place.{SeatFacts, WitnessFacts, Opened, Work}
 use Rattle.be_table.specs.Reading.{page_state_among, word_of_page}
 use Rattle.be_table.specs.Versions.{at_start, EncodesVolume}
-use Rattle.be_journal.specs.Journal.{replay}
+use Rattle.be_journal.specs.Journal.{replay_from}
 use Rattle.be_table.specs.Trace.{AllRest, Makes, RunsTo, upto_lock}
-use Rattle.be_table.specs.Rule.{Reaches, AreBad, IsPossible, IsWithin, entries, page_at, reach_at}
-use Rattle.be_table.specs.Rule.{largest_pool, newcomer}
+use Rattle.be_table.specs.Rule.{Reaches, entries, page_at, reach_at, newcomer}
 use Rattle.be_table.specs.Rule.{announce_word}
 use Rattle.be_table.specs.Steps.{Has, AllIdle, KeepsSeen, IsPass, looks, finds_held, takes_lock}
 use Rattle.be_table.specs.Steps.{pins, takes_page, take_moves, scans_all, IsLowestAnnounced}
@@ -38,7 +38,7 @@ abbrev pub IsWitnessOf : Opened → WitnessFacts → Type 0
 IsWitnessOf t w = (w.blank ≡ false) × (w.table ≡ t.id)
 
 -- new seats of this table, for passes numbered from k that have seen nothing
-abbrev pub AreNewAt : TableId → Limits → ℕ → List SeatFacts → Type 0
+abbrev pub AreNewAt : TableId → Setting → ℕ → List SeatFacts → Type 0
 AreNewAt id limits k [] = Unit {0}
 AreNewAt id limits k (s ∷ ss) = ((s.blank ≡ false) × (s.table ≡ id)
     × (s.knows ≡ newcomer limits (k + 1) k)) × AreNewAt id limits (k + 1) ss
@@ -80,9 +80,9 @@ pub record TakesLock (a c : Knowledge) : Type 0 where
   pub same : c ≡ takes_lock (with_history a c.history) c.seen c.places c.words
   pub idle : map undone_place c.places ≡ c.places
   pub begun : (q : ℕ) → page_state_among c.places q
-      ≡ at_start (has (reach_at c.seen (length c.seen)) q)
-  pub encoded : EncodesVolume (reach_at c.seen (length c.seen)) (word_of_page c.words)
-      (page_at c.seen (length c.seen)) (replay (entries c.seen))
+      ≡ at_start (has (reach_at c.limits c.seen (length c.seen)) q)
+  pub encoded : EncodesVolume (reach_at c.limits c.seen (length c.seen)) (word_of_page c.words)
+      (page_at c.seen (length c.seen)) (replay_from c.limits.volume (entries c.seen))
   pub pass : IsPass c
 
 -- the pass, which had announced x, is pinned to the current number
@@ -180,7 +180,7 @@ pub record TakesPage (old new : Work) (page : ℕ) : Type 0 where
 
 -- the write holds each page that belongs to no version from `least` on
 abbrev pub HoldsUnreached : Knowledge → ℕ → Type 0
-HoldsUnreached a least = (p : ℕ) → p < a.limits.pages → NoCommitReaches a.seen least p
+HoldsUnreached a least = (p : ℕ) → p < a.limits.pages → NoCommitReaches a.limits a.seen least p
     → IsTrue (has a.held p)
 
 -- after some prefix of the pass's history that includes the lock, pass j had announced this number

@@ -15,10 +15,11 @@ use be_paged::version_pages;
 /// of the versions from `least` on, and the pages that the write held.
 pub fn full_counts()
     ensures all { (a : Knowledge) (least : ℕ) → IsSpent a least
-        → a.limits.pages ≤ reached a.seen least a.limits.pages
+        → a.limits.pages ≤ reached a.limits a.seen least a.limits.pages
         + count_below (has a.held) a.limits.pages }
     ensures now { (a : Knowledge) → IsSpent a (length a.seen)
-        → a.limits.pages ≤ count_below (has (reach_at a.seen (length a.seen))) a.limits.pages
+        → a.limits.pages
+        ≤ count_below (has (reach_at a.limits a.seen (length a.seen))) a.limits.pages
         + count_below (has a.held) a.limits.pages }
 {}
 

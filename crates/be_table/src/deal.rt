@@ -1,10 +1,10 @@
 //! Deals seats when a table opens, and gathers them when it closes.
 ghost use Rattle.std.specs.Prelude.{◌≡◌, ◌≤◌, ◌<◌, ℕ, slice_index, [], length, map, vec_capacity};
 ghost use Rattle.std.specs.Prelude.{vec_len, ◌+◌};
-ghost use Rattle.be_table.specs.Rule.{IsPossible, empty_view, everyone};
+ghost use Rattle.be_table.specs.Rule.{empty_view, everyone};
+ghost use Rattle.be_table.specs.Setting.{IsSetting};
 ghost use Rattle.be_table.specs.Works.{AreNewAt, AllAt, Gathered, knows_of};
 
-use crate::limits::Limits;
 use crate::marks::Marks;
 use crate::rule::Deal;
 use crate::seat::{Base, Seat};
@@ -12,18 +12,18 @@ use crate::table::{Inner, PAGES};
 use be_pages::PAGE_WORDS;
 
 /// Gives each pass a seat.
-pub(crate) fn deal(table: &Inner, rest: &mut Base, limits: Limits, seats: &mut Vec<Seat>)
-    requires table { (0 < table.now.shared.table_id.words) × (table.now.shared.key ≡ limits)
-        × IsPossible limits }
+pub(crate) fn deal(table: &Inner, rest: &mut Base, passes: u64, seats: &mut Vec<Seat>)
+    requires table { (0 < table.now.shared.table_id.words) × IsSetting table.now.shared.key
+        × (passes ≡ table.now.shared.key.passes) }
     requires rest { (rest.old.table_id ≡ table.now.shared.table_id)
-        × (rest.old.me ≡ (everyone limits, [])) }
-    requires seats { (seats.old.items ≡ []) × (limits.passes ≤ vec_capacity seats.old) }
+        × (rest.old.me ≡ (everyone table.now.shared.key, [])) }
+    requires seats { (seats.old.items ≡ []) × (passes ≤ vec_capacity seats.old) }
     ensures rest { (rest.new.table_id ≡ table.now.shared.table_id)
         × (rest.new.me ≡ (empty_view, [])) }
-    ensures seats { (length seats.new.items ≡ limits.passes)
-        × AreNewAt table.now.shared.table_id limits 0 seats.new.items }
+    ensures seats { (length seats.new.items ≡ passes)
+        × AreNewAt table.now.shared.table_id table.now.shared.key 0 seats.new.items }
 {
-    for number in 0..limits.passes {
+    for number in 0..passes {
         let base = table.shared.split_seat::<Deal>(rest);
         let marks = Marks {
             number,

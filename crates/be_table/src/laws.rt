@@ -19,35 +19,35 @@ ghost use Rattle.be_table.specs.Laws.{FillIsItsEvent, FoundFillIsItsEvent, OwnRe
 ghost use Rattle.be_table.specs.Laws.{TakeIsItsEvent, LookIsItsEvent, AnnounceIsItsEvent};
 ghost use Rattle.be_table.specs.Laws.{LookAgainIsItsEvent, UnpinIsItsEvent, PinnedReadIsItsEvent};
 ghost use Rattle.be_table.specs.declared.writer_state.WriterState.{WriterState};
-ghost use Rattle.be_table.specs.declared.limits.Limits.{Limits};
+ghost use Rattle.be_table.specs.Setting.{Setting};
 ghost use Rattle.be_table.specs.declared.pass.Commit.{Commit};
 ghost use Rattle.be_table.specs.declared.pass.Knowledge.{Knowledge};
 ghost use Rattle.be_table.specs.declared.pass.View.{View};
 
 /// A load of the current number is Look.
 pub fn look()
-    ensures { (limits : Limits) (slots id : ℕ) (a : Knowledge)
+    ensures { (limits : Setting) (slots id : ℕ) (a : Knowledge)
         (carried : List (ℕ × Option WriterState))
         → LookIsItsEvent limits slots id a carried }
 {}
 
 /// The store to a reader slot is Announce.
 pub fn announce()
-    ensures { (limits : Limits) (slots id : ℕ) (a : Knowledge)
+    ensures { (limits : Setting) (slots id : ℕ) (a : Knowledge)
         (carried : List (ℕ × Option WriterState))
         → AnnounceIsItsEvent limits slots id a carried }
 {}
 
 /// The second load of the current number is LookAgain.
 pub fn look_again()
-    ensures { (limits : Limits) (slots id : ℕ) (a : Knowledge)
+    ensures { (limits : Setting) (slots id : ℕ) (a : Knowledge)
         (carried : List (ℕ × Option WriterState))
         → LookAgainIsItsEvent limits slots id a carried }
 {}
 
 /// The store that clears a reader slot is Unpin.
 pub fn unpin()
-    ensures { (limits : Limits) (slots id : ℕ) (a : Knowledge)
+    ensures { (limits : Setting) (slots id : ℕ) (a : Knowledge)
         (carried : List (ℕ × Option WriterState))
         → UnpinIsItsEvent limits slots id a carried }
 {}
@@ -55,49 +55,49 @@ pub fn unpin()
 /// A load of a word of a pinned version is Read, and finds the word that the page had when that
 /// version was published.
 pub fn pinned_read()
-    ensures { (limits : Limits) (slots id : ℕ) (a : Knowledge)
+    ensures { (limits : Setting) (slots id : ℕ) (a : Knowledge)
         (carried : List (ℕ × Option WriterState))
         → PinnedReadIsItsEvent limits slots id a carried }
 {}
 
 /// A compare-exchange of the lock that finds it free is Lock; one that finds it held is no event.
 pub fn lock()
-    ensures { (limits : Limits) (slots id : ℕ) (a : Knowledge)
+    ensures { (limits : Setting) (slots id : ℕ) (a : Knowledge)
         (carried : List (ℕ × Option WriterState))
         → LockIsItsEvent limits slots id a carried }
 {}
 
 /// The writer's load of a reader slot is Scan.
 pub fn scan()
-    ensures { (limits : Limits) (slots id : ℕ) (a : Knowledge)
+    ensures { (limits : Setting) (slots id : ℕ) (a : Knowledge)
         (carried : List (ℕ × Option WriterState))
         → ScanIsItsEvent limits slots id a carried }
 {}
 
 /// The store of a page's word is Fill.
 pub fn fill()
-    ensures { (limits : Limits) (slots id : ℕ) (a : Knowledge)
+    ensures { (limits : Setting) (slots id : ℕ) (a : Knowledge)
         (carried : List (ℕ × Option WriterState))
         → FillIsItsEvent limits slots id a carried }
 {}
 
 /// A load of a word of a page that the writer holds is Fill, with the word already there.
 pub fn found_fill()
-    ensures { (limits : Limits) (slots id : ℕ) (a : Knowledge)
+    ensures { (limits : Setting) (slots id : ℕ) (a : Knowledge)
         (carried : List (ℕ × Option WriterState))
         → FoundFillIsItsEvent limits slots id a carried }
 {}
 
 /// The writer's load of a page's word is no event.
 pub fn own_read()
-    ensures { (limits : Limits) (slots id : ℕ) (a : Knowledge)
+    ensures { (limits : Setting) (slots id : ℕ) (a : Knowledge)
         (carried : List (ℕ × Option WriterState))
         → OwnReadIsNoEvent limits slots id a carried }
 {}
 
 /// The load that takes a page is Fill, with the word already there.
 pub fn take()
-    ensures { (limits : Limits) (slots id : ℕ) (a : Knowledge)
+    ensures { (limits : Setting) (slots id : ℕ) (a : Knowledge)
         (carried : List (ℕ × Option WriterState))
         → TakeIsItsEvent limits slots id a carried }
 {}
@@ -105,57 +105,57 @@ pub fn take()
 /// The load that gives up a page is no event. A page that the write had taken returns to the free
 /// pages; that is the writer's own bookkeeping.
 pub fn give_up()
-    ensures { (limits : Limits) (slots id : ℕ) (a : Knowledge)
+    ensures { (limits : Setting) (slots id : ℕ) (a : Knowledge)
         (carried : List (ℕ × Option WriterState))
         → GiveUpIsNoEvent limits slots id a carried }
 {}
 
 /// The store of the current number is Publish, with the pages that the write has given up.
 pub fn publish()
-    ensures { (limits : Limits) (slots id : ℕ) (a : Knowledge)
+    ensures { (limits : Setting) (slots id : ℕ) (a : Knowledge)
         (carried : List (ℕ × Option WriterState))
         → PublishIsItsEvent limits slots id a carried }
 {}
 
 /// The store that frees the lock is Unlock.
 pub fn unlock()
-    ensures { (limits : Limits) (slots id : ℕ) (a : Knowledge) (writer_state : WriterState)
+    ensures { (limits : Setting) (slots id : ℕ) (a : Knowledge) (writer_state : WriterState)
         → UnlockIsItsEvent limits slots id a writer_state }
 {}
 
 /// The load with which two passes in one seat compare what they have seen is no event.
 pub fn compare()
-    ensures { (limits : Limits) (slots id : ℕ) (a c : Knowledge)
+    ensures { (limits : Setting) (slots id : ℕ) (a c : Knowledge)
         (carried : List (ℕ × Option WriterState)) → CompareIsNoEvent limits slots id a c carried }
 {}
 
 /// The load that makes a witness is no event: it gives what a pass has seen a seat without a pass.
 pub fn attest()
-    ensures { (limits : Limits) (id : ℕ) (a : Knowledge) → AttestIsNoEvent limits id a }
+    ensures { (limits : Setting) (id : ℕ) (a : Knowledge) → AttestIsNoEvent limits id a }
 {}
 
 /// The load with which a pass takes in what a witness has seen is no event.
 pub fn learn()
-    ensures { (limits : Limits) (slots id : ℕ) (a : Knowledge) (front : List Commit)
+    ensures { (limits : Setting) (slots id : ℕ) (a : Knowledge) (front : List Commit)
         (carried : List (ℕ × Option WriterState)) → LearnIsNoEvent limits slots id a front carried }
 {}
 
 /// The load that splits a seat is no event: its first pass gets a new seat.
 pub fn split()
-    ensures { (limits : Limits) (id : ℕ) (a : Knowledge) (v : List Knowledge)
+    ensures { (limits : Setting) (id : ℕ) (a : Knowledge) (v : List Knowledge)
         (fronts : List (List Commit)) → SplitIsNoEvent limits id a v fronts }
 {}
 
 /// The load that joins two seats is no event: one seat gets what both had, and the other is left
 /// with nothing.
 pub fn join()
-    ensures { (limits : Limits) (id : ℕ) (v : View) (other : ℕ) (w : View)
+    ensures { (limits : Setting) (id : ℕ) (v : View) (other : ℕ) (w : View)
         → JoinIsNoEvent limits id v other w }
 {}
 
 /// The load that creates a seat without a pass is no event.
 pub fn arrive()
-    ensures { (limits : Limits) → ArrivalIsNoEvent limits }
+    ensures { (limits : Setting) → ArrivalIsNoEvent limits }
 {}
 
 /// Every allowed event has the same effect as its moves; a read changes nothing and has no moves.

@@ -21,10 +21,12 @@
 //! of a pinned version are never filled. In the code, publishing a number is called announcing it.
 //!
 //! # What a version says
-//! The pages of version n have the words that they had when it was published. With these words they
-//! encode the volume after the first n entries of the journal. They are exactly the pages that
-//! be_paged_reading reaches from the version page (`specs/Versions.antt`). `publish` requires both.
-//! So a pinned pass reads that volume, and a write starts from the volume of the whole journal.
+//! A table begins with the empty volume, or with one that its caller has put into pages. That is
+//! version 0. The pages of version n have the words that they had when it was published. With these
+//! words they encode the volume after the first n entries of the journal. They are exactly those
+//! that be_paged_reading reaches from the version page (`specs/Versions.antt`). `publish` requires
+//! both. So a pinned pass reads that volume, and a write starts from the volume of the whole
+//! journal.
 //!
 //! # What is proved
 //! One rule holds between any two steps (`specs/Rule.antt`). It has four parts:
@@ -48,6 +50,7 @@ mod pinned;
 mod rooms;
 mod rule;
 mod seat;
+mod setting;
 mod status;
 mod table;
 mod witness;
@@ -58,6 +61,7 @@ pub use counting::{encoded_counts, full_counts, held_counts};
 pub use limits::Limits;
 pub use pinned::PinnedLook;
 pub use seat::Seat;
+pub use setting::Setting;
 pub use status::{Announcement, Status};
 pub use table::VersionTable;
 pub use witness::Witness;

@@ -1,6 +1,6 @@
 //! The limits of a table, set once when the table is created.
 ghost use Rattle.std.specs.Prelude.{◌≡◌, true, false};
-ghost use Rattle.be_table.specs.Rule.{AreBad, IsPossible, IsWithin};
+ghost use Rattle.be_table.specs.Setting.{AreBad, IsPossible, IsWithin};
 
 /// How large a table may grow. Nothing in it exceeds these numbers.
 #[derive(Clone, Copy)]

@@ -5,7 +5,7 @@
 //! prefix of the journal, the pass's own entries, and the image of the version to which the pass is
 //! pinned. While the pass holds the lock, it also includes the place of each page and the words of
 //! all pages.
-use crate::limits::Limits;
+use crate::setting::Setting;
 use be_core::Phase;
 use be_journal::Entry;
 use be_pages::Place;
@@ -41,8 +41,8 @@ pub enum Move {
 
 pub struct Knowledge {
     pub number: u64,
-    /// The limits of the table.
-    pub limits: Limits,
+    /// The limits of the table, and what it began with.
+    pub limits: Setting,
     /// The part of the journal that the pass has seen, with its versions.
     pub seen: LinkedList<Commit>,
     /// The entries of its own accepted writes.

@@ -23,8 +23,12 @@ pub struct PinnedLook<'a> {
 
 impl<'a> Model for PinnedLook<'a> {
     ghost use Rattle.be_table.specs.Place.{Pin};
+    ghost use Rattle.std.specs.Coded.{codes};
+    ghost use Rattle.be_table.specs.Setting.{coded_setting};
 
     ghost Value = { Pin };
+
+    ghost coded = { Prim.hlevel (codes, coded_setting) };
 
     ghost use Rattle.be_table.specs.Readers.{reader_of, IsReader};
 

@@ -10,15 +10,15 @@ ghost use Rattle.be_table.specs.Steps.{Arrived, AnnounceMoves, LookAgainMoves, U
 ghost use Rattle.be_table.specs.Steps.{ScanMoves, PinnedRead, OwnRead, FillMoves, FoundFillMoves};
 ghost use Rattle.be_table.specs.Steps.{TakeMoves, GiveUpMoves, PublishMoves};
 
-use crate::limits::Limits;
 use crate::pass::View;
+use crate::setting::Setting;
 use crate::writer_state::WriterState;
 use atomic_table::{Join, Play, Split, TableRule};
 use std::marker::{Brand, PhantomData};
 
 pub(crate) struct Law;
 
-impl TableRule<Option<WriterState>, View, Limits> for Law {
+impl TableRule<Option<WriterState>, View, Setting> for Law {
     ghost holds = { Shows };
 
     ghost first = { everyone };

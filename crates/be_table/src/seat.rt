@@ -26,8 +26,12 @@ pub struct Seat {
 
 impl Model for Seat {
     ghost use Rattle.be_table.specs.Place.{SeatFacts};
+    ghost use Rattle.std.specs.Coded.{codes};
+    ghost use Rattle.be_table.specs.Setting.{coded_setting};
 
     ghost Value = { SeatFacts };
+
+    ghost coded = { Prim.hlevel (codes, coded_setting) };
 
     ghost use Rattle.be_table.specs.Seats.{facts_of, IsPlaced};
 
@@ -38,7 +42,7 @@ impl Model for Seat {
 
 impl Seat {
     ghost use Rattle.std.specs.Prelude.{take};
-    ghost use Rattle.be_table.specs.Imports.{replay};
+    ghost use Rattle.be_table.specs.Imports.{replay_from};
     ghost use Rattle.be_table.specs.Reading.{word_of_page};
     ghost use Rattle.be_table.specs.Rule.{entries};
     ghost use Rattle.be_table.specs.Seats.{IsReported, pin_of, pinned_number};
@@ -107,11 +111,11 @@ impl Seat {
         ensures page { (x n : ℕ) → self.now.knows.phase ≡ Pinned x n → result
             ≡ page_at self.now.knows.seen n }
         ensures readable { (x n : ℕ) → self.now.knows.phase ≡ Pinned x n
-            → IsTrue (has (reach_at self.now.knows.seen n) result) }
+            → IsTrue (has (reach_at self.now.knows.limits self.now.knows.seen n) result) }
         ensures encoded { (x n : ℕ) → self.now.knows.phase ≡ Pinned x n
-            → EncodesVolume (reach_at self.now.knows.seen n) (word_of_page self.now.knows.image)
-            (page_at self.now.knows.seen n)
-            (replay (take n (entries self.now.knows.seen))) }
+            → EncodesVolume (reach_at self.now.knows.limits self.now.knows.seen n)
+            (word_of_page self.now.knows.image) (page_at self.now.knows.seen n)
+            (replay_from self.now.knows.limits.volume (take n (entries self.now.knows.seen))) }
     {
         self.is_pass();
         match self.marks.pin {

@@ -19,6 +19,7 @@ use crate::rule::{
     Announce, Arrive, Attest, Compare, Deal, Law, Learn, Lock, Look, LookAgain, PinnedWord, Unpin,
 };
 use crate::seat::Seat;
+use crate::setting::{Setting, empty_volume};
 use crate::witness::Witness;
 use crate::writer_state::{WriterState, first_space};
 use crate::writing::Writing;
@@ -27,8 +28,10 @@ use be_core::Phase;
 use be_journal::Journal;
 use be_pages::{PAGE_WORDS, PagePool};
 use be_value::Refusal;
+use be_volume::Volume;
 use std::alloc::Global;
 use std::marker::Model;
+use std::snapshot::Snapshot;
 
 /// 0 while no pass holds the lock, otherwise the writer's pass number + 1.
 pub(crate) const LOCK: usize = 0;
@@ -42,40 +45,47 @@ pub(crate) const ANNOUNCE: usize = 16;
 /// The index of the first page's first word. Each page has `PAGE_WORDS` words.
 pub(crate) const PAGES: usize = 528;
 
-pub(crate) type Inner = Table<Option<WriterState>, View, Limits, Law, Global>;
+pub(crate) type Inner = Table<Option<WriterState>, View, Setting, Law, Global>;
 
 /// The words, the slot and the limits of a table. Passes share it through a `&`.
 #[derive(Drop)]
 pub struct VersionTable {
     pub(crate) table: Inner,
-    pub(crate) limits: Limits,
+    pub(crate) limits: Setting,
 }
 
 impl Model for VersionTable {
     ghost use Rattle.std.specs.Prelude.{◌≡◌, ◌+◌, ◌*◌};
     ghost use Rattle.be_table.specs.Place.{Opened};
-    ghost use Rattle.be_table.specs.Rule.{IsPossible};
+    ghost use Rattle.be_table.specs.Setting.{IsSetting};
+    ghost use Rattle.std.specs.Coded.{codes};
+    ghost use Rattle.be_table.specs.Setting.{coded_setting};
 
     ghost Value = { Opened };
+
+    ghost coded = { Prim.hlevel (codes, coded_setting) };
 
     ghost view = { λ t. record { id = t.table.shared.table_id; limits = t.table.shared.key } };
 
     ghost invariant = { λ t. (t.table.shared.table_id.words ≡ 528 + 512 * t.limits.pages)
         × (t.table.shared.table_id.slots ≡ 1)
-        × (t.limits ≡ t.table.shared.key) × IsPossible t.limits };
+        × (t.limits ≡ t.table.shared.key) × IsSetting t.limits };
 }
 
 impl VersionTable {
-    ghost use Rattle.std.specs.Prelude.{[], ◌∷◌, take};
+    ghost use Rattle.std.specs.Prelude.{[], ◌∷◌, ◌+◌, ◌*◌, ◌^◌, ◌≤◌, take};
     ghost use Rattle.be_table.specs.declared.pass.Move.TheVariants as moves;
-    ghost use Rattle.be_table.specs.Imports.{empty, replay, IsLegal, IsVersion, Pinned};
+    ghost use Rattle.be_table.specs.Imports.{empty, replay_from, IsLegalFrom, IsNumbered};
+    ghost use Rattle.be_table.specs.Imports.{IsVersion, Pinned};
     ghost use Rattle.be_table.specs.History.{StartsWith, AreOfPasses};
     ghost use Rattle.be_table.specs.Reading.{pinned_page_state, word_of_page};
-    ghost use Rattle.be_table.specs.Rule.{IsPossible, IsWithin, entries};
+    ghost use Rattle.be_table.specs.Rule.{entries};
+    ghost use Rattle.be_table.specs.Setting.{IsPossible, IsWithin, begins_empty, begins_with};
+    ghost use Rattle.be_table.specs.Setting.{limits_of, pages_below};
     ghost use Rattle.be_table.specs.Steps.{announces, unpins, longer, KeepsSeen};
     ghost use Rattle.be_table.specs.Steps.{with_history};
     ghost use Rattle.be_table.specs.Trace.{HasTrace};
-    ghost use Rattle.be_table.specs.Versions.{at_start, CanEncodeEach};
+    ghost use Rattle.be_table.specs.Versions.{at_start, CanEncodeEach, EncodesVolume};
     ghost use Rattle.be_table.specs.Works.{IsSeatOf, IsWitnessOf, SeesMore, TakesLock, FoundHeld};
     ghost use Rattle.be_table.specs.Works.{PinsCurrent, Moves, AreAllSeats, AreNew, IsOpenRefused};
     ghost use Rattle.be_table.specs.Works.{IsLargeRefused, Meets, knows_of};
@@ -95,7 +105,7 @@ impl VersionTable {
         requires { IsVersion (λ q. at_start (has (0 ∷ []) q)) (λ q i. slice_index first.now i) 0
             empty }
         ensures { MatchResult result
-            (λ r. (r.0.limits ≡ limits) × (length r.1.items ≡ limits.passes)
+            (λ r. (r.0.limits ≡ begins_empty limits) × (length r.1.items ≡ limits.passes)
             × AreNew r.0 0 r.1.items × IsWithin limits)
             (λ r. IsOpenRefused limits r) }
     {
@@ -114,7 +124,7 @@ impl VersionTable {
         requires { IsVersion (λ q. at_start (has (0 ∷ []) q)) (λ q i. slice_index first.now i) 0
             empty }
         ensures { MatchResult result
-            (λ r. (r.0.limits ≡ limits) × (length r.1.items ≡ limits.passes)
+            (λ r. (r.0.limits ≡ begins_empty limits) × (length r.1.items ≡ limits.passes)
             × AreNew r.0 0 r.1.items × IsPossible limits)
             (λ r. IsLargeRefused limits r) }
     {
@@ -133,8 +143,38 @@ impl VersionTable {
         requires limits { IsPossible limits }
         requires first { IsVersion (λ q. at_start (has (0 ∷ []) q)) (λ q i. slice_index first.now i)
             0 empty }
-        ensures ok { IfOk result (λ r. (r.0.limits ≡ limits) × (length r.1.items ≡ limits.passes)
-            × AreNew r.0 0 r.1.items) }
+        ensures ok { IfOk result (λ r. (r.0.limits ≡ begins_empty limits)
+            × (length r.1.items ≡ limits.passes) × AreNew r.0 0 r.1.items) }
+        ensures err { IfErr result (λ r. r ≡ OutOfMemory) }
+    {
+        let Ok(mut words) = vec![in alloc; 0; PAGES + PAGE_WORDS * limits.pages as usize] else {
+            return Err(Refusal::OutOfMemory);
+        };
+        lay_first(&mut words, first);
+        let volume = empty_volume(alloc);
+        VersionTable::open_with(alloc, limits, words.as_slice(), 1, volume)
+    }
+
+    /// Does what `open_large` does, for a table that begins with a given volume. `words` are all of
+    /// the table's words before any step. Version 0 consists of the pages below `used`, which
+    /// encode the volume, from page 0 on; all other pages are free. The only error is
+    /// `OutOfMemory`.
+    pub fn open_with(
+        alloc: Global,
+        limits: Limits,
+        words: &[u64],
+        used: u64,
+        volume: Snapshot<Volume>,
+    ) -> Result<(VersionTable, Vec<Seat>), Refusal>
+        requires limits { IsPossible limits }
+        requires used { used ≤ limits.pages }
+        requires numbers { IsNumbered volume.value × (volume.value.next ≤ 2 ^ 63) }
+        requires size { length words.now ≡ 528 + 512 * limits.pages }
+        requires blank { (k : ℕ) → k < 528 → slice_index words.now k ≡ 0 }
+        requires encoded { EncodesVolume (pages_below used) (word_of_page words.now) 0
+            volume.value }
+        ensures ok { IfOk result (λ r. (r.0.limits ≡ begins_with limits used volume.value)
+            × (length r.1.items ≡ limits.passes) × AreNew r.0 0 r.1.items) }
         ensures err { IfErr result (λ r. r ≡ OutOfMemory) }
     {
         let Ok(mut seats) = Vec::with_capacity(alloc, limits.passes as usize) else {
@@ -143,7 +183,7 @@ impl VersionTable {
         let Ok(mut slots) = Vec::with_capacity(alloc, 1) else {
             return Err(Refusal::OutOfMemory);
         };
-        let Ok(pool) = PagePool::new(alloc, limits.pages as usize, 1) else {
+        let Ok(pool) = PagePool::new(alloc, limits.pages as usize, used as usize) else {
             return Err(Refusal::OutOfMemory);
         };
         let Ok(space) = first_space(alloc) else {
@@ -156,27 +196,32 @@ impl VersionTable {
             left: 0,
             space: Some(space),
         }));
-        let Ok(mut words) = vec![in alloc; 0; PAGES + PAGE_WORDS * limits.pages as usize] else {
+        let passes = limits.passes;
+        let limits = Setting::of(limits, used, volume);
+        let Ok((table, mut rest)) = Inner::new(alloc, words, slots, &limits) else {
             return Err(Refusal::OutOfMemory);
         };
-        lay_first(&mut words, first);
-        let Ok((table, mut rest)) = Inner::new(alloc, words.as_slice(), slots, &limits) else {
-            return Err(Refusal::OutOfMemory);
-        };
-        deal(&table, &mut rest, limits, &mut seats);
+        deal(&table, &mut rest, passes, &mut seats);
         Ok((VersionTable { table, limits }, seats))
     }
 
     pub(crate) fn passes(&self) -> u64
         ensures { result ≡ self.now.limits.passes }
     {
-        self.limits.passes
+        self.limits.limits().passes
     }
 
     pub(crate) fn limits(&self) -> Limits
-        ensures { result ≡ self.now.limits }
+        ensures { result ≡ limits_of self.now.limits }
     {
-        self.limits
+        self.limits.limits()
+    }
+
+    /// Returns what the table was opened with, which only contracts see.
+    pub fn setting(&self) -> Snapshot<Setting>
+        ensures { result.value ≡ self.now.limits }
+    {
+        Snapshot::of(&self.limits)
     }
 
     /// Looks at the whole journal so far, and returns its length. One load.
@@ -273,7 +318,7 @@ impl VersionTable {
     pub fn pinned_word(&self, seat: &mut Seat, page: u64, i: usize) -> u64
         requires seat { IsSeatOf self.now seat.old }
         requires pinned { (x : ℕ) × (n : ℕ) × (seat.old.knows.phase ≡ Phase.Pinned x n)
-            × IsTrue (has (reach_at seat.old.knows.seen n) page) }
+            × IsTrue (has (reach_at seat.old.knows.limits seat.old.knows.seen n) page) }
         requires place { i < 512 }
         ensures seat { IsSeatOf self.now seat.new }
         ensures pass { seat.new.knows ≡ one_step_on seat.old.knows }
@@ -295,7 +340,7 @@ impl VersionTable {
         ensures version { (x n : ℕ) → seat.knows.phase ≡ Pinned x n
             → IsVersion (pinned_page_state result.knows) (word_of_page result.knows.image)
             (page_at result.knows.seen n)
-            (replay (take n (entries result.knows.seen))) }
+            (replay_from result.knows.limits.volume (take n (entries result.knows.seen))) }
     {
         seat.is_pass();
         PinnedLook::of(self, seat)
@@ -371,10 +416,10 @@ impl VersionTable {
     /// Returns the journal once all seats are back. The passes may still be pinned.
     pub fn close(self, seats: Vec<Seat>) -> Journal
         requires { AreAllSeats self seats.items }
-        ensures legal { IsLegal result.entries }
+        ensures legal { IsLegalFrom self.limits.volume result.entries }
         ensures by { AreOfPasses self.limits.passes result.entries }
         ensures seats { KeepsSeen result.entries (map knows_of seats.items) }
-        ensures volumes { CanEncodeEach self.limits.pages result.entries }
+        ensures volumes { CanEncodeEach self.limits.pages self.limits.volume result.entries }
         ensures limit { result.limit ≡ self.limits.commits }
         ensures trace { HasTrace self.limits (map knows_of seats.items) }
     {

@@ -67,8 +67,12 @@ pub struct Writing<'a> {
 
 impl<'a> Model for Writing<'a> {
     ghost use Rattle.be_table.specs.Place.{Work};
+    ghost use Rattle.std.specs.Coded.{codes};
+    ghost use Rattle.be_table.specs.Setting.{coded_setting};
 
     ghost Value = { Work };
+
+    ghost coded = { Prim.hlevel (codes, coded_setting) };
 
     ghost use Rattle.be_table.specs.Writes.{work_of, IsOpen};
 
@@ -78,7 +82,8 @@ impl<'a> Model for Writing<'a> {
 }
 
 impl<'a> Writing<'a> {
-    ghost use Rattle.be_table.specs.Imports.{bit, is_kept, lines_from, reach, replay, state_after};
+    ghost use Rattle.be_table.specs.Imports.{bit, is_kept, lines_from, reach, replay_from};
+    ghost use Rattle.be_table.specs.Imports.{state_after};
     ghost use Rattle.be_table.specs.Imports.{times, Agrees, Answers, IsFullOf, IsVersion};
     ghost use Rattle.be_table.specs.Imports.{OutOfMemory};
     ghost use Rattle.be_table.specs.Reading.{word_of_page};
@@ -122,7 +127,8 @@ impl<'a> Writing<'a> {
     pub fn current(&self) -> (u64, u64)
         ensures version { (result.0 ≡ length self.now.knows.seen)
             × (result.1 ≡ page_at self.now.knows.seen (length self.now.knows.seen)) }
-        ensures next { (replay (entries self.now.knows.seen)).next + 64 < 2 ^ 64 }
+        ensures next { (replay_from self.now.knows.limits.volume
+            (entries self.now.knows.seen)).next + 64 < 2 ^ 64 }
     {
         (self.writer_state.journal.len(), self.writer_state.page)
     }
@@ -394,13 +400,16 @@ impl<'a> Writing<'a> {
         requires open { self.old.knows.published ≡ false }
         requires count { (1 ≤ length ops.now) × (length ops.now ≤ 64) }
         requires reserved { length ops.now ≡ self.old.reserved }
-        requires entry { Agrees (replay (entries self.old.knows.seen))
+        requires entry { Agrees
+            (replay_from self.old.knows.limits.volume (entries self.old.knows.seen))
             (entry_by self.old.knows ops.now dones.now) }
         requires page { page_state_among self.old.knows.places page ≡ Full }
         requires filled { (q : ℕ) → page_state_among self.old.knows.places q ≢ Taken }
         requires volume { IsVersion (page_state_among self.old.knows.places)
             (word_of_page self.old.knows.words)
-            page (state_after (replay (entries self.old.knows.seen)) ops.now) }
+            page
+            (state_after (replay_from self.old.knows.limits.volume (entries self.old.knows.seen))
+            ops.now) }
         requires exact { (q : ℕ) → times q (reach (word_of_page self.old.knows.words) page)
             ≡ bit (is_kept (page_state_among self.old.knows.places q)) }
         ensures write { self.new ≡ record self.old {

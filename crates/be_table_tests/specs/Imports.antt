@@ -7,4 +7,5 @@ pub use Rattle.be_table.specs.Reading.{open_of, page_state_among, page_state_in_
 pub use Rattle.be_table.specs.Reading.{words_of}
 pub use Rattle.be_table.specs.Works.{AreNew, IsSeatOf, TakesLock}
 pub use Rattle.be_table.specs.declared.pass.Knowledge.{Knowledge}
+pub use Rattle.be_table.specs.Setting.{begins_empty, coded_setting}
 pub use Rattle.be_volume.specs.Volume.{State}

@@ -10,3 +10,4 @@ pub mod Nodes
 pub mod Shape
 pub mod Removing
 pub mod Sizes
+pub mod Builds

@@ -4,3 +4,4 @@ pub mod Splicing
 pub mod Path
 pub mod Settling
 pub mod Counting
+pub mod Building

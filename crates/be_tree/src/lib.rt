@@ -13,6 +13,8 @@
 //! up. A page that the write has already taken is overwritten in place, so a second change nearby
 //! usually takes no page. `clear` gives up each page of a tree.
 //!
+//! A `TreeBuilder` makes a tree anew, with full pages, from pairs in ascending order.
+//!
 //! # What is proved
 //! On the list that be_tree_reading decodes from the words, `insert` puts a pair, `remove` removes
 //! one, and `clear` leaves the empty list. The old tree's pages that the new tree doesn't share are
@@ -20,6 +22,7 @@
 //! says what follows for other trees in the same pages.
 #![tactic(auto)]
 
+mod building;
 mod clearing;
 mod counting;
 mod edit;
@@ -42,6 +45,7 @@ pub use be_tree_reading::{
     find_place, first_of, has_key, is_key_at, is_past_at, key_at, number_at, numbers_within,
     payload_byte_at, payload_len_at, payload_number_at, payload_number32_at, range, word_from,
 };
+pub use building::TreeBuilder;
 pub use clearing::clear;
 pub use counting::{few_in_hand, forest_pages, swaps_take, takes_add, tree_level, tree_pages};
 pub use edit::insert;

@@ -22,7 +22,7 @@ use be_tree_reading::{MINIMUM_ITEMS, MOST_ITEMS, child_at};
 use be_value::Refusal;
 
 /// Writes a node to a new page, and returns that page.
-fn write_node<R: Room>(room: &mut R, node: Node<'_>) -> Result<u64, Refusal>
+pub(crate) fn write_node<R: Room>(room: &mut R, node: Node<'_>) -> Result<u64, Refusal>
     requires size { (0 < length node.slots.now) × (length node.slots.now ≤ 12) }
     requires ready { AreReady (R.page_state room.old) (R.words room.old) node.pair.now
         node.slots.now }

@@ -1,5 +1,5 @@
 -- What C gets of the answer of a prepared query.
-use Rattle.std.proofs.Common.{◌≡◌, ◌⊎◌, ℕ, List, [], length, Result, Ok, Err, inl, inr}
+use Rattle.std.proofs.Common.{◌≡◌, ℕ, List, [], length, Result, Ok, Err, inl, inr}
 use Rattle.std.specs.Prelude.{IfErr, OnOk}
 use Rattle.be_session.specs.Prepared.{PreparedQuery, with_found}
 use Rattle.be_session.specs.Sitting.{IsUnrefreshed, Sitting}

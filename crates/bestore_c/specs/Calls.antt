@@ -1,9 +1,9 @@
 -- What calls do to handles, and what they return.
 use Rattle.std.specs.Prelude.{◌≡◌, ◌⊎◌, ◌<◌, ℕ, ◌*◌, ◌^◌, IsUtf8, List, [], drop, length, map}
-use Rattle.std.specs.Prelude.{slice_get, Option, None, Some, Ok, Err}
+use Rattle.std.specs.Prelude.{slice_get, Bool, Option, None, Some, Ok, Err, if◌then◌else◌}
 use Rattle.std.specs.declared.result.Result.{Result}
 use Rattle.be_journal.specs.declared.entries.Entry.{Entry}
-use Rattle.be_journal.specs.Journal.{IsLegal}
+use Rattle.be_journal.specs.Journal.{IsLegalFrom}
 use Rattle.be_paged_reading.specs.Cells.{ReportsColumns, name_in}
 use Rattle.be_paged_reading.specs.declared.cells.Cell.{Cell}
 use Rattle.be_paged_reading.specs.declared.cells.HeldName.{HeldName}
@@ -38,6 +38,7 @@ use Rattle.be_volume.specs.Reading.{attribute}
 use Rattle.be_volume.specs.Volume.{State}
 use Rattle.be_volume.specs.declared.ops.Done.{Done}
 use Rattle.be_volume.specs.declared.ops.Op.{Op}
+use Rattle.be_volume_state.specs.Rebuilding.{is_held}
 use Rattle.bestore_c.specs.Places.{node_of, over}
 use Rattle.bestore_c.specs.declared.handle.Attribute.{Attribute}
 use Rattle.bestore_c.specs.declared.handle.Counts.{Counts}
@@ -70,8 +71,9 @@ AnswersWhetherOpen None code = code ≡ 64
 AnswersWhetherOpen (Some s) code = code ≡ 0
 
 -- Opening a store. If the handle is open, it is unchanged, and the call returns 65. A closed handle
--- gets a session that has just opened a store with these limits. It stays closed if the store
--- refuses the limits or if memory runs out, in which case the call returns the number of the error.
+-- gets a session that has just opened an empty store with these limits. It stays closed if the
+-- store refuses the limits or if memory runs out, in which case the call returns the number of the
+-- error.
 abbrev pub Opens : Limits → Option Sitting → Option Sitting → ℕ → Type 0
 Opens limits (Some s) (Some t) code = (code ≡ 65) × (t ≡ s)
 Opens limits (Some s) None code = ⊥
@@ -184,6 +186,21 @@ ShowsValue value reported places filled =
     (bytes : List ℕ) × IsValueMeant reported.code reported.number bytes value
     × HasNoMore reported.number bytes value
     × (reported.length ≡ length bytes) × (filled ≡ over bytes places)
+
+-- Whether an index has an attribute in the pinned version, as 1 or 0. The call returns 66 if there
+-- is no pin.
+abbrev pub ShowsHeld : Option ℕ → Bool → ℕ → ℕ → Type 0
+ShowsHeld None is_held shown code = code ≡ 66
+ShowsHeld (Some n) is_held shown code = (code ≡ 0) × (shown ≡ (if is_held then 1 else 0))
+
+-- Looking up a node in the index with a name that is given by its bytes. If they aren't a valid
+-- name, nothing happens.
+abbrev pub ReportsHeld : Sitting → Sitting → ℕ → List ℕ → ℕ → ℕ → Type 0
+ReportsHeld s t node name shown code =
+    ((e : Fault) × (code ≡ fault_code e) × IsNoName name e × (t ≡ s))
+    ⊎ (IsUtf8 name × (name_from name ≡ Ok name) × HasRead s.knows t.knows
+    × ShowsHeld (pinned_number s.knows.phase) (is_held (volume_pinned s.knows) node name) shown
+    code)
 
 -- The attribute in the pinned version. The call returns 66 if there is no pin, and 3 if there is no
 -- such attribute.
@@ -352,12 +369,12 @@ ReportsEntry s t from by counts places filled byte_places bytes number code =
     bytes)
     ⊎ ((why : Refusal) × Refuses (Refused why) number code × IsUnreported s.knows t.knows why))
 
--- The journal, as far as the pass has seen it after the call, is legal. The call returns the length
--- of its text, and as many of the bytes as fit. The call's moves are a lock and an unlock. If an
--- error occurs, the call returns it with what it carries.
+-- The journal, as far as the pass has seen it after the call, is legal from the store's first
+-- volume on. The call returns the length of its text, and as many of the bytes as fit. The call's
+-- moves are a lock and an unlock. If an error occurs, the call returns it with what it carries.
 abbrev pub ReportsJournal : Sitting → Sitting → List ℕ → List ℕ → ℕ → ℕ → Type 0
 ReportsJournal s t places filled count code =
-    Learns s.knows t.knows × IsLegal (entries t.knows.seen)
+    Learns s.knows t.knows × IsLegalFrom t.store.limits.volume (entries t.knows.seen)
     × (((code ≡ 0) × LocksAndUnlocks s.knows t.knows × (count ≡ length (text_seen t.knows))
     × (filled ≡ over (text_seen t.knows) places))
     ⊎ ((why : Refusal) × Refuses (Refused why) count code × IsUnreported s.knows t.knows why))

@@ -5,7 +5,7 @@ use Rattle.std.specs.declared.result.Result.TheVariants.{Ok, Err}
 use Rattle.be_change.specs.Changing.{After, Changing, Reads}
 use Rattle.be_change.specs.Ending.{Begins, IsNotBegun}
 use Rattle.be_session.specs.Changes.{Abandons, CollectsMeant, EndsChange, IsNotCollected}
-use Rattle.be_session.specs.Changes.{IsUnwrittenChange, WritesChange}
+use Rattle.be_session.specs.Changes.{IsOwnChange, IsUnwrittenChange, WritesChange}
 use Rattle.be_session.specs.Fault.{fault_code}
 use Rattle.be_session.specs.Meaning.{IsNoName}
 use Rattle.be_session.specs.Operations.{AreMeant, IsInvalid, IsWriteCount}
@@ -13,7 +13,7 @@ use Rattle.be_session.specs.Sitting.{Sitting}
 use Rattle.be_session.specs.declared.faults.Fault.{Fault}
 use Rattle.be_session.specs.declared.faults.Fault.TheVariants.{Refused}
 use Rattle.be_session.specs.declared.lists.Operation.{Operation}
-use Rattle.be_store.specs.Passes.{HasRead, IsPinnedTo, volume_pinned}
+use Rattle.be_store.specs.Passes.{HasRead, volume_pinned}
 use Rattle.be_table.specs.declared.pass.Knowledge.{Knowledge}
 use Rattle.be_value.specs.Name.{name_from}
 use Rattle.be_value.specs.declared.refusals.Refusal.TheVariants.{OutOfMemory}
@@ -52,13 +52,13 @@ AddsEncoded (Some c) (Some d) o bytes node code =
     ((code ≡ 0) × CollectsMeant c d o bytes node)
     ⊎ ((e : Fault) × Refuses e node code × (d ≡ c) × IsNotCollected c o bytes e)
 
--- An attribute as the change's operations leave it. If the session is pinned to the change's
--- snapshot, the call returns the attribute, or 3 if there is none. Otherwise it returns 66.
+-- An attribute as the change's operations leave it. If it is the session's own change, the call
+-- returns the attribute, or 3 if there is none. Otherwise it returns 66.
 abbrev pub ShowsChanged : Changing → Knowledge → ℕ → List ℕ → Attribute → List ℕ → List ℕ → ℕ
     → Type 0
 ShowsChanged c a node name reported places filled code =
-    ((¬ (IsPinnedTo a c.number)) × (code ≡ 66))
-    ⊎ (IsPinnedTo a c.number × (found : Option Value)
+    ((¬ (IsOwnChange c a)) × (code ≡ 66))
+    ⊎ (IsOwnChange c a × (found : Option Value)
     × Shown (Some c.number) found reported places filled code
     × (Reads c (volume_pinned a)
     → After c (volume_pinned a) (λ s. found ≡ attribute s node name)))

@@ -8,7 +8,7 @@ use Rattle.be_session.specs.Sitting.{Sitting}
 use Rattle.be_session.specs.declared.faults.Fault.{Fault}
 use Rattle.be_session.specs.declared.faults.Fault.TheVariants.{InUse, Refused}
 use Rattle.be_store.specs.History.{IsUnreported, Learns, LocksAndUnlocks, text_seen}
-use Rattle.be_table.specs.declared.limits.Limits.{Limits}
+use Rattle.be_table.specs.Setting.{Setting}
 use Rattle.be_table.specs.declared.pass.Knowledge.{Knowledge}
 use Rattle.be_value.specs.declared.refusals.Refusal.{Refusal}
 use Rattle.bestore_c.specs.Calls.{IsClosed, Refuses}
@@ -16,7 +16,7 @@ use Rattle.bestore_c.specs.Places.{over}
 
 -- The store was closed by a pass that knew this, and there is room for the whole text of its
 -- journal. The call returns the text and its length. Otherwise it returns InUse.
-abbrev pub IsEnd : Limits → Knowledge → List ℕ → List ℕ → ℕ → ℕ → Type 0
+abbrev pub IsEnd : Setting → Knowledge → List ℕ → List ℕ → ℕ → ℕ → Type 0
 IsEnd limits a places filled count code =
     ((code ≡ 0) × (log : Log) × IsFinishedBy limits a log
     × (count ≡ length (lines_from 1 log.entries)) × (count ≤ length places)

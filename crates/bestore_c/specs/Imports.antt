@@ -34,8 +34,10 @@ pub use Rattle.be_store.specs.History.{IsUnreported, Learns, LocksAndUnlocks, Pi
 pub use Rattle.be_store.specs.History.{text_seen}
 pub use Rattle.be_store.specs.Live.{IsLiveOf}
 pub use Rattle.be_store.specs.Passes.{HasRead, volume_pinned}
+pub use Rattle.be_store_building.specs.contracts.builder.StoreBuilder.{the_row as builder_row}
 pub use Rattle.be_table.specs.Rule.{entries}
 pub use Rattle.be_table.specs.Seats.{pinned_number}
+pub use Rattle.be_table.specs.Setting.{coded_setting}
 pub use Rattle.be_table.specs.contracts.witness.Witness.{the_row as witness_row}
 pub use Rattle.be_table.specs.declared.witness.Witness.{Witness}
 pub use Rattle.be_value.specs.Name.{has_nul}
@@ -44,5 +46,5 @@ pub use Rattle.be_value.specs.declared.refusals.Refusal.TheVariants.{OutOfMemory
 pub use Rattle.be_value.specs.declared.values.Kind.{Kind as AnyKind}
 pub use Rattle.be_value.specs.declared.values.Value.{Value as AnyValue}
 pub use Rattle.be_volume.specs.Reading.{attribute, attributes_at, index_kinds}
-pub use Rattle.be_volume.specs.Volume.{State}
+pub use Rattle.be_volume.specs.Volume.{State, coded_state}
 pub use Rattle.be_volume.specs.declared.ops.Op.{Op as AnyOp}

@@ -11,13 +11,16 @@ use Rattle.be_change.specs.contracts.changes.Change as change
 use Rattle.be_session.specs.contracts.preparing.Prepared as prepared
 use Rattle.be_session.specs.contracts.session.Session as session
 use Rattle.be_session.specs.contracts.states.StatePlace as place
+use Rattle.be_store_building.specs.contracts.builder.StoreBuilder as builder
 use Rattle.be_table.specs.contracts.witness.Witness as witness
+use Rattle.bestore_c.specs.contracts.handle.OwnedBuilder as owned_builder
 use Rattle.bestore_c.specs.contracts.handle.OwnedDraft as owned_draft
 use Rattle.bestore_c.specs.contracts.handle.OwnedPlace as owned_place
 use Rattle.bestore_c.specs.contracts.handle.OwnedQuery as owned_query
 use Rattle.bestore_c.specs.contracts.handle.OwnedSession as owned_session
 use Rattle.bestore_c.specs.contracts.handle.OwnedWitness as owned_witness
 use Rattle.bestore_c.specs.contracts.owned.Owned as owned
+use Rattle.bestore_c.specs.declared.handle.OwnedBuilder.{OwnedBuilder}
 use Rattle.bestore_c.specs.declared.handle.OwnedDraft.{OwnedDraft}
 use Rattle.bestore_c.specs.declared.handle.OwnedPlace.{OwnedPlace}
 use Rattle.bestore_c.specs.declared.handle.OwnedQuery.{OwnedQuery}
@@ -74,3 +77,10 @@ as_draft o = record { at = o.at; alloc = o.alloc; value = o.value }
 
 abbrev pub LendsDraft : MutBor OwnedDraft → MutBor (Owner change.the_row).Denot → Fml
 LendsDraft o x = Lends owned_draft.the_row (Owner change.the_row) o x as_draft
+
+-- The same definitions for a builder.
+abbrev pub as_builder : (Owner builder.the_row).Denot → OwnedBuilder
+as_builder o = record { at = o.at; alloc = o.alloc; value = o.value }
+
+abbrev pub LendsBuilder : MutBor OwnedBuilder → MutBor (Owner builder.the_row).Denot → Fml
+LendsBuilder o x = Lends owned_builder.the_row (Owner builder.the_row) o x as_builder

@@ -10,3 +10,5 @@ pub mod Witnesses
 pub mod Drafts
 pub mod Finishing
 pub mod Ordering
+pub mod Building
+pub mod Ways

@@ -6,9 +6,6 @@ use Rattle.be_query_text.specs.Described.{Description, described, leaves}
 use Rattle.be_query_text.specs.Places.{places}
 use Rattle.be_query_text.specs.EncodedComparisons.{bytes_of, encoded_from}
 use Rattle.be_query_text.specs.declared.encoding.EncodedComparison.{EncodedComparison}
-use Rattle.be_session.specs.Sitting.{IsNoQuery}
-use Rattle.be_session.specs.declared.faults.Fault.{Fault}
-use Rattle.bestore_c.specs.Calls.{Refuses}
 use Rattle.bestore_c.specs.Places.{over}
 use Rattle.bestore_c.specs.declared.handle.Counts.{Counts}
 

@@ -3,13 +3,16 @@
 //! The content of a handle is a boxed value that is kept as a pointer, or nothing. The type of the
 //! pointer doesn't mention the value, so the struct can be stored in memory that C passes.
 ghost use Rattle.std.specs.Prelude.{◌≡◌, Option, is_some};
-ghost use Rattle.bestore_c.specs.Imports.{change_row, coded_option, coded_prepared, ghosts};
-ghost use Rattle.bestore_c.specs.Imports.{place_row, prepared_row, session_row, witness_row};
+ghost use Rattle.std.specs.Coded.{codes};
+ghost use Rattle.bestore_c.specs.Imports.{builder_row, change_row, coded_option, coded_prepared};
+ghost use Rattle.bestore_c.specs.Imports.{coded_setting, coded_state, ghosts, place_row};
+ghost use Rattle.bestore_c.specs.Imports.{prepared_row, session_row};
+ghost use Rattle.bestore_c.specs.Imports.{witness_row};
 ghost use Rattle.bestore_c.specs.Owned.{may_own};
 
 use crate::owned::Owned;
 use be_change::Change;
-use be_session::{Prepared, Session, StatePlace, sent};
+use be_session::{Prepared, Session, StatePlace, StoreBuilder, sent};
 use be_store::Witness;
 use std::alloc::Global;
 use std::marker::Model;
@@ -20,7 +23,7 @@ use std::marker::Model;
 pub struct OwnedSession {
     at: *mut u8,
     alloc: Global,
-    pub ghost value: { Option (session_row).Denot },
+    pub ghost value: { Option (session_row).Denot } by { Prim.hlevel (codes, coded_setting) },
 }
 
 impl Model for OwnedSession {
@@ -197,6 +200,42 @@ impl OwnedDraft {
 pub struct DraftHandle {
     pub live: bool,
     pub owned: OwnedDraft,
+    ghost full: { live ≡ is_some owned.value },
+}
+
+/// The content of a builder's handle.
+#[repr(C)]
+#[derive(Drop)]
+pub struct OwnedBuilder {
+    at: *mut u8,
+    alloc: Global,
+    pub ghost value: { Option (builder_row).Denot } by { Prim.hlevel (codes, coded_state) },
+}
+
+impl Model for OwnedBuilder {
+    ghost also_owns = { λ p. may_own (ghosts.dealloc_token p.alloc) builder_row p.at p.value };
+}
+
+impl OwnedBuilder {
+    ghost use Rattle.bestore_c.specs.Imports.{sem};
+    ghost use Rattle.bestore_c.specs.Lent.{LendsBuilder};
+
+    /// Lends the content with a pointer of its type.
+    pub fn typed(&mut self) -> &mut Owned<StoreBuilder, Global>
+        ensures* writes_back { sem 𝓛 (LendsBuilder self.entry result) }
+        ensures value { self.old.value ≡ result.now.value }
+    {
+        unsafe { &mut *(self as *mut OwnedBuilder as *mut Owned<StoreBuilder, Global>) }
+    }
+}
+
+/// A builder's handle in C, which is either closed or open with the builder. A handle of all zero
+/// bytes is closed.
+#[repr(C)]
+#[derive(Drop)]
+pub struct BuilderHandle {
+    pub live: bool,
+    pub owned: OwnedBuilder,
     ghost full: { live ≡ is_some owned.value },
 }
 

@@ -15,6 +15,7 @@ ghost use Rattle.bestore_c.specs.Calls.{AnswersWhetherOpen, AsksPrepared, Calls,
 ghost use Rattle.bestore_c.specs.Calls.{FindsBuilt, GivesAnother, IsClosed, IsTextFault, Listed};
 ghost use Rattle.bestore_c.specs.Calls.{MovesHandle, Opens, Prepares, PrintsPrepared, PutsOutAtPin};
 ghost use Rattle.bestore_c.specs.Calls.{Reads, RefreshesPrepared, Refuses, ShowsFound, HoldsName};
+ghost use Rattle.bestore_c.specs.Calls.{ReportsHeld};
 ghost use Rattle.bestore_c.specs.Calls.{ReadsHeld, ShowsChanges, ReportsAtPin, ReportsEntry};
 ghost use Rattle.bestore_c.specs.Calls.{ReportsJournal, ReportsNumber, WritesEncoded};
 ghost use Rattle.bestore_c.specs.Calls.{WritesEncodedIf};
@@ -25,9 +26,11 @@ ghost use Rattle.bestore_c.specs.Ordering.{AnyFew, First, IsRefreshedHere, Order
 ghost use Rattle.bestore_c.specs.Ordering.{RefreshesByWrites};
 ghost use Rattle.bestore_c.specs.States.{ReportsState, unreported_at};
 ghost use Rattle.bestore_c.specs.Usage.{ReportsUsage};
+ghost use Rattle.bestore_c.specs.Ways.{ReturnsWays};
 ghost use Rattle.bestore_c.specs.Witnesses.{AreOfOneStore, JoinsWitness, Vouches};
 
 mod asking;
+pub mod building;
 mod drafts;
 mod entries;
 mod finishing;
@@ -69,15 +72,15 @@ use std::alloc::Global;
 use std::mem;
 
 /// The return value of a call without an error.
-const DONE: u32 = 0;
+pub(crate) const DONE: u32 = 0;
 
-const NO_MEMORY: u32 = 10;
+pub(crate) const NO_MEMORY: u32 = 10;
 
 /// The handle is closed.
 pub(crate) const CLOSED: u32 = 64;
 
 /// The handle that the call should open is already open.
-const OPEN: u32 = 65;
+pub(crate) const OPEN: u32 = 65;
 
 /// Returns the version of the library, with a million for each major version and a thousand for
 /// each minor version. Version 0.4.0 is 4,000.
@@ -778,6 +781,29 @@ pub extern "C" fn bes_explain(
     report_text(answer, bytes, count)
 }
 
+/// Answers a query, and returns a text that says which ranges of index keys the answer walked, with
+/// the estimated and the real number of their keys. Returns the length of the text in bytes, and as
+/// many of the bytes as fit.
+#[unsafe(no_mangle)]
+pub extern "C" fn bes_ways(
+    alloc: Global,
+    pass: &mut Handle,
+    text: &[u8],
+    bytes: &mut [u8],
+    count: &mut u64,
+) -> u32
+    ensures pass { Calls pass.old.owned.value pass.new.owned.value (IsClosed count.new result)
+        (λ s t. ReturnsWays s t text.now bytes.old bytes.new count.new result) }
+    ensures kept { (result ≡ 0) ⊎ (bytes.new ≡ bytes.old) }
+{
+    let query = match query_for(alloc, pass.live, text, count) {
+        Ok(query) => query,
+        Err(code) => return code,
+    };
+    let lines = pass.owned.typed().lent().ways(alloc, &query);
+    report_text(lines, bytes, count)
+}
+
 /// Lists the nodes of the pinned version in ascending order, starting at a given number, as many as
 /// fit. Returns how many were listed.
 #[unsafe(no_mangle)]
@@ -842,6 +868,36 @@ pub extern "C" fn bes_get(
     }
     match &held_name(name_bytes) {
         Ok(name) => read(pass.owned.typed().lent(), node, name, attribute, bytes),
+        Err(fault) => fault.code(),
+    }
+}
+
+/// Writes whether the index with this name has the node's attribute in the pinned version: 1 if it
+/// does, and otherwise 0.
+#[unsafe(no_mangle)]
+pub extern "C" fn bes_is_held(
+    alloc: Global,
+    pass: &mut Handle,
+    node: u64,
+    name_bytes: &[u8],
+    held: &mut u32,
+) -> u32
+    ensures pass { Calls pass.old.owned.value pass.new.owned.value (result ≡ 64)
+        (λ s t. ReportsHeld s t node name_bytes.now held.new result) }
+    ensures kept { (result ≡ 0) ⊎ (held.new ≡ held.old) }
+{
+    if !pass.live {
+        return CLOSED;
+    }
+    let called = match name(name_bytes) {
+        Ok(called) => called,
+        Err(fault) => return fault.code(),
+    };
+    match pass.owned.typed().lent().is_held(alloc, node, &called) {
+        Ok(found) => {
+            *held = u32::from(found);
+            DONE
+        }
         Err(fault) => fault.code(),
     }
 }

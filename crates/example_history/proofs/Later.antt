@@ -9,7 +9,7 @@ use Rattle.be_journal.specs.declared.entries.Entry.{Entry}
 use Rattle.be_query.specs.Grammar.{Formula}
 use Rattle.be_value.specs.declared.refusals.Refusal.{Refusal}
 use Rattle.be_volume.specs.Query.{scan}
-use Rattle.be_volume.specs.Volume.{State}
+use Rattle.be_volume.specs.Volume.{State, empty}
 use Rattle.be_volume.specs.declared.ops.Done.{Done}
 use Rattle.be_volume.specs.declared.ops.Op.{Op}
 use Rattle.be_store.specs.OneHistory.{AreKept, HasRun, IsKept, IsOneHistory, PassRun, steps_of, written, written_by}
@@ -73,22 +73,22 @@ after journal a s steps xs z e run kept =
     record { c = f.0; leads = run_here.0; kept = kept_here.0; rest = f.1; named = f.3; run = run_here.1; all = kept_here.2 }
 
 -- what is known about a visit that wrote entry e at the number n and found these nodes
-record Visited (journal : List Entry) (query : Formula) (seen : ℕ) (e : Entry) (n : ℕ) (nodes : List ℕ) : Type 0 where
+record Visited (start : State) (journal : List Entry) (query : Formula) (seen : ℕ) (e : Entry) (n : ℕ) (nodes : List ℕ) : Type 0 where
   later : seen < n
   place : (i : ℕ) × (n ≡ suc i) × (slice_get journal i ≡ Some e)
   pin : ℕ
   late : n ≤ pin
   inside : pin ≤ length journal
-  found : Nodes (Ok nodes) ≡ Nodes (scan (state_of volume (take pin journal)) query)
+  found : Nodes (Ok nodes) ≡ Nodes (scan (state_of volume start (take pin journal)) query)
 
 abbrev some_or : ℕ → Option ℕ → ℕ
 some_or d None = d
 some_or d (Some n) = n
 
-visited : (journal : List Entry) (a : PassView volume) (k : ℕ) (ops : List Op) (n : ℕ) (dones : List Done) (query : Formula) (pin : ℕ) (nodes : List ℕ) (xs : List (Step volume × PassView volume))
-    (z : PassView volume) → map (λ (x : Step volume × PassView volume). x.0) xs ≡ visits k ops n dones query pin nodes → AreSteps volume a xs z → AreKept volume journal a xs
-    → Visited journal query (length a.seen) (record { by = k; ops = ops; dones = dones }) n nodes
-visited journal a k ops n dones query pin nodes xs z named run kept =
+visited : (start : State) (journal : List Entry) (a : PassView volume) (k : ℕ) (ops : List Op) (n : ℕ) (dones : List Done) (query : Formula) (pin : ℕ) (nodes : List ℕ) (xs : List (Step volume × PassView volume))
+    (z : PassView volume) → a.first ≡ start → map (λ (x : Step volume × PassView volume). x.0) xs ≡ visits k ops n dones query pin nodes → AreSteps volume a xs z → AreKept volume journal a xs
+    → Visited start journal query (length a.seen) (record { by = k; ops = ops; dones = dones }) n nodes
+visited start journal a k ops n dones query pin nodes xs z begun named run kept =
     let e : Entry = record { by = k; ops = ops; dones = dones } in
     let w = after journal a (Apply e n) (asks query pin nodes) xs z named run kept in
     let p = after journal w.c (Pin pin) (Read (λ s. Nodes (scan s query)) (Some (Nodes (Ok nodes))) ∷ Unpin ∷ []) w.rest z w.named w.run w.all in
@@ -99,13 +99,15 @@ visited journal a k ops n dones query pin nodes xs z named run kept =
     let front = ap length p.kept.1.1 in
     let sides = length-append w.c.seen p.kept.1.0 in
     let cut = length-take-le pin journal p.kept.0 in
+    let first_of : PassView volume → State = λ v. v.first in
+    let same = ap first_of p.leads.1 ∙ (ap first_of w.leads.3 ∙ begun) in
     let at : r.kept.0 ≡ pin = ap (some_or pin) (sym r.kept.1 ∙ ap (λ (v : PassView volume). v.pin) p.leads.1) in record {
       later = omega (arith, w.leads.4, long, whole, parts);
       place = w.kept;
       pin = pin;
       late = omega (arith, w.leads.4, front, sides, cut);
       inside = p.kept.0;
-      found = r.kept.2 ∙ ap (λ (m : ℕ). Nodes (scan (state_of volume (take m journal)) query)) at;
+      found = r.kept.2 ∙ (ap (λ (m : ℕ). Nodes (scan (state_of volume p.c.first (take m journal)) query)) at ∙ ap (λ (s : State). Nodes (scan (state_of volume s (take pin journal)) query)) same);
     }
 
 abbrev nodes_in : Answer → Result (List ℕ) Refusal
@@ -113,12 +115,12 @@ nodes_in (Nodes r) = r
 nodes_in other = Ok []
 
 -- the later write's entry is the last, so the pin after it includes the whole journal
-at_last : (journal : List Entry) (query : Formula) (seen : ℕ) (e : Entry) (n : ℕ) (nodes : List ℕ) → length journal ≡ 3 → n ≡ 3 → Visited journal query seen e n nodes → scan (state_of volume journal) query ≡ Ok nodes
-at_last journal query seen e n nodes three last v =
+at_last : (start : State) (journal : List Entry) (query : Formula) (seen : ℕ) (e : Entry) (n : ℕ) (nodes : List ℕ) → length journal ≡ 3 → n ≡ 3 → Visited start journal query seen e n nodes → scan (state_of volume start journal) query ≡ Ok nodes
+at_last start journal query seen e n nodes three last v =
     let late = v.late in
     let inside = v.inside in
     let whole : take v.pin journal ≡ journal = take_all v.pin journal (omega (arith, three, last, late)) in
-    sym (ap (λ (l : List Entry). scan (state_of volume l) query) whole) ∙ sym (ap nodes_in v.found)
+    sym (ap (λ (l : List Entry). scan (state_of volume start l) query) whole) ∙ sym (ap nodes_in v.found)
 
 abbrev by_of : ℕ → Option Entry → ℕ
 by_of d None = d
@@ -153,7 +155,7 @@ module _ (journal : List Entry) (query : Formula) (begin ann bob : List Op) (g a
   abbrev second : List (Step volume)
   second = visits 1 bob b signed_b query pin_b found_b
 
-  of_runs : (r s : PassRun volume) → r.number ≡ 0 → s.number ≡ 1 → steps_of volume r ≡ first → steps_of volume s ≡ second → IsOneHistory volume journal (r ∷ s ∷ []) → FindsAll journal query a b found_a found_b
+  of_runs : (r s : PassRun volume) → r.number ≡ 0 → s.number ≡ 1 → steps_of volume r ≡ first → steps_of volume s ≡ second → IsOneHistory volume empty journal (r ∷ s ∷ []) → FindsAll journal query a b found_a found_b
   of_runs r s none one its others h =
       let authors : All (λ (e : Entry). (0 ≡ e.by) ⊎ (1 ≡ e.by)) journal =
       All-weaker (λ (e : Entry). HasRun volume (r ∷ s ∷ []) e.by) (λ (e : Entry). (0 ≡ e.by) ⊎ (1 ≡ e.by)) (λ e has. known e has) journal h.authors in
@@ -164,11 +166,13 @@ module _ (journal : List Entry) (query : Formula) (begin ann bob : List Op) (g a
       let single : length (entries_by volume 1 journal) ≡ 1 =
       ap (λ (k : ℕ). length (entries_by volume k journal)) (sym one) ∙ (ap length writes_s ∙ (ap length (written_of s.steps) ∙ ap (λ (l : List (Step volume)). length (entries_of l)) others)) in
       let three : length journal ≡ 3 = let sum = count journal authors in omega (arith, sum, two, single) in
-      let kept_r = All-head (λ (t : PassRun volume). AreKept volume journal (first_view volume t.number) t.steps) r (s ∷ []) h.kept in
-      let kept_s = All-head (λ (t : PassRun volume). AreKept volume journal (first_view volume t.number) t.steps) s [] (All-tail (λ (t : PassRun volume). AreKept volume journal (first_view volume t.number) t.steps) r (s ∷ []) h.kept) in
-      let w = after journal (first_view volume r.number) (Apply (record { by = 0; ops = begin; dones = begun }) g) (visits 0 ann a signed_a query pin_a found_a) r.steps r.last its r.run kept_r in
-      let va = visited journal w.c 0 ann a signed_a query pin_a found_a w.rest r.last w.named w.run w.all in
-      let vb = visited journal (first_view volume s.number) 1 bob b signed_b query pin_b found_b s.steps s.last others s.run kept_s in
+      let kept_r = All-head (λ (t : PassRun volume). AreKept volume journal (first_view volume t.first t.number) t.steps) r (s ∷ []) h.kept in
+      let kept_s = All-head (λ (t : PassRun volume). AreKept volume journal (first_view volume t.first t.number) t.steps) s [] (All-tail (λ (t : PassRun volume). AreKept volume journal (first_view volume t.first t.number) t.steps) r (s ∷ []) h.kept) in
+      let w = after journal (first_view volume r.first r.number) (Apply (record { by = 0; ops = begin; dones = begun }) g) (visits 0 ann a signed_a query pin_a found_a) r.steps r.last its r.run kept_r in
+      let begins_r = All-head (λ (t : PassRun volume). t.first ≡ empty) r (s ∷ []) h.begins in
+      let begins_s = All-head (λ (t : PassRun volume). t.first ≡ empty) s [] (All-tail (λ (t : PassRun volume). t.first ≡ empty) r (s ∷ []) h.begins) in
+      let va = visited empty journal w.c 0 ann a signed_a query pin_a found_a w.rest r.last (ap (λ (v : PassView volume). v.first) w.leads.3 ∙ begins_r) w.named w.run w.all in
+      let vb = visited empty journal (first_view volume s.first s.number) 1 bob b signed_b query pin_b found_b s.steps s.last begins_s others s.run kept_s in
       let more = va.later in
       let seen = w.leads.4 in
       let low_a = inside journal a (record { by = 0; ops = ann; dones = signed_a }) va.place in
@@ -179,12 +183,12 @@ module _ (journal : List Entry) (query : Formula) (begin ann bob : List Op) (g a
       let some_b = vb.place.1 in (
         three,
         apart_a,
-        (λ lt. at_last journal query (length w.c.seen) (record { by = 0; ops = ann; dones = signed_a }) a found_a three
+        (λ lt. at_last empty journal query (length w.c.seen) (record { by = 0; ops = ann; dones = signed_a }) a found_a three
             (elim (cases_lt g b) [
               | inl below ↦ omega (arith, three, more, seen, low_a, lt, below, some_g)
               | inr above ↦ omega (arith, three, more, seen, low_a, lt, apart_g, above, some_b)
             ]) va),
-        (λ lt. at_last journal query 0 (record { by = 1; ops = bob; dones = signed_b }) b found_b three (omega (arith, three, more, seen, low_b, lt, some_g)) vb),
+        (λ lt. at_last empty journal query 0 (record { by = 1; ops = bob; dones = signed_b }) b found_b three (omega (arith, three, more, seen, low_b, lt, some_g)) vb),
       )
     where
       known : (e : Entry) → HasRun volume (r ∷ s ∷ []) e.by → (0 ≡ e.by) ⊎ (1 ≡ e.by)
@@ -192,7 +196,7 @@ module _ (journal : List Entry) (query : Formula) (begin ann bob : List Op) (g a
       known e (inr (inl is)) = inr (sym one ∙ is)
       known e (inr (inr none_left)) = absurd none_left
 
-  by_runs : (runs : List (PassRun volume)) → map (λ (r : PassRun volume). r.number) runs ≡ 0 ∷ 1 ∷ [] → map (steps_of volume) runs ≡ first ∷ second ∷ [] → IsOneHistory volume journal runs → FindsAll journal query a b found_a found_b
+  by_runs : (runs : List (PassRun volume)) → map (λ (r : PassRun volume). r.number) runs ≡ 0 ∷ 1 ∷ [] → map (steps_of volume) runs ≡ first ∷ second ∷ [] → IsOneHistory volume empty journal runs → FindsAll journal query a b found_a found_b
   by_runs [] numbers its h = absurd (let short = ap length numbers in omega (arith, short))
   by_runs (r ∷ []) numbers its h = absurd (let short = ap length numbers in omega (arith, short))
   by_runs (r ∷ s ∷ []) numbers its h =

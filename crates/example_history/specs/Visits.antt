@@ -8,10 +8,11 @@ use Rattle.be_query.specs.Grammar.{Formula}
 use Rattle.be_table.specs.Place.{Opened, SeatFacts}
 use Rattle.be_table.specs.Rule.{newcomer}
 use Rattle.be_table.specs.Seats.{pinned_number}
-use Rattle.be_table.specs.declared.limits.Limits.{Limits}
+use Rattle.be_table.specs.Setting.{Setting}
 use Rattle.be_table.specs.declared.pass.Knowledge.{Knowledge}
 use Rattle.be_value.specs.declared.refusals.Refusal.{Refusal}
 use Rattle.be_volume.specs.Query.{scan}
+use Rattle.be_volume.specs.Volume.{empty}
 use Rattle.be_volume.specs.declared.ops.Done.{Done}
 use Rattle.be_volume.specs.declared.ops.Op.{Op}
 use Rattle.be_store.specs.Calls.{Calls}
@@ -23,7 +24,7 @@ use Rattle.example_history.specs.declared.Visit.{Visit}
 
 -- the knowledge that pass k of a store begins with
 abbrev pub IsNew : Knowledge → ℕ → Type 0
-IsNew a k = (limits : Limits) × (steps : ℕ) × (a ≡ newcomer limits steps k)
+IsNew a k = (limits : Setting) × (steps : ℕ) × (a ≡ newcomer limits steps k)
 
 -- Pass k writes these operations. The write is accepted, with the commit number n and these
 -- outcomes.
@@ -52,11 +53,12 @@ HasVisited store before ops query pass answer = IsPassOf store pass
     × IfOk answer (λ v. Calls before (visits before.number ops v.signed.number
     v.signed.outcomes.items query v.found.pin v.found.nodes.items) pass.knows)
 
--- The journal is one history of two passes, whose calls were these steps.
+-- The journal is one history of two passes of a store that began empty, whose calls were these
+-- steps.
 abbrev pub IsHistoryOf : List Entry → List (Step volume) → List (Step volume) → Type 0
 IsHistoryOf journal first second = (runs : List (PassRun volume))
     × (map (λ (r : PassRun volume). r.number) runs ≡ 0 ∷ 1 ∷ [])
-    × (map (steps_of volume) runs ≡ first ∷ second ∷ []) × IsOneHistory volume journal runs
+    × (map (steps_of volume) runs ≡ first ∷ second ∷ []) × IsOneHistory volume empty journal runs
 
 -- The journal has three entries. The writes a and b have different numbers, and the query after the
 -- later write found the nodes that match in the final volume.

@@ -9,6 +9,7 @@ ghost use Rattle.be_store.specs.Calls.{Calls};
 ghost use Rattle.be_store.specs.Passes.{IsPassOf};
 ghost use Rattle.be_store.specs.Seats.{pinned_number};
 ghost use Rattle.be_store.specs.Views.{IsClosed};
+ghost use Rattle.be_volume.specs.Volume.{empty};
 ghost use Rattle.example_history.specs.Visits.{FindsAll, HasVisited, IsHistoryOf, IsNew, MayVisit};
 ghost use Rattle.example_history.specs.Visits.{asks, visits, writes};
 
@@ -117,6 +118,7 @@ fn both_of(mut passes: Vec<Pass>) -> Result<(Pass, Pass), Refusal>
 /// Opens a store with two passes.
 fn open_two(alloc: Global) -> Result<(Store, Pass, Pass), Refusal>
     ensures two { IfOk result (λ r. r.0.limits.passes ≡ 2) }
+    ensures empty { IfOk result (λ r. r.0.limits.volume ≡ empty) }
     ensures first { IfOk result (λ r. IsPassOf r.0 r.1 × IsNew r.1.knows 0) }
     ensures second { IfOk result (λ r. IsPassOf r.0 r.2 × IsNew r.2.knows 1) }
 {
@@ -130,13 +132,14 @@ fn open_two(alloc: Global) -> Result<(Store, Pass, Pass), Refusal>
     Ok((store, first, second))
 }
 
-/// Closes a store with two passes.
-#[tactic(auto, using(crate::proofs::Runs::two_apart))]
+/// Closes a store with two passes that began empty.
+#[tactic(auto, using(crate::proofs::Runs::two_apart, crate::proofs::Runs::two_begin))]
 fn close_two(alloc: Global, store: Store, first: Pass, second: Pass) -> Result<Journal, Refusal>
     requires first { IsPassOf store first × (first.knows.number ≡ 0) }
     requires second { IsPassOf store second × (second.knows.number ≡ 1) }
     requires two { store.limits.passes ≡ 2 }
-    ensures { IfOk result (λ j. IsClosed 2 j.entries (first.knows ∷ second.knows ∷ [])) }
+    requires empty { store.limits.volume ≡ empty }
+    ensures { IfOk result (λ j. IsClosed empty 2 j.entries (first.knows ∷ second.knows ∷ [])) }
 {
     let mut passes = Vec::new(alloc);
     passes.push(first)?;

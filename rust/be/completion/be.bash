@@ -36,7 +36,7 @@ _be_command() {
 _be_options() {
     case $1 in
     "") echo --version ;;
-    query) printf '%s\n' --columns --limit --sort --reverse --after --any --count --watch --escape --json --path --null --dates ;;
+    query) printf '%s\n' --columns --limit --sort --reverse --after --any --count --watch --escape --explain --json --path --null --dates ;;
     addattr) printf '%s\n' --type --file --new ;;
     catattr) printf '%s\n' --raw --json ;;
     listattr) printf '%s\n' --long --hexdump --json ;;

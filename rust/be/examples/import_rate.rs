@@ -1,8 +1,8 @@
 //! Measures how long `be import` takes for a folder, compared with inserting the same attributes into an SQLite table, and how soon `be
 //! import --follow` has written a change.
 //!
-//! `cargo build --release && cargo run --release -p be --example import_rate [FOLDER [VOLUMES]]`. The default folder is
-//! /usr/share, with one volume for every 10,000 files. Rows are printed in the form that docs/MEASURED.md uses.
+//! `cargo build --release && cargo run --release -p be --example import_rate [FOLDER]`. The default folder is /usr/share. Rows are printed
+//! in the form that docs/MEASURED.md uses.
 
 use bestore_client::{Client, Query};
 use bestore_types::Value;
@@ -14,8 +14,6 @@ use std::{env, fs, thread};
 
 type Result<T> = std::result::Result<T, Box<dyn std::error::Error>>;
 
-/// The number of files per volume.
-const FILES: usize = 10_000;
 /// How many times to make each change to a followed folder.
 const ROUNDS: usize = 30;
 const COLUMNS: [&str; 8] = [
@@ -36,17 +34,14 @@ struct Server {
 }
 
 impl Server {
-    fn start(volumes: usize, kept: bool) -> Result<Self> {
+    fn start(kept: bool) -> Result<Self> {
         let folder = env::temp_dir().join(format!("be-import-rate-{}-{kept}", std::process::id()));
         fs::create_dir(&folder)?;
         let mut command = Command::new(program("bestored")?);
         command
             .arg("--socket")
             .arg(folder.join("socket"))
-            .args(["--pages", "16384"]);
-        if volumes > 1 {
-            command.args(["--volumes", &volumes.to_string()]);
-        }
+            .args(["--pages", "1048576"]);
         if kept {
             command.arg("--keep").arg(folder.join("kept")).args(["--every", "1000"]);
         }
@@ -259,22 +254,17 @@ fn follow(server: &Server) -> Result<()> {
 }
 
 fn main() -> Result<()> {
-    let mut words = env::args().skip(1);
-    let folder = words.next().unwrap_or_else(|| "/usr/share".into());
+    let folder = env::args().nth(1).unwrap_or_else(|| "/usr/share".into());
     let count = find(&folder, &[])?.len();
-    let volumes: usize = match words.next() {
-        Some(word) => word.parse()?,
-        None => (count + FILES - 1) / FILES,
-    };
-    println!("| {folder}, {volumes} volumes | {count} files found by find |");
-    let server = Server::start(volumes, false)?;
+    println!("| {folder} | {count} files found by find |");
+    let server = Server::start(false)?;
     shown("first import, in memory", &server.import(&folder)?);
     shown("second import, with nothing new", &server.import(&folder)?);
     compare(&server, &folder)?;
     let rows = rows(&server)?;
     follow(&server)?;
     drop(server);
-    let kept = Server::start(volumes, true)?;
+    let kept = Server::start(true)?;
     shown("first import, kept with --every 1000", &kept.import(&folder)?);
     println!(
         "| inserting the same attributes into SQLite, in one transaction, in memory | {} rows in {:.2} s |",

@@ -38,11 +38,9 @@ fn oldest(reader: &OldestReader) -> String {
         (Some(client), Some(process)) => format!("client {client} (process {process})"),
         _ => "the server itself".into(),
     };
-    let volume = reader.volume.map(|volume| format!(" of volume {volume}"));
     let held = reader.milliseconds.map(|held| format!(", for {}", time(held)));
     let earlier = if reader.earlier { ", in earlier memory" } else { "" };
-    let (volume, held) = (volume.unwrap_or_default(), held.unwrap_or_default());
-    format!("{}{volume}, by {by}{held}{earlier}", reader.commit)
+    format!("{}, by {by}{}{earlier}", reader.commit, held.unwrap_or_default())
 }
 
 fn lines(info: &Info) -> Vec<(&'static str, String)> {
@@ -178,13 +176,12 @@ mod tests {
         assert_eq!(oldest(&of_server), "5, by the server itself");
         let of_client = OldestReader {
             commit: 7,
-            volume: Some(2),
             client: Some(3),
             process: Some(77),
             milliseconds: Some(12_345),
             earlier: false,
         };
-        let named = "7 of volume 2, by client 3 (process 77), for 12 s";
+        let named = "7, by client 3 (process 77), for 12 s";
         assert_eq!(oldest(&of_client), named);
         let before = OldestReader {
             earlier: true,

@@ -101,6 +101,10 @@ pub struct Query {
     /// Print only the number of nodes
     #[arg(long, conflicts_with_all = ["columns", "limit", "sort", "any"])]
     pub count: bool,
+    /// Print why the query takes as long as it does, instead of the nodes: the ranges of index keys that it walks, with about how many
+    /// keys each was estimated to have, and how many it has
+    #[arg(long, conflicts_with_all = ["columns", "limit", "sort", "any", "count", "watch", "path", "null"])]
+    pub explain: bool,
     /// Keep running, and print nodes that enter the answer as +NODE and nodes that leave it as -NODE
     #[arg(short, long, conflicts_with_all = ["limit", "sort", "any"])]
     pub watch: bool,
@@ -290,7 +294,7 @@ pub struct Backup {
     /// Print JSON
     #[arg(long)]
     pub json: bool,
-    /// The file, or the folder if the server has several volumes. It must not exist yet
+    /// The file, which must not exist yet
     pub file: PathBuf,
 }
 
@@ -300,10 +304,9 @@ pub struct Restore {
     /// Print JSON
     #[arg(long)]
     pub json: bool,
-    /// Restore the file's entries only up to N, for example because a later one is damaged. For a folder, repeat the option for each volume
-    /// that needs it
-    #[arg(long, value_name = "[VOLUME:]N", value_parser = until)]
-    pub until: Vec<(u32, u64)>,
+    /// Restore the file's entries only up to N, for example because a later one is damaged
+    #[arg(long, value_name = "N")]
+    pub until: Option<u64>,
     /// The backup, or the file of a stopped server
     pub file: PathBuf,
 }
@@ -316,15 +319,6 @@ fn seconds(text: &str) -> Result<Duration, String> {
     match text.parse() {
         Ok(seconds) if (0.0..=MOST_SECONDS).contains(&seconds) => Ok(Duration::from_secs_f64(seconds)),
         _ => Err(format!("a time can be 0 to {MOST_SECONDS} seconds")),
-    }
-}
-
-/// Parses an optional volume, 0 by default, and the number of an entry.
-fn until(text: &str) -> Result<(u32, u64), String> {
-    let (volume, entry) = text.split_once(':').unwrap_or(("0", text));
-    match (volume.parse(), entry.parse()) {
-        (Ok(volume), Ok(entry)) => Ok((volume, entry)),
-        _ => Err("give the number of an entry, such as 17, or a volume and an entry, such as 2:17".into()),
     }
 }
 

@@ -68,15 +68,11 @@ pub enum Failure {
         escaped(&.refusal.message)
     )]
     Restore { place: Place, refusal: Box<Refusal> },
-    /// The backup and the server have different numbers of volumes.
-    #[error("the backup's number of volumes is {backup}, and the server's is {server}\n  start a server with --volumes {backup}")]
-    Volumes { backup: usize, server: u32 },
     /// A backup can't be restored because the store isn't empty.
     #[error(
-        "the server's store isn't empty: its journal has {entries} entries\n  a backup is restored into a new store; bestored --keep \
-         also opens a copy of it"
+        "the server's store isn't empty\n  a backup is restored into a new store; bestored --keep also opens a copy of it"
     )]
-    NotEmpty { entries: u64 },
+    NotEmpty,
     /// The command failed for some nodes, which have already been reported.
     #[error("")]
     Reported,

@@ -132,7 +132,6 @@ fn any(client: &mut Client, text: &str, most: u64, line: &Line) -> Result<Page, 
         let first = by_number(client, text, Some(most), line)?;
         return Ok(Page {
             commit: first.commit,
-            commits: first.commits,
             nodes: first.nodes.unwrap_or_default(),
             rows: first.rows,
             ..Page::default()

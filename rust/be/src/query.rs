@@ -12,7 +12,7 @@ use crate::server::{self, pinned};
 use crate::text::{escaped, pointed};
 use crate::typed_query::TypedQuery;
 use crate::unknown::{self, Unknown};
-use bestore_client::wire::{self, kind_named, Command, Hits, Json, Push};
+use bestore_client::wire::{self, kind_named, Command, Explained, Hits, Json, Push};
 use bestore_client::{Client, Error, ErrorName};
 use bestore_types::Value;
 use serde::Serialize;
@@ -33,10 +33,11 @@ pub fn run(client: &mut Client, line: &Line, output: &mut Output) -> Result<(), 
         output.end_with_zero();
     }
     let query = TypedQuery::read(&line.text, &Clock::of_machine())?;
-    let answer = match (line.watch, line.count) {
-        (true, _) => watch(client, &query, line, output),
-        (false, true) => count(client, &query, line, output),
-        (false, false) => find(client, &query, line, output),
+    let answer = match (line.watch, line.count, line.explain) {
+        (true, _, _) => watch(client, &query, line, output),
+        (false, true, _) => count(client, &query, line, output),
+        (false, false, true) => explain(client, &query, line, output),
+        (false, false, false) => find(client, &query, line, output),
     };
     answer.map_err(|failure| match failure {
         Failure::Server(Error::Refused(refusal)) => refused(client, &query, refusal),
@@ -110,6 +111,17 @@ fn count(client: &mut Client, query: &TypedQuery, line: &Line, output: &mut Outp
     match line.json {
         true => output.json(&hits),
         false => output.line(hits.count.unwrap_or_default().to_string().as_bytes()),
+    }
+}
+
+/// Prints the ranges of index keys that the answer walks.
+fn explain(client: &mut Client, query: &TypedQuery, line: &Line, output: &mut Output) -> Result<(), Failure> {
+    let ways: Explained = client.call(Command::Ways(wire::QueryText {
+        query: query.sent.as_str().into(),
+    }))?;
+    match line.json {
+        true => output.json(&ways),
+        false => ways.text.lines().try_for_each(|way| output.line(way.as_bytes())),
     }
 }
 

@@ -3,38 +3,55 @@
 use crate::command_line::Restore as Line;
 use crate::failure::Failure;
 use crate::output::Output;
-use crate::state::{volumes, Shown};
-use bestore_client::wire::{self, Command, Numbers, Written};
+use crate::state::Shown;
+use bestore_client::wire::{self, Command, Nothing, Restored, Written};
 use bestore_client::{Client, Error};
 use bestore_types::saved::{self, Contents, Place};
-use bestore_types::{Batch, Node, Operation};
+use bestore_types::{Batch, Operation};
 use std::collections::VecDeque;
 
 /// How many batches are sent before the reply to the first is read.
 const AHEAD: usize = 64;
 
+/// How many bytes of the state go into one request. In base64, they take a third more, and a request has up to 1 MiB.
+const BYTES: usize = 700 << 10;
+
 /// Restores a backup to the server, whose store must be empty. Fails if anyone else writes in the meantime.
 pub fn restore(client: &mut Client, line: &Line, output: &mut Output) -> Result<(), Failure> {
     // The whole backup is read and checked before anything is written.
-    let backup = saved::read_until(&line.file, &line.until.iter().copied().collect())?;
+    let backup = saved::read_until(&line.file, line.until)?;
     let hello = client.hello()?;
-    if hello.volumes as usize != backup.len() {
-        return Err(Failure::Volumes {
-            backup: backup.len(),
-            server: hello.volumes,
-        });
+    let now = client.next_node()?;
+    if now.commit > 0 || now.next > 1 || !client.indices()?.is_empty() {
+        return Err(Failure::NotEmpty);
     }
-    let entries = client.status()?.entries;
-    if entries > 0 {
-        return Err(Failure::NotEmpty { entries });
-    }
-    let mut count = 0;
-    for (volume, contents) in volumes(&hello).zip(&backup) {
-        count += Restoring::new(client, volume).write(contents)?;
-    }
+    let commit = send_state(client, &backup)?;
+    Restoring::new(client, commit).write(&backup)?;
     let file = output.path_bytes(&line.file);
-    let shown = Shown::new(&hello, client.next_node()?, count);
+    let shown = Shown::new(&hello, client.next_node()?);
     shown.print(&String::from_utf8_lossy(&file), line.json, output)
+}
+
+/// Sends the backup's state, and returns the commit number that it has on the server. An empty state isn't sent.
+fn send_state(client: &mut Client, backup: &Contents) -> Result<u64, Failure> {
+    let next = backup.about.next;
+    if backup.state.is_empty() && next <= 1 {
+        return Ok(0);
+    }
+    let mut batches: Vec<Vec<u8>> = Vec::new();
+    let mut bytes = 0;
+    for batch in &backup.state {
+        if bytes + batch.len() > BYTES {
+            let batches = std::mem::take(&mut batches);
+            client.call::<Nothing>(Command::Restore(wire::Restore { batches, next: None }))?;
+            bytes = 0;
+        }
+        bytes += batch.len();
+        batches.push(batch.clone());
+    }
+    let next = Some(next);
+    let restored: Restored = client.call(Command::Restore(wire::Restore { batches, next }))?;
+    Ok(restored.commit)
 }
 
 /// A batch that has been sent but not yet answered.
@@ -44,64 +61,34 @@ struct Sent<'b> {
     batch: &'b Batch,
 }
 
-/// A volume that is being restored.
+/// A server to which the entries after the state are sent.
 struct Restoring<'b, 'c> {
     client: &'c mut Client,
-    volume: Option<u32>,
     sent: VecDeque<Sent<'b>>,
-    count: u64,
+    /// How many entries the server's journal has once it has written everything that was sent.
+    commit: u64,
 }
 
 impl<'b, 'c> Restoring<'b, 'c> {
-    fn new(client: &'c mut Client, volume: Option<u32>) -> Self {
+    fn new(client: &'c mut Client, commit: u64) -> Self {
         Self {
             client,
-            volume,
             sent: VecDeque::new(),
-            count: 0,
+            commit,
         }
     }
 
-    /// Writes the volume's batches, and returns how many there were.
-    fn write(mut self, contents: &'b Contents) -> Result<u64, Failure> {
-        let mut is_state = true;
-        for (place, batch) in contents.batches() {
-            if is_state && matches!(place, Place::Entry(_)) {
-                self.end_state(contents)?;
-                is_state = false;
-            }
-            let id = send(self.client, self.volume, self.count, batch.clone())?;
+    /// Writes the backup's entries.
+    fn write(mut self, backup: &'b Contents) -> Result<(), Failure> {
+        for (number, batch) in (backup.about.entries + 1..).zip(&backup.entries) {
+            let id = send(self.client, self.commit, batch)?;
+            let place = Place::Entry(number);
             self.sent.push_back(Sent { id, place, batch });
-            self.count += 1;
+            self.commit += 1;
             if self.sent.len() == AHEAD {
                 self.receive()?;
             }
         }
-        match is_state {
-            true => self.end_state(contents)?,
-            false => self.receive_all()?,
-        }
-        Ok(self.count)
-    }
-
-    /// Checks that the restored state has the next node number given in the file.
-    fn end_state(&mut self, contents: &Contents) -> Result<(), Failure> {
-        self.receive_all()?;
-        let next = self.client.next_node()?;
-        let found = match self.volume {
-            None => Some(next.next),
-            Some(volume) => next.nexts.get(volume as usize).copied(),
-        };
-        match found.map(|node| Node::from(node).number) == Some(contents.about.next) {
-            true => Ok(()),
-            false => Err(differs(
-                Place::State(0),
-                "the state's next node number differs from the recorded one",
-            )),
-        }
-    }
-
-    fn receive_all(&mut self) -> Result<(), Failure> {
         while !self.sent.is_empty() {
             self.receive()?;
         }
@@ -124,31 +111,21 @@ impl<'b, 'c> Restoring<'b, 'c> {
             written => written?,
         };
         let made = batch.operations().filter_map(|operation| match operation {
-            Operation::NewNode { node } if matches!(place, Place::Entry(_)) => Some(node),
+            Operation::NewNode { node } => Some(node),
             _ => None,
         });
-        let is_same = |(node, made): (u64, &u64)| node == Node::from(*made).number;
-        match made.zip(&written.nodes).all(is_same) {
+        match made.eq(written.nodes) {
             true => Ok(()),
-            false => Err(differs(place, "it makes different nodes now")),
+            false => Err(saved::Error::differs(place, "it makes different nodes now").into()),
         }
     }
 }
 
-fn differs(place: Place, why: &str) -> Failure {
-    saved::Error::differs(place, why).into()
-}
-
-/// Sends a batch, which is written only if the volume's journal has this many entries.
-fn send(client: &mut Client, volume: Option<u32>, expected: u64, batch: Batch) -> Result<u64, Error> {
-    let batch = match volume {
-        None => batch,
-        Some(volume) => batch.of_volume(volume),
-    };
+/// Sends a batch, which is written only if the journal has this many entries.
+fn send(client: &mut Client, expected: u64, batch: &Batch) -> Result<u64, Error> {
     client.send(Command::Batch(wire::Write {
-        operations: batch.into(),
-        expected: Some(Numbers::One(expected)),
-        volume,
+        operations: batch.clone().into(),
+        expected: Some(expected),
         ..wire::Write::default()
     }))
 }

@@ -1,33 +1,28 @@
-//! The state of a snapshot: the batches that recreate it in an empty store.
+//! The state of a snapshot: batches that list its contents.
 
 use crate::failure::Failure;
 use crate::output::Output;
-use bestore_client::wire::{self, Command, Hello, Next};
+use bestore_client::wire::{self, Command, Hello};
 use bestore_client::Client;
 use bestore_types::saved::About;
-use bestore_types::{Batch, Node};
 use serde::Serialize;
 
 /// A snapshot of a server, as printed for people or programs.
 #[derive(Debug, Serialize)]
 pub struct Shown {
-    /// The server's run, to which the commit numbers belong.
+    /// The server's run, to which the commit number belongs.
     pub run: String,
     pub commit: u64,
-    /// The commit number of each volume, if there are several.
-    #[serde(skip_serializing_if = "Vec::is_empty")]
-    pub commits: Vec<u64>,
-    /// How many batches recreate the snapshot.
-    pub batches: u64,
+    /// The number of the next new node.
+    pub next: u64,
 }
 
 impl Shown {
-    pub fn new(hello: &Hello, pinned: Next, batches: u64) -> Self {
+    pub fn new(hello: &Hello, snapshot: wire::Next) -> Self {
         Self {
             run: hello.run.clone(),
-            commit: pinned.commit,
-            commits: pinned.commits,
-            batches,
+            commit: snapshot.commit,
+            next: snapshot.next,
         }
     }
 
@@ -35,39 +30,23 @@ impl Shown {
     pub fn print(&self, what: &str, is_json: bool, output: &mut Output) -> Result<(), Failure> {
         match is_json {
             true => output.json(self),
-            false => {
-                let Self {
-                    run, commit, batches, ..
-                } = self;
-                output.line(format!("{what}: commit {commit} of run {run}, {batches} batches").as_bytes())
-            }
+            false => output.line(format!("{what}: commit {} of run {}", self.commit, self.run).as_bytes()),
         }
     }
 }
 
-/// Returns the server's volumes in the form that requests use.
-pub fn volumes(hello: &Hello) -> impl Iterator<Item = Option<u32>> {
-    let count = hello.volumes;
-    (0..count).map(move |volume| (count > 1).then_some(volume))
-}
-
-/// Calls the closure with each of this volume's batches in the collected snapshot. Returns the volume's numbers.
-pub fn each_batch(
-    client: &mut Client,
-    volume: Option<u32>,
-    mut take: impl FnMut(Batch) -> Result<(), Failure>,
-) -> Result<About, Failure> {
+/// Calls the closure with each batch of the collected snapshot. Returns the snapshot's numbers.
+pub fn each_batch(client: &mut Client, mut take: impl FnMut(&[u8]) -> Result<(), Failure>) -> Result<About, Failure> {
     let mut from = 0;
     loop {
-        let page: wire::State = client.call(Command::State(wire::From { from, volume }))?;
-        let batches = page.batches.into_iter();
-        batches.map(|operations| operations.batch).try_for_each(&mut take)?;
+        let page: wire::State = client.call(Command::State(wire::From { from }))?;
+        page.batches.iter().try_for_each(|batch| take(batch))?;
         match page.more {
             Some(more) => from = more,
             None => {
                 return Ok(About {
                     entries: page.commit,
-                    next: Node::from(page.next).number,
+                    next: page.next,
                 })
             }
         }

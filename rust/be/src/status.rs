@@ -24,14 +24,10 @@ pub fn show(client: &mut Client, line: &Line, output: &mut Output) -> Result<(),
         ("live queries", status.watches.to_string()),
     ];
     let lines = lines.into_iter().map(|(name, value)| vec![name.into(), value]);
-    let volumes = (0..).zip(&status.volumes).map(|(volume, full)| {
-        let value = format!("{} pages, {} free, {} entries", full.pages, full.free, full.entries);
-        vec![format!("volume {volume}"), value]
-    });
     let trouble = status
         .trouble
         .iter()
         .map(|trouble| vec!["trouble".into(), output.name(trouble).into_owned()]);
-    let lines: Vec<_> = lines.chain(volumes).chain(trouble).collect();
+    let lines: Vec<_> = lines.chain(trouble).collect();
     output.aligned(&lines)
 }

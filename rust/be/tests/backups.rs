@@ -3,7 +3,7 @@
 use crate::common::refuser::Refuser;
 use crate::common::{send_signal, Said, Server};
 use bestore::saved::Options;
-use bestore::{Batch, ShelfPass};
+use bestore::{Batch, Pass};
 use bestore_client::Client;
 use rusqlite::Connection;
 use serde_json::Value;
@@ -42,14 +42,14 @@ fn back_up(server: &Server, path: &Path) -> Value {
     serde_json::from_str(&server.done(&["backup", "--json", text(path)])).unwrap()
 }
 
-/// Returns the line about the snapshot, and the lines that recreate it.
+/// Returns the line about the snapshot, and those for its indices and nodes.
 fn dump(server: &Server) -> (Value, String) {
     let said = server.done(&["dump"]);
-    let (about, batches) = said.split_once('\n').unwrap();
-    (serde_json::from_str(about).unwrap(), batches.into())
+    let (about, contents) = said.split_once('\n').unwrap();
+    (serde_json::from_str(about).unwrap(), contents.into())
 }
 
-fn load(path: &Path) -> ShelfPass {
+fn load(path: &Path) -> Pass {
     Options::new().load(path).unwrap().pass().unwrap()
 }
 
@@ -67,16 +67,16 @@ fn kept_with_entries() -> Option<Server> {
 fn a_backup_is_a_file_that_a_server_opens_and_another_restores() {
     let server = server!(Server::with_three());
     let path = file(&server, "backup");
-    let (about, batches) = dump(&server);
+    let (about, contents) = dump(&server);
     assert_eq!(back_up(&server, &path), about);
-    assert_eq!(about["batches"], batches.lines().count());
+    assert_eq!(about["next"], 4);
     assert_eq!(fs::metadata(&path).unwrap().permissions().mode() & 0o7777, 0o600);
 
     let copy = file(&server, "copy");
     fs::copy(&path, &copy).unwrap();
     let opened = server!(Server::start_with(&["--keep", text(&copy)]));
-    let (of_copy, batches_of_copy) = dump(&opened);
-    assert_eq!(batches_of_copy, batches);
+    let (of_copy, contents_of_copy) = dump(&opened);
+    assert_eq!(contents_of_copy, contents);
     assert_ne!(of_copy["run"], about["run"]);
     // New nodes get the same numbers as they would on the first server.
     assert_eq!(opened.done(&["addattr", "--new", "name", "d"]), "4\n");
@@ -84,8 +84,8 @@ fn a_backup_is_a_file_that_a_server_opens_and_another_restores() {
     let restored = server!(Server::start());
     let said = restored.done(&["restore", text(&path)]);
     assert!(said.starts_with(&format!("{}: commit ", text(&path))), "{said}");
-    let (of_restored, batches_of_restored) = dump(&restored);
-    assert_eq!(batches_of_restored, batches);
+    let (of_restored, contents_of_restored) = dump(&restored);
+    assert_eq!(contents_of_restored, contents);
     assert_ne!(of_restored["run"], about["run"]);
     refused(
         &restored.be(&["restore", text(&path)]),
@@ -141,14 +141,12 @@ fn interrupted(server: &Server, path: &Path, signal: &str) -> ExitStatus {
 
 #[test]
 fn a_backup_that_a_signal_interrupts_is_removed() {
-    for options in [&["--pages", "256"][..], &["--pages", "256", "--volumes", "2"]] {
-        let server = server!(Server::start_with(options));
-        let path = file(&server, "backup");
-        let status = interrupted(&server, &path, "-TERM");
-        assert_eq!((status.signal(), unfinished(&server)), (Some(libc::SIGTERM), 0));
-        assert!(!path.exists());
-        back_up(&server, &path);
-    }
+    let server = server!(Server::start_with(&["--pages", "256"]));
+    let path = file(&server, "backup");
+    let status = interrupted(&server, &path, "-TERM");
+    assert_eq!((status.signal(), unfinished(&server)), (Some(libc::SIGTERM), 0));
+    assert!(!path.exists());
+    back_up(&server, &path);
 }
 
 #[test]
@@ -204,29 +202,67 @@ fn a_kept_file_with_entries_is_restored() {
         .apply(Batch::new().remove_node(2))
         .unwrap();
     server.done(&["addattr", "--new", "name", "d"]);
-    let batches = dump(&server).1;
+    let contents = dump(&server).1;
     server.end();
     let restored = server!(Server::start());
     restored.done(&["restore", text(&file(&server, "kept"))]);
-    assert_eq!(dump(&restored).1, batches);
+    assert_eq!(dump(&restored).1, contents);
     assert_eq!(restored.done(&["query", "name>=\"c\""]), "3\n4\n");
     assert_eq!(restored.done(&["addattr", "--new", "name", "e"]), "5\n");
 }
 
-/// Converts a file to the first version of the format, whose rows have no checksums.
-const REMOVE_CHECKSUMS: &str = "
-    ALTER TABLE about DROP COLUMN checksum;
-    ALTER TABLE state DROP COLUMN checksum;
-    ALTER TABLE entry DROP COLUMN checksum;
-    PRAGMA user_version = 1;
-";
+/// The bytes of an integer, and of a text or blob, over which a row's checksum is computed.
+fn integer(number: i64) -> Vec<u8> {
+    number.to_le_bytes().to_vec()
+}
 
-/// Changes a backup of three nodes, and checks that restoring it is refused. Returns how many entries the target server has afterwards.
-fn restore_changed(change: &str, why: &str) -> Option<u64> {
+fn blob(bytes: &[u8]) -> Vec<u8> {
+    [&integer(bytes.len() as i64), bytes].concat()
+}
+
+/// Gives each row of a file the checksum that fits it.
+fn repair(path: &Path) {
+    let file = Connection::open(path).unwrap();
+    let write = |table: &str, key: &str, name: &dyn rusqlite::ToSql, row: &[u8]| {
+        let sql = format!("UPDATE {table} SET checksum = ?1 WHERE {key} = ?2");
+        file.execute(&sql, [&crc32fast::hash(row) as &dyn rusqlite::ToSql, name])
+            .unwrap();
+    };
+    let mut about = file.prepare("SELECT what, number FROM about").unwrap();
+    let mut rows = about.query([]).unwrap();
+    while let Some(row) = rows.next().unwrap() {
+        let (what, number): (String, i64) = (row.get(0).unwrap(), row.get(1).unwrap());
+        write(
+            "about",
+            "what",
+            &what,
+            &[blob(what.as_bytes()), integer(number)].concat(),
+        );
+    }
+    for (table, key, columns) in [
+        ("state", "place", "place, batch"),
+        ("entry", "number", "number, batch, pass"),
+    ] {
+        let mut found = file.prepare(&format!("SELECT {columns} FROM {table}")).unwrap();
+        let mut rows = found.query([]).unwrap();
+        while let Some(row) = rows.next().unwrap() {
+            let (number, batch): (i64, Vec<u8>) = (row.get(0).unwrap(), row.get(1).unwrap());
+            let pass = row.get(2).map(integer).unwrap_or_default();
+            write(table, key, &number, &[integer(number), pass, blob(&batch)].concat());
+        }
+    }
+}
+
+/// Changes a backup of three nodes, with or without the checksum that fits, and checks that restoring it is refused. Returns how many
+/// entries the target server has afterwards.
+fn restore_changed(change: &str, has_checksum: bool, why: &str) -> Option<u64> {
     let server = Server::with_three()?;
     let path = file(&server, "backup");
     back_up(&server, &path);
     Connection::open(&path).unwrap().execute_batch(change).unwrap();
+    if has_checksum {
+        repair(&path);
+    }
     let other = Server::start()?;
     refused(&other.be(&["restore", text(&path)]), why);
     Some(Client::connect(other.socket()).unwrap().status().unwrap().entries)
@@ -246,51 +282,24 @@ fn a_changed_backup_is_refused_with_the_place() {
             false,
         ),
         (
-            "UPDATE about SET number = 9 WHERE what = 'next'",
-            "the state's next node number differs",
-            true,
+            "UPDATE about SET number = 1 WHERE what = 'next'",
+            "the batches don't list a store's contents: there is no such node",
+            false,
         ),
         // An entry that removes node 77.
         (
-            "INSERT INTO state (place, batch) VALUES ((SELECT count(*) FROM state), X'4245420101014D00000000000000')",
+            "INSERT INTO entry (number, pass, batch) SELECT number + 1, 0, X'4245420101014D00000000000000' FROM about WHERE what = 'entries'",
             "there is no such node\n  the server has only what comes before",
             true,
         ),
     ] {
-        if let Some(entries) = restore_changed(change, "is damaged: its checksum doesn't match") {
+        if let Some(entries) = restore_changed(change, false, "is damaged: its checksum doesn't match") {
             assert_eq!(entries, 0, "{change}");
         }
-        let change = format!("{REMOVE_CHECKSUMS}{change}");
-        if let Some(entries) = restore_changed(&change, why) {
+        if let Some(entries) = restore_changed(change, true, why) {
             assert_eq!(entries > 0, is_written, "{change}");
         }
     }
-}
-
-#[test]
-fn several_volumes_are_a_folder() {
-    let options = ["--volumes", "3", "--pages", "256"];
-    let server = server!(Server::start_with(&options));
-    server.done(&["mkindex", "name"]);
-    let mut client = Client::connect(server.socket()).unwrap();
-    for volume in 0..3 {
-        client.apply_in(volume, Batch::new().new_node()).unwrap();
-        let node = u64::from(volume) * 100_000_000_000_000 + 1;
-        client.apply(Batch::new().set(node, "name", "a")).unwrap();
-    }
-    let path = file(&server, "backup");
-    let about = back_up(&server, &path);
-    assert_eq!(about["commits"], serde_json::json!([3, 3, 3]));
-    assert_eq!(load(&path).pin().unwrap().query("name==a").unwrap().len(), 3);
-    refused(&server.be(&["backup", text(&path)]), "exists, and won't be overwritten");
-
-    let restored = server!(Server::start_with(&options));
-    let elsewhere = ["restore", "--until", "3:1", text(&path)];
-    refused(&restored.be(&elsewhere), "there is no volume 3; the volumes are 0 to 2");
-    restored.done(&["restore", text(&path)]);
-    assert_eq!(dump(&restored).1, dump(&server).1);
-    let other = server!(Server::start());
-    refused(&other.be(&["restore", text(&path)]), "start a server with --volumes 3");
 }
 
 #[test]
@@ -309,13 +318,8 @@ fn what_comes_before_a_damaged_entry_is_restored() {
     );
     refused(&restored.be(&["restore", "--until", "3", text(&kept)]), "--until 2");
     let said = restored.be(&["restore", "--until", "x", text(&kept)]);
-    assert!(said.status == 2 && said.error.contains("such as 17"), "{said:?}");
-    let elsewhere = ["restore", "--until", "0:2", "--until", "1:2", text(&kept)];
-    refused(
-        &restored.be(&elsewhere),
-        "kept: there is no volume 1; the only one is 0",
-    );
-    restored.done(&["restore", "--until", "0:2", text(&kept)]);
+    assert!(said.status == 2 && said.error.contains("--until <N>"), "{said:?}");
+    restored.done(&["restore", "--until", "2", text(&kept)]);
     assert_eq!(restored.done(&["query", "name==\"*\""]), "1\n");
 }
 

@@ -203,7 +203,7 @@ fn a_file_that_leaves_the_folder_goes_and_may_come_back() {
 
 #[test]
 fn many_changes_at_once_are_followed() {
-    let server = server!(Server::start_with(&["--pages", "1024", "--volumes", "3"]));
+    let server = server!(Server::start_with(&["--pages", "1024"]));
     let folder = Folder::new();
     let _follower = Follower::start(&server, &folder);
     for number in 0..400 {
@@ -280,11 +280,7 @@ fn a_follower_ends_if_its_folder_is_gone() {
 
 #[test]
 fn a_follower_waits_for_its_server_and_catches_up() {
-    for options in [
-        &["--pages", "1024", "--keep", "store"][..],
-        &["--pages", "256", "--volumes", "3", "--keep", "store"],
-        &["--pages", "1024"],
-    ] {
+    for options in [&["--pages", "1024", "--keep", "store"][..], &["--pages", "1024"]] {
         let is_kept = options.contains(&"--keep");
         let mut server = server!(Server::start_with(options));
         let folder = Folder::new();
@@ -440,19 +436,17 @@ fn a_new_server_that_refuses_indices_for_a_moment_is_caught_up_with() {
     soon("what was refused", || same(&server, &folder));
 }
 
-/// An import of four volumes has five connections, so the server has no places for five more.
 #[test]
-fn a_follower_that_loses_one_connection_goes_on_though_the_server_has_few_places() {
-    let options = ["--pages", "256", "--volumes", "4", "--passes", "8"];
-    let server = server!(Server::start_with(&options));
+fn a_follower_whose_connection_is_closed_goes_on_though_the_server_has_one_place() {
+    let server = server!(Server::start_with(&["--pages", "256", "--passes", "1"]));
     let folder = Folder::new();
     let follower = Follower::start(&server, &folder);
     let clients: Vec<serde_json::Value> = serde_json::from_str(&server.done(&["clients", "--json"])).unwrap();
     let own = clients.iter().filter(|client| client["process"] == follower.child.id());
     let own: Vec<u64> = own.map(|client| client["client"].as_u64().unwrap()).collect();
-    assert_eq!(own.len(), 5);
-    // The first one waits for the server while nothing changes.
-    server.done(&["kick", &own.iter().min().unwrap().to_string()]);
+    assert_eq!(own.len(), 1);
+    // It waits for the server while nothing changes.
+    server.done(&["kick", &own[0].to_string()]);
     follower.wait_until_it_says("the server is back");
     folder.file("later", "");
     soon("a later file", || same(&server, &folder));

@@ -1,7 +1,8 @@
-//! Tests of `import` into a store that is nearly full, and into several volumes.
+//! Tests of `import` into a store that is nearly full.
 
-use crate::common::files::{small, Folder};
+use crate::common::files::small;
 use crate::common::Server;
+use bestore_client::{Batch, Client};
 use std::fs;
 
 #[test]
@@ -30,51 +31,20 @@ fn a_store_that_is_full_says_what_would_help() {
 }
 
 #[test]
-fn files_are_spread_over_volumes_and_stay_there() {
-    let server = server!(Server::start_with(&["--pages", "256", "--volumes", "4"]));
+fn a_store_whose_pages_an_older_snapshot_keeps_is_not_full() {
+    const PAGES: u64 = 1024;
+    let server = server!(Server::start_with(&["--pages", &PAGES.to_string()]));
     let folder = small();
-    for number in 0..400 {
-        folder.folder(&format!("d{}/e", number % 30));
-        folder.file(&format!("d{}/e/f{number}", number % 30), "");
+    server.import(&folder);
+    let mut reader = Client::connect(server.socket()).unwrap();
+    reader.pin().unwrap();
+    let mut writer = Client::connect(server.socket()).unwrap();
+    let mut mark = 0_i64;
+    // One page in 64 has to be free for a new file.
+    while writer.status().unwrap().free >= PAGES / 64 {
+        mark += 1;
+        writer.apply(Batch::new().set(1, "mark", mark)).unwrap();
     }
-    assert_eq!(server.import(&folder), [466, 0, 0, 0]);
-    let spread = server.spread(4);
-    assert_eq!(spread.iter().sum::<usize>(), 466);
-    assert!(spread.iter().all(|count| (80..160).contains(count)), "{spread:?}");
-    assert_eq!(server.import(&folder), [0; 4]);
-    assert_eq!(server.paths("name==\"*\""), folder.paths());
-    (0..30).for_each(|number| folder.rename(&format!("d{number}"), &format!("g{number}")));
-    let [new, _, renamed, removed] = server.import(&folder);
-    assert_eq!((new, renamed, removed), (0, 30, 0));
-    assert_eq!(server.spread(4), spread);
-    assert_eq!(server.paths("name==\"*\""), folder.paths());
-    server.done(&[
-        "addattr",
-        "mark",
-        "x",
-        &folder.word("g7/e"),
-        &folder.word("g8"),
-        &folder.word("z"),
-    ]);
-    assert_eq!(server.value("mark", &folder.path("g8")), "x");
-}
-
-#[test]
-fn what_one_volume_has_no_room_for_the_others_take() {
-    let server = server!(Server::start_with(&["--pages", "256", "--volumes", "4"]));
-    let folder = Folder::new();
-    (0..1400).for_each(|number| drop(folder.file(&format!("h{number}"), "")));
-    let said = server.be(&["import", "--json", &folder.all()]);
-    let read: serde_json::Value = serde_json::from_str(&said.out).unwrap();
-    let (files, left) = (read["files"].as_u64().unwrap(), read["left"].as_u64().unwrap());
-    assert_eq!((said.status, files + left), (1, 1401));
-    assert!(
-        said.error.contains("bestored --volumes 4 --pages 512 has room"),
-        "{said:?}"
-    );
-    assert!(
-        server.spread(4).iter().all(|count| *count > 150),
-        "{:?}",
-        server.spread(4)
-    );
+    folder.file("new", "");
+    assert_eq!(server.import(&folder)[0], 1);
 }

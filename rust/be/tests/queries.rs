@@ -30,6 +30,19 @@ fn nodes_are_found_with_columns_up_to_a_limit_and_counted() {
 }
 
 #[test]
+fn the_ranges_that_a_query_walks_are_explained() {
+    let server = server!(Server::with_three());
+    assert_eq!(
+        server.done(&["query", "--explain", "size>10 || name==[b]"]),
+        "\"name\"  ..  about 3 keys, 3 walked\n\"size\"  >10 ..  about 1 key, 1 walked\n"
+    );
+    assert_eq!(
+        server.done(&["query", "--explain", "--json", "size>10"]),
+        "{\"commit\":7,\"text\":\"\\\"size\\\"  >10 ..  about 1 key, 1 walked\\n\"}\n"
+    );
+}
+
+#[test]
 fn an_answer_of_several_pages_is_whole() {
     let server = server!(Server::with_index("n"));
     let text = "x".repeat(255);

@@ -276,29 +276,27 @@ fn the_status_is_a_table_or_json() {
 
 #[test]
 fn an_index_gets_what_was_set_before_it() {
-    for options in [&["--pages", "1024"][..], &["--pages", "1024", "--volumes", "2"]] {
-        let server = server!(Server::start_with(options));
-        server.make(70, "a b", "x");
-        assert_eq!(
-            server
-                .done(&["addattr", "--new", "-t", "int32", "a b", "5"])
-                .lines()
-                .count(),
-            1
-        );
-        refused(&server, &["reindex", "a b"], "be: there is no index \"a b\"\n");
-        server.done(&["mkindex", "a b"]);
-        server.make(1, "a b", "x");
-        assert_eq!(server.done(&["query", "--count", "'a b'==x"]), "1\n");
-        assert_eq!(server.done(&["reindex", "a b"]), "70\n");
-        assert_eq!(server.done(&["query", "--count", "'a b'==x"]), "71\n");
-        assert_eq!(server.done(&["reindex", "a b"]), "0\n");
-        let mut client = Client::connect(server.socket()).unwrap();
-        assert_eq!(client.pairs("a b").unwrap(), 71);
-        server.done(&["mkindex", "-t", "int64", "size"]);
-        let hints = client.hints("'a b'==x && size==x").unwrap();
-        assert_eq!(hints.iter().map(|hint| hint.offset).collect::<Vec<_>>(), [12]);
-    }
+    let server = server!(Server::start_with(&["--pages", "1024"]));
+    server.make(70, "a b", "x");
+    assert_eq!(
+        server
+            .done(&["addattr", "--new", "-t", "int32", "a b", "5"])
+            .lines()
+            .count(),
+        1
+    );
+    refused(&server, &["reindex", "a b"], "be: there is no index \"a b\"\n");
+    server.done(&["mkindex", "a b"]);
+    server.make(1, "a b", "x");
+    assert_eq!(server.done(&["query", "--count", "'a b'==x"]), "1\n");
+    assert_eq!(server.done(&["reindex", "a b"]), "70\n");
+    assert_eq!(server.done(&["query", "--count", "'a b'==x"]), "71\n");
+    assert_eq!(server.done(&["reindex", "a b"]), "0\n");
+    let mut client = Client::connect(server.socket()).unwrap();
+    assert_eq!(client.pairs("a b").unwrap(), 71);
+    server.done(&["mkindex", "-t", "int64", "size"]);
+    let hints = client.hints("'a b'==x && size==x").unwrap();
+    assert_eq!(hints.iter().map(|hint| hint.offset).collect::<Vec<_>>(), [12]);
 }
 
 #[test]
@@ -356,29 +354,4 @@ fn exit_statuses_are_those_of_the_page() {
     assert_eq!((none(&["--help"]).status, none(&["--version"]).status), (0, 0));
     let server = server!(Server::start());
     refused(&server, &["rmattr", "name", "7"], "be: node 7: there is no such node\n");
-}
-
-#[test]
-fn the_tools_work_over_volumes() {
-    let server = server!(Server::start_with(&["--pages", "1024", "--volumes", "2"]));
-    server.done(&["mkindex", "-t", "int64", "size"]);
-    let mut nodes: Vec<String> = (0..20)
-        .map(|_| {
-            server
-                .done(&["addattr", "-t", "int64", "--new", "size", "5"])
-                .trim()
-                .to_owned()
-        })
-        .collect();
-    nodes.sort_by_key(|node| node.parse::<u64>().unwrap());
-    assert_eq!((nodes[0].as_str(), nodes[19].len()), ("1", "100000000000001".len()));
-    assert_eq!(server.done(&["query", "size==5"]), nodes.join("\n") + "\n");
-    let status = server.done(&["status"]);
-    let volumes: Vec<&str> = status.lines().filter(|line| line.starts_with("volume")).collect();
-    assert_eq!(volumes.len(), 2, "{status}");
-    assert!(volumes[1].contains("1024 pages, "), "{status}");
-    // These nodes are in two volumes, so the change isn't a single transaction.
-    server.done(&["rmattr", "size", &nodes[0], &nodes[19]]);
-    server.done(&["rmnode", &nodes[1], &nodes[18]]);
-    assert_eq!(server.done(&["query", "--count", "size==5"]), "16\n");
 }

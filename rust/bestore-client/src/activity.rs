@@ -2,7 +2,7 @@
 
 use crate::client::MOST_WITHIN;
 use crate::options::end_of;
-use crate::wire::{self, Command, Nothing, Numbers};
+use crate::wire::{self, Command, Nothing};
 use crate::{Client, ErrorName, Result};
 use std::time::{Duration, Instant};
 
@@ -60,23 +60,23 @@ impl Client {
         }))
     }
 
-    /// Waits up to `within` for the journal of each volume to reach this number of entries; for a server with one volume, pass one number.
-    /// Later reads of the current snapshot see these entries. The error is `NotReached` if the time is up first, or if the server takes
-    /// back the client's pinned snapshot. For each minute, the call sends a request.
+    /// Waits up to `within` for the journal to have this number of entries. Later reads of the current snapshot see them. The error is
+    /// `NotReached` if the time is up first, or if the server takes back the client's pinned snapshot. For each minute, the call sends a
+    /// request.
     ///
     /// # Errors
     /// The same as [`call`](Self::call).
-    pub fn reach(&mut self, numbers: &[u64], within: Duration) -> Result<wire::Commit> {
-        self.reach_in_parts(numbers, within, MOST_WITHIN)
+    pub fn reach(&mut self, number: u64, within: Duration) -> Result<wire::Commit> {
+        self.reach_in_parts(number, within, MOST_WITHIN)
     }
 
     /// Waits with requests that each let the server wait for up to `most`.
-    fn reach_in_parts(&mut self, numbers: &[u64], within: Duration, most: Duration) -> Result<wire::Commit> {
+    fn reach_in_parts(&mut self, number: u64, within: Duration, most: Duration) -> Result<wire::Commit> {
         let until = end_of(within);
         loop {
             let begin = Instant::now();
             let left = until.saturating_duration_since(begin);
-            match self.reach_once(numbers, left.min(most)) {
+            match self.reach_once(number, left.min(most)) {
                 // If the server hasn't waited for so long, it has taken back the pinned snapshot.
                 Err(error) if error.is(ErrorName::NotReached) && left > most && begin.elapsed() >= most => {}
                 reached => return reached,
@@ -84,14 +84,11 @@ impl Client {
         }
     }
 
-    fn reach_once(&mut self, numbers: &[u64], within: Duration) -> Result<wire::Commit> {
+    fn reach_once(&mut self, number: u64, within: Duration) -> Result<wire::Commit> {
         // Rounded up, so that the server doesn't wait for a shorter time.
         let within = within.saturating_add(Duration::from_nanos(999_999)).as_millis();
         self.call(Command::Reach(wire::Reach {
-            commit: match numbers {
-                [number] => Numbers::One(*number),
-                numbers => Numbers::Each(numbers.into()),
-            },
+            commit: number,
             within: Some(u64::try_from(within).unwrap_or(u64::MAX)),
         }))
     }
@@ -123,7 +120,7 @@ mod tests {
             }
             asked
         });
-        assert_eq!(client.reach_in_parts(&[5], Duration::MAX, most).unwrap().commit, 5);
+        assert_eq!(client.reach_in_parts(5, Duration::MAX, most).unwrap().commit, 5);
         drop(client);
         let asked = answering.join().unwrap();
         assert_eq!(asked.len(), 3);
@@ -136,7 +133,7 @@ mod tests {
         let (stream, mut server) = UnixStream::pair().unwrap();
         let mut client = Client::over(stream, Options::new());
         writeln!(server, "{{\"id\":1,{NOT_REACHED}}}").unwrap();
-        let refused = client.reach(&[5], Duration::MAX).unwrap_err();
+        let refused = client.reach(5, Duration::MAX).unwrap_err();
         assert!(refused.is(ErrorName::NotReached), "{refused}");
     }
 }

@@ -1,10 +1,11 @@
 //! Changes that read and write atomically.
 
-use crate::wire::{self, kind_named, Command, ErrorName, Indices, Nothing, Numbers};
+use crate::options::end_of;
+use crate::wire::{self, ErrorName};
 use crate::{Client, Error, Result};
-use bestore_types::{Batch, Kind, Node, Operation};
+use bestore_types::{Batch, Kind, Operation};
 use std::collections::BTreeMap;
-use std::time::Instant;
+use std::time::{Duration, Instant};
 
 /// A change in progress, through which the closure of [`Client::change`] reads and collects operations.
 ///
@@ -14,10 +15,6 @@ pub struct Change<'a> {
     client: &'a mut Client,
     batch: Batch,
     next: u64,
-    /// The next node number in each volume, if there are several volumes.
-    nexts: Vec<u64>,
-    /// The volume that the batch must go to, if known yet.
-    volume: Option<u32>,
     checks_kinds: bool,
 }
 
@@ -39,23 +36,16 @@ impl Change<'_> {
         self
     }
 
-    /// Creates all nodes in this volume instead of the one with the most free pages. A batch belongs to one volume, so call this before the
-    /// first [`new_node`](Self::new_node). If the volume doesn't exist, writing the change fails.
-    pub fn in_volume(&mut self, volume: u32) -> &mut Self {
-        if let Some(next) = self.nexts.get(volume as usize) {
-            self.next = *next;
-        }
-        self.volume = Some(volume);
-        self
+    /// Returns the number that the next new node will have.
+    #[must_use]
+    pub fn next_node(&self) -> u64 {
+        self.next
     }
 
     /// Creates a node, and returns the number that it will have.
     pub fn new_node(&mut self) -> u64 {
         let node = self.next;
         self.next += 1;
-        if !self.nexts.is_empty() && self.volume.is_none() {
-            self.volume = Some(Node::from(node).volume);
-        }
         self.batch.new_node();
         node
     }
@@ -65,20 +55,37 @@ impl Client {
     /// Reads and writes atomically: runs the closure on the current snapshot, then writes the operations that it has collected, unless
     /// another write came first. In that case it runs the closure again, up to 1,000 times.
     ///
-    /// If the server has several volumes, all operations must be in one volume, and only writes to that volume count. Data that the closure
-    /// has read from other volumes may have changed by the time of the write.
-    ///
     /// If the closure sets an attribute, this call asks the server for its indices, which takes one more request.
     ///
     /// # Errors
     /// Any error that the closure returns; [`Error::KindMismatch`] if the kind of an attribute isn't the kind of the index with its name,
     /// unless the closure has called [`any_kind`](Change::any_kind); [`Error::Refused`].
-    pub fn change<T>(&mut self, mut change: impl FnMut(&mut Change<'_>) -> Result<T>) -> Result<T> {
-        let mut left = 1_000_u32;
+    pub fn change<T>(&mut self, change: impl FnMut(&mut Change<'_>) -> Result<T>) -> Result<T> {
+        self.change_within(1_001, Duration::MAX, change).map(|(_, value)| value)
+    }
+
+    /// Like [`change`](Self::change), but makes up to this many attempts, and at least one, and makes none once this time has passed since the
+    /// first conflict. Also returns the commit number or, if nothing was written, the snapshot's number.
+    ///
+    /// # Errors
+    /// The same as [`change`](Self::change).
+    pub fn change_within<T>(
+        &mut self,
+        attempts: u32,
+        time: Duration,
+        mut change: impl FnMut(&mut Change<'_>) -> Result<T>,
+    ) -> Result<(u64, T)> {
+        let (mut left, mut end) = (attempts.max(1) - 1, None);
         let until = self.repeats_until().filter(|_| !self.is_pinned);
         loop {
             match self.try_change(&mut change, until) {
-                Err(error) if error.is(ErrorName::Conflict) && left > 0 => left -= 1,
+                Err(error)
+                    if error.is(ErrorName::Conflict)
+                        && left > 0
+                        && Instant::now() < *end.get_or_insert_with(|| end_of(time)) =>
+                {
+                    left -= 1;
+                }
                 // A write is retried until that time, so a failure before then means that nothing was written.
                 Err(error) if self.may_repeat(&error, until) => {}
                 answer => return answer,
@@ -90,37 +97,27 @@ impl Client {
         &mut self,
         change: &mut impl FnMut(&mut Change<'_>) -> Result<T>,
         until: Option<Instant>,
-    ) -> Result<T> {
+    ) -> Result<(u64, T)> {
         let snapshot = self.pin()?;
         let mut collected = Change {
             client: self,
             batch: Batch::new(),
             next: snapshot.next,
-            nexts: snapshot.nexts,
-            volume: None,
             checks_kinds: true,
         };
         let value = change(&mut collected);
         let Change {
-            batch,
-            volume,
-            checks_kinds,
-            ..
+            batch, checks_kinds, ..
         } = collected;
         let value = match value {
             Ok(value) if checks_kinds => self.check_kinds(&batch).map(|()| value),
             other => other,
         };
-        let expected = match snapshot.commits {
-            one if one.is_empty() => Numbers::One(snapshot.commit),
-            each => Numbers::Each(each),
-        };
         let written = match &value {
             Ok(_) if !batch.is_empty() => {
                 let write = wire::Write {
                     operations: batch.into(),
-                    expected: Some(expected),
-                    volume,
+                    expected: Some(snapshot.commit),
                     ..wire::Write::default()
                 };
                 self.write_until(write, until).map(Some)
@@ -132,7 +129,8 @@ impl Client {
             Err(error) if matches!(written, Ok(Some(_))) && error.refusal().is_none() => {}
             unpinned => unpinned?,
         }
-        value.and_then(|value| written.map(|_| value))
+        let number = written?.map_or(snapshot.commit, |written| written.commit);
+        value.map(|value| (number, value))
     }
 
     /// Fails if the batch sets an attribute to a value that isn't of its index's kind at that point in the batch.
@@ -143,27 +141,10 @@ impl Client {
         {
             return Ok(());
         }
-        let read: Indices = self.call(Command::Indices(Nothing {}))?;
-        let kind = |(name, kind): (String, String)| kind_named(&kind).map(|kind| (name, kind));
-        let mut indices: BTreeMap<String, Kind> = read.indices.into_iter().filter_map(kind).collect();
-        for operation in batch.operations() {
-            match operation {
-                Operation::MakeIndex { name, kind } => drop(indices.insert(name.into(), kind)),
-                Operation::RemoveIndex { name } => drop(indices.remove(name)),
-                Operation::Set { name, value, .. } => match indices.get(name) {
-                    Some(index) if *index != value.kind() => {
-                        return Err(Error::KindMismatch {
-                            name: name.into(),
-                            index: *index,
-                            value: value.kind(),
-                        })
-                    }
-                    _ => {}
-                },
-                _ => {}
-            }
+        match first_mismatch(batch, self.indices()?) {
+            Some((_, error)) => Err(error),
+            None => Ok(()),
         }
-        Ok(())
     }
 
     /// Unpins the snapshot. It isn't an error if the closure has already unpinned it, or if the server has taken it back.
@@ -173,4 +154,25 @@ impl Client {
             answer => answer,
         }
     }
+}
+
+/// Returns the first operation, by its index in the batch, that sets an attribute to a value of another kind than the index of its name has at
+/// that point in the batch, and the error for it. `indices` are those before the batch.
+#[must_use]
+pub fn first_mismatch(batch: &Batch, mut indices: BTreeMap<String, Kind>) -> Option<(usize, Error)> {
+    for (at, operation) in batch.operations().enumerate() {
+        match operation {
+            Operation::MakeIndex { name, kind } => drop(indices.insert(name.into(), kind)),
+            Operation::RemoveIndex { name } => drop(indices.remove(name)),
+            Operation::Set { name, value, .. } => {
+                let (name, value) = (name.to_owned(), value.kind());
+                match indices.get(&name) {
+                    Some(&index) if index != value => return Some((at, Error::KindMismatch { name, index, value })),
+                    _ => {}
+                }
+            }
+            _ => {}
+        }
+    }
+    None
 }

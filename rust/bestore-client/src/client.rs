@@ -1,15 +1,16 @@
 //! A connection to the server.
 
 use crate::options::end_of;
+use crate::patience::Patience;
 use crate::pushes::Pushes;
-use crate::wire::{self, Command, Json, Nothing, Numbers, Push, Refusal, Request};
+use crate::wire::{self, Command, Json, Nothing, Object, Push, Refusal, Request};
 use crate::{os, Error, Options, Result, SocketPath};
 use bestore_types::{Batch, Value, Written};
 use serde::de::DeserializeOwned;
 use serde::Deserialize;
 use std::borrow::Cow;
 use std::collections::BTreeMap;
-use std::io::{self, ErrorKind, Read, Write};
+use std::io::{self, ErrorKind};
 use std::net::Shutdown;
 use std::os::unix::io::{AsRawFd, RawFd};
 use std::os::unix::net::UnixStream;
@@ -32,8 +33,6 @@ pub struct Client {
     pub(crate) socket: Option<SocketPath>,
     /// The server's run, once the server has sent it.
     pub(crate) run: Option<String>,
-    /// The number of the server's volumes, or 0 until the server has sent it.
-    pub(crate) volumes: u32,
     /// Whether a snapshot is pinned, and whether there were live queries. A new connection starts without either.
     pub(crate) is_pinned: bool,
     pub(crate) has_watches: bool,
@@ -47,8 +46,8 @@ pub struct Client {
     waits: BTreeMap<u64, Duration>,
     /// The query texts of requests that are still waiting for a reply.
     queries: BTreeMap<u64, String>,
-    /// The features that the server's reply to `hello` listed.
-    features: Vec<String>,
+    /// How long the current calls may take together.
+    pub(crate) limit: Option<Patience>,
     /// Whether a call has timed out. Anything that the server sends afterwards belongs to no call.
     is_over: bool,
 }
@@ -64,8 +63,7 @@ pub struct Query<'a> {
     pub limit: Option<u64>,
     /// The lowest node number to return.
     pub from: u64,
-    /// Whether the reply may leave out `count`, which can only be computed from the whole answer. A server that can't leave it out sends it
-    /// anyway.
+    /// Whether the reply may leave out `count`, which can only be computed from the whole answer.
     pub uncounted: bool,
 }
 
@@ -96,7 +94,9 @@ fn wait_of(command: &Command<'_>) -> Option<Duration> {
 fn query_of<'a>(command: &'a Command<'_>) -> Option<&'a str> {
     match command {
         Command::Query(wire::Query { query, .. }) => Some(query),
-        Command::Explain(wire::QueryText { query }) | Command::Text(wire::QueryText { query }) => Some(query),
+        Command::Explain(wire::QueryText { query })
+        | Command::Ways(wire::QueryText { query })
+        | Command::Text(wire::QueryText { query }) => Some(query),
         Command::Watch(watch) => watch.query.as_deref(),
         _ => None,
     }
@@ -147,7 +147,6 @@ impl Client {
             stream,
             socket: None,
             run: None,
-            volumes: 0,
             is_pinned: false,
             has_watches: false,
             options,
@@ -157,7 +156,7 @@ impl Client {
             pushes: Pushes::new(options.most_pushed),
             waits: BTreeMap::new(),
             queries: BTreeMap::new(),
-            features: Vec::new(),
+            limit: None,
             is_over: false,
         }
     }
@@ -167,6 +166,7 @@ impl Client {
         *self = Client {
             last: self.last,
             options: self.options,
+            limit: self.limit,
             ..other
         };
     }
@@ -214,21 +214,21 @@ impl Client {
         let request = Request { id: self.last, command };
         let mut line = serde_json::to_vec(&request).map_err(bad)?;
         line.push(b'\n');
-        match self.stream.write_all(&line) {
+        let patience = self.patience(Duration::ZERO);
+        match os::send_all(&self.stream, &line, patience.map(|it| it.until)) {
             // The server may have sent its reason for closing the connection.
             Err(error) if matches!(error.kind(), ErrorKind::BrokenPipe | ErrorKind::ConnectionReset) => Ok(self.last),
-            Err(error) => Err(self.failed(error)),
+            Err(error) if error.kind() == ErrorKind::TimedOut => Err(self.late(patience)),
+            Err(error) => Err(error.into()),
             Ok(()) => Ok(self.last),
         }
     }
 
-    /// Returns the error for a failed write. A partly sent line can't be continued, so the connection is over.
-    fn failed(&mut self, error: io::Error) -> Error {
-        let error = self.options.late_or(error);
-        if matches!(error, Error::TimedOut(_)) {
-            self.end();
-        }
-        error
+    /// Closes the connection, and returns the error for a request that took too long. A partly sent line can't be continued, and a reply
+    /// that comes later belongs to no call.
+    fn late(&mut self, patience: Option<Patience>) -> Error {
+        self.end();
+        patience.map_or(Error::Closed, |it| Error::TimedOut(it.time))
     }
 
     /// Closes the connection.
@@ -252,15 +252,11 @@ impl Client {
 
     fn receive_any<T: DeserializeOwned>(&mut self, id: u64) -> Result<T> {
         let wait = self.waits.remove(&id).unwrap_or_default();
-        let time = self.options.timeout.map(|timeout| timeout.saturating_add(wait));
-        let until = time.map(end_of);
+        let patience = self.patience(wait);
         loop {
-            let end = match (self.read_line(until)?, time) {
-                (Some(end), _) => end,
-                (None, time) => {
-                    self.end();
-                    return Err(time.map_or(Error::Closed, Error::TimedOut));
-                }
+            let end = match self.read_line(patience.map(|it| it.until))? {
+                Some(end) => end,
+                None => return Err(self.late(patience)),
             };
             let answer = self.reply(id, end);
             self.received.drain(..end);
@@ -285,15 +281,17 @@ impl Client {
         }
         match (line.ok, line.error) {
             (_, Some(refusal)) => Ok(Some(Err(Error::Refused(refusal)))),
-            (Some(ok), None) if line.id == Some(id) => Ok(Some(Ok(serde_json::from_str(ok.get()).map_err(bad)?))),
+            (Some(ok), None) if line.id == Some(id) => {
+                let Object(reply) = serde_json::from_str(ok.get()).map_err(bad)?;
+                Ok(Some(Ok(reply)))
+            }
             _ => Err(bad("the reply belongs to another request")),
         }
     }
 
     /// Returns the length of the first line that has been received, if its end has been received.
     fn line_end(&mut self) -> Option<usize> {
-        let unseen = &self.received[self.searched..];
-        match unseen.iter().position(|byte| *byte == b'\n') {
+        match os::newline_in(&self.received[self.searched..]) {
             Some(at) => Some(self.searched + at + 1),
             None => {
                 self.searched = self.received.len();
@@ -322,29 +320,14 @@ impl Client {
         if self.is_over {
             return Err(Error::Closed);
         }
-        let left = match until.map(|until| until.saturating_duration_since(Instant::now())) {
-            Some(left) if left.is_zero() => return Ok(false),
-            left => left,
-        };
-        if left.is_some() {
-            self.stream.set_read_timeout(left)?;
-        }
-        let mut bytes = [0; CHUNK];
-        let read = self.stream.read(&mut bytes);
-        if left.is_some() {
-            self.stream.set_read_timeout(None)?;
-        }
-        self.add_read(read, &bytes)
+        Self::has_read(os::receive(&self.stream, &mut self.received, CHUNK, until))
     }
 
-    /// Adds what was read. Returns `false` if nothing had arrived in time.
-    fn add_read(&mut self, read: io::Result<usize>, bytes: &[u8]) -> Result<bool> {
+    /// Returns `true` if something was read, and `false` if nothing had arrived in time.
+    fn has_read(read: io::Result<usize>) -> Result<bool> {
         match read {
             Ok(0) => Err(Error::Closed),
-            Ok(count) => {
-                self.received.extend_from_slice(&bytes[..count]);
-                Ok(true)
-            }
+            Ok(_) => Ok(true),
             Err(error) if matches!(error.kind(), ErrorKind::WouldBlock | ErrorKind::TimedOut) => Ok(false),
             Err(error) if error.kind() == ErrorKind::Interrupted => Ok(true),
             Err(error) if error.kind() == ErrorKind::ConnectionReset => Err(Error::Closed),
@@ -354,10 +337,8 @@ impl Client {
 
     /// Reads what has already arrived, up to the end of a line.
     fn read_arrived(&mut self) -> Result<()> {
-        let mut bytes = [0; CHUNK];
         while !self.is_over && self.searched <= LINE && self.line_end().is_none() {
-            let read = os::receive_now(&self.stream, &mut bytes);
-            if !self.add_read(read, &bytes)? {
+            if !Self::has_read(os::receive_now(&self.stream, &mut self.received, CHUNK))? {
                 break;
             }
         }
@@ -389,6 +370,11 @@ impl Client {
         Ok(None)
     }
 
+    /// Returns the oldest push that an earlier call has received, without receiving any more.
+    pub fn buffered_push(&mut self) -> Option<Push> {
+        self.pushes.take()
+    }
+
     /// Returns the server's versions and limits.
     ///
     /// # Errors
@@ -413,14 +399,8 @@ impl Client {
             visit,
             confirmed: self.options.confirmed,
         }))?;
-        self.features = hello.features.clone();
-        Ok(self.greeted(hello))
-    }
-
-    /// Returns whether the server's reply to [`hello`](Self::hello) lists this feature, such as `by` for pages in an order.
-    #[must_use]
-    pub fn has(&self, feature: &str) -> bool {
-        self.features.iter().any(|it| it == feature)
+        self.run = Some(hello.run.clone());
+        Ok(hello)
     }
 
     /// Writes the batch atomically: all of its operations or none.
@@ -428,40 +408,18 @@ impl Client {
     /// # Errors
     /// The same as `call`.
     pub fn apply(&mut self, batch: &Batch) -> Result<Written> {
-        self.write(batch, None, None)
+        self.write_batch(batch.clone(), None)
     }
 
-    /// Writes like [`apply`](Self::apply), but only if the journal has exactly `expected` entries. Otherwise the error is `Conflict`.
+    /// Writes like [`apply`](Self::apply) or, with an expected number, like [`apply_if`](Self::apply_if), and takes the batch, which then
+    /// isn't copied.
     ///
     /// # Errors
     /// The same as `call`.
-    pub fn apply_if(&mut self, expected: u64, batch: &Batch) -> Result<Written> {
-        self.write(batch, Some(Numbers::One(expected)), None)
-    }
-
-    /// Writes like [`apply`](Self::apply), but to the given volume of a server that has several. By contrast, `apply` writes to the volume
-    /// of the nodes that the batch names or, if it names none, to the volume with the most free pages. The returned commit number is the
-    /// volume's.
-    ///
-    /// # Errors
-    /// The same as `call`.
-    pub fn apply_in(&mut self, volume: u32, batch: &Batch) -> Result<Written> {
-        self.write(batch, None, Some(volume))
-    }
-
-    /// Writes like [`apply_in`](Self::apply_in), but only if the volume's journal has exactly `expected` entries.
-    ///
-    /// # Errors
-    /// The same as `call`.
-    pub fn apply_in_if(&mut self, volume: u32, expected: u64, batch: &Batch) -> Result<Written> {
-        self.write(batch, Some(Numbers::One(expected)), Some(volume))
-    }
-
-    fn write(&mut self, batch: &Batch, expected: Option<Numbers>, volume: Option<u32>) -> Result<Written> {
+    pub fn write_batch(&mut self, batch: Batch, expected: Option<u64>) -> Result<Written> {
         let write = wire::Write {
-            operations: batch.clone().into(),
+            operations: batch.into(),
             expected,
-            volume,
             ..wire::Write::default()
         };
         // A new connection wouldn't have the pinned snapshot.
@@ -471,6 +429,14 @@ impl Client {
             number: written.commit,
             nodes: written.nodes,
         })
+    }
+
+    /// Writes like [`apply`](Self::apply), but only if the journal has exactly `expected` entries. Otherwise the error is `Conflict`.
+    ///
+    /// # Errors
+    /// The same as `call`.
+    pub fn apply_if(&mut self, expected: u64, batch: &Batch) -> Result<Written> {
+        self.write_batch(batch.clone(), Some(expected))
     }
 
     /// Pins the current snapshot: all reads see it until [`unpin`](Self::unpin).
@@ -558,7 +524,7 @@ impl Client {
             columns: (!columns.is_empty()).then_some(wire::Columns(columns)),
             limit: query.limit,
             from: query.from,
-            uncounted: query.uncounted && self.has("uncounted"),
+            uncounted: query.uncounted,
             ..wire::Query::default()
         }))
     }
@@ -615,24 +581,13 @@ impl Client {
             ..wire::JournalFrom::default()
         }))
     }
-
-    /// Like [`journal_from`](Self::journal_from), for the given volume. If the server has several volumes, you must use this one.
-    ///
-    /// # Errors
-    /// The same as `call`.
-    pub fn journal_of(&mut self, volume: u32, from: u64) -> Result<wire::Journal> {
-        self.call(Command::Journal(wire::JournalFrom {
-            from,
-            volume: Some(volume),
-            ..wire::JournalFrom::default()
-        }))
-    }
 }
 
 #[cfg(test)]
 mod tests {
     use super::*;
     use crate::ErrorName;
+    use std::io::{Read, Write};
 
     /// Returns a client of a mock server that sends these lines.
     fn client_of(lines: &str) -> (UnixStream, Client) {
@@ -656,6 +611,12 @@ mod tests {
         server.write_all(b"{\"id\":1,\"ok\":{}}\n").unwrap_err();
         assert!(matches!(client.unpin(), Err(Error::Closed)));
         assert!(matches!(client.next_push(Duration::ZERO), Err(Error::Closed)));
+    }
+
+    #[test]
+    fn a_list_is_no_reply() {
+        let (_server, mut client) = client_of("{\"id\":1,\"ok\":[1,2]}\n");
+        assert!(matches!(client.count("name==a"), Err(Error::BadLine(_))));
     }
 
     #[test]
@@ -689,7 +650,7 @@ mod tests {
             server.write_all(b"{\"id\":1,\"ok\":{\"commit\":5}}\n").unwrap();
             server
         });
-        assert_eq!(client.reach(&[5], Duration::from_secs(30)).unwrap().commit, 5);
+        assert_eq!(client.reach(5, Duration::from_secs(30)).unwrap().commit, 5);
         drop(answering.join().unwrap());
     }
 

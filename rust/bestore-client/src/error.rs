@@ -51,6 +51,9 @@ pub enum Error {
         /// The kind of the value.
         value: Kind,
     },
+    /// The program's own error, made with [`Error::other`] in a change's closure.
+    #[error("{0}")]
+    Other(Box<dyn std::error::Error + Send + Sync>),
 }
 
 /// Returns the library's error for a value whose kind its index doesn't accept.
@@ -60,6 +63,11 @@ fn mismatch(name: &str, index: Kind, value: Kind) -> bestore_types::Error {
 }
 
 impl Error {
+    /// Makes an error of the program's own. A closure passed to [`change`](crate::Client::change) returns it to abandon the change.
+    pub fn other(error: impl Into<Box<dyn std::error::Error + Send + Sync>>) -> Self {
+        Error::Other(error.into())
+    }
+
     /// Returns the server's refusal if this error is one.
     #[must_use]
     pub fn refusal(&self) -> Option<&Refusal> {
@@ -87,7 +95,7 @@ impl Error {
         match self {
             Error::Refused(refusal) => refusal.class(),
             Error::Io(_) | Error::Closed | Error::BadLine(_) | Error::TimedOut(_) => Class::Gone,
-            Error::OtherUser { .. } | Error::KindMismatch { .. } => Class::Mine,
+            Error::OtherUser { .. } | Error::KindMismatch { .. } | Error::Other(_) => Class::Mine,
         }
     }
 }

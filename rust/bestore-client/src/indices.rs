@@ -2,22 +2,11 @@
 
 use crate::wire::{self, Command, ErrorName, Form, Nothing, Refusal};
 use crate::{Client, Error, Result};
-use bestore_types::{all_in, Hint, Kind, Node, Value};
+use bestore_types::{all_in, Hint, Kind, Value};
 use std::collections::BTreeMap;
 
 /// The maximum number of operations in a batch, and the number of requests sent before the first reply is read.
 const OPERATIONS: usize = 64;
-
-/// Returns how many of these nodes, which are in ascending order, fit in one batch: those in the first node's volume.
-fn of_a_batch(nodes: &[u64]) -> usize {
-    let volume = |node: &u64| Node::from(*node).volume;
-    let first = nodes.first().map(volume);
-    nodes
-        .iter()
-        .take(OPERATIONS)
-        .take_while(|node| Some(volume(node)) == first)
-        .count()
-}
 
 impl Client {
     /// Returns the names of the indices, with their kinds.
@@ -50,8 +39,8 @@ impl Client {
     /// Returns the comparisons in a query, from left to right. The server only parses the text; it doesn't read its store.
     ///
     /// # Errors
-    /// `Syntax`, `BadPattern`, `TooLong`, `TooDeep` or `TooMany` if the text isn't a valid query. `BadRequest` if the server is too old to
-    /// [have](Self::has) `text`. Otherwise the same as [`call`](Self::call).
+    /// `Syntax`, `BadPattern`, `TooLong`, `TooDeep` or `TooMany` if the text isn't a valid query. Otherwise the
+    /// same as [`call`](Self::call).
     pub fn comparisons(&mut self, query: &str) -> Result<Vec<wire::Comparison>> {
         let query = query.into();
         let read: wire::Comparisons = self.call(Command::Text(wire::QueryText { query }))?;
@@ -90,9 +79,8 @@ impl Client {
     pub fn reindex(&mut self, name: &str) -> Result<u64> {
         let kind = self.index(name)?;
         let lacking = self.not_indexed(name, kind)?;
-        let (mut rest, mut set) = (&lacking[..], 0);
-        while !rest.is_empty() {
-            let (nodes, others) = rest.split_at(of_a_batch(rest));
+        let mut set = 0;
+        for nodes in lacking.chunks(OPERATIONS) {
             set += self.change(|change| {
                 let values = change.client().values_of(nodes, name, kind)?;
                 for (node, value) in &values {
@@ -100,7 +88,6 @@ impl Client {
                 }
                 Ok(values.len() as u64)
             })?;
-            rest = others;
         }
         Ok(set)
     }
@@ -142,20 +129,5 @@ impl Client {
             values.extend(value.filter(|value| value.kind() == kind).map(|value| (node, value)));
         }
         Ok(values)
-    }
-}
-
-#[cfg(test)]
-mod tests {
-    use super::*;
-
-    #[test]
-    fn a_batch_is_about_one_volume() {
-        let nodes: Vec<u64> = (0..70)
-            .chain((0..3).map(|number| Node { volume: 1, number }.into()))
-            .collect();
-        assert_eq!(of_a_batch(&nodes), 64);
-        assert_eq!(of_a_batch(&nodes[64..]), 6);
-        assert_eq!(of_a_batch(&nodes[70..]), 3);
     }
 }

@@ -24,21 +24,23 @@
 mod activity;
 mod change;
 mod client;
+mod columns;
 mod error;
 mod indices;
 mod options;
 mod ordered;
 mod os;
+mod patience;
 mod pushes;
 mod repeat;
 pub mod socket;
 pub mod wire;
 
 pub use bestore_types::{
-    all_in, caret, escape, Batch, Class, Cursor, CursorFault, Hint, Kind, Node, Operation, Operations, Order, Page,
-    Value, Written,
+    all_in, caret, escape, Batch, Class, Cursor, CursorFault, Hint, Kind, Operation, Operations, Order, Page, Value,
+    Written,
 };
-pub use change::Change;
+pub use change::{first_mismatch, Change};
 pub use client::{Client, Query};
 pub use error::{Error, Result};
 pub use options::Options;

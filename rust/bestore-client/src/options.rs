@@ -89,16 +89,14 @@ impl Options {
     /// only once and returns its first outcome. [`Client::change`] runs its closure again.
     ///
     /// A write isn't retried while a snapshot is pinned (except by `change`), or if there were live queries, because a new connection would
-    /// have neither. A batch that creates or removes indices in several volumes isn't retried either, because it can't have a token. The
-    /// number that you pass to [`Client::apply_if`] belongs to the run that [`Client::run`] returns.
+    /// have neither. The number that you pass to [`Client::apply_if`] belongs to the run that [`Client::run`] returns.
     pub fn repeat(&mut self, time: Duration) -> &mut Self {
         self.repeat = Some(time);
         self
     }
 
     /// Makes reads wait until what they show is in the server's file or log, like replies to writes. Otherwise, a read may show a write
-    /// that is lost when the server is killed or another server takes over its log. An earlier server, whose `hello` doesn't list the
-    /// feature `confirmed`, refuses the connection with the error `BadRequest`.
+    /// that is lost when the server is killed or another server takes over its log.
     pub fn confirmed(&mut self, confirmed: bool) -> &mut Self {
         self.confirmed = confirmed;
         self

@@ -9,7 +9,7 @@ use std::os::unix::io::{AsRawFd, FromRawFd};
 use std::os::unix::net::UnixStream;
 use std::path::Path;
 use std::ptr;
-use std::time::Duration;
+use std::time::{Duration, Instant};
 
 fn check(answer: libc::c_int) -> io::Result<libc::c_int> {
     if answer < 0 {
@@ -57,17 +57,92 @@ fn credentials(stream: &UnixStream) -> io::Result<libc::ucred> {
     Ok(credentials)
 }
 
-/// Receives bytes that have already arrived, without waiting for any.
-pub fn receive_now(stream: &UnixStream, bytes: &mut [u8]) -> io::Result<usize> {
-    // SAFETY: the pointer and the length are those of the slice.
-    let received = unsafe {
-        let flags = libc::MSG_DONTWAIT;
-        libc::recv(stream.as_raw_fd(), bytes.as_mut_ptr().cast(), bytes.len(), flags)
-    };
-    usize::try_from(received).map_err(|_| io::Error::last_os_error())
+/// Waits until the socket is ready for this event or has failed, but no longer than until this time. Returns `false` if the time is up.
+fn wait_for(stream: &UnixStream, event: libc::c_short, until: Option<Instant>) -> io::Result<bool> {
+    loop {
+        let left = until.map(|until| until.saturating_duration_since(Instant::now()));
+        if left.map_or(false, |left| left.is_zero()) {
+            return Ok(false);
+        }
+        // Rounded up, so that the wait isn't shorter.
+        let milliseconds = left.map_or(-1, |left| {
+            let rounded = left.saturating_add(Duration::from_nanos(999_999)).as_millis();
+            libc::c_int::try_from(rounded).unwrap_or(libc::c_int::MAX)
+        });
+        let mut polled = libc::pollfd {
+            fd: stream.as_raw_fd(),
+            events: event,
+            revents: 0,
+        };
+        // SAFETY: the pointer is that of one `pollfd`.
+        match check(unsafe { libc::poll(&mut polled, 1, milliseconds) }) {
+            Ok(0) => {}
+            Err(error) if error.kind() == ErrorKind::Interrupted => {}
+            ready => return ready.map(|_| true),
+        }
+    }
 }
 
-/// Connects to a socket. Connecting, and each later write, fails with `WouldBlock` if it takes longer than `within`.
+/// Sends all of the bytes. If the time is up before the other end has taken them, the error has the kind `TimedOut`. If the other end has
+/// closed the connection, no signal is raised, whatever the program does about SIGPIPE.
+pub fn send_all(stream: &UnixStream, mut bytes: &[u8], until: Option<Instant>) -> io::Result<()> {
+    while !bytes.is_empty() {
+        // SAFETY: the pointer and the length are those of the slice.
+        let sent = unsafe {
+            let flags = libc::MSG_DONTWAIT | libc::MSG_NOSIGNAL;
+            libc::send(stream.as_raw_fd(), bytes.as_ptr().cast(), bytes.len(), flags)
+        };
+        match usize::try_from(sent).map_err(|_| io::Error::last_os_error()) {
+            Ok(count) => bytes = &bytes[count..],
+            Err(error) if error.kind() == ErrorKind::Interrupted => {}
+            Err(error) if error.kind() == ErrorKind::WouldBlock => {
+                if !wait_for(stream, libc::POLLOUT, until)? {
+                    return Err(ErrorKind::TimedOut.into());
+                }
+            }
+            Err(error) => return Err(error),
+        }
+    }
+    Ok(())
+}
+
+/// Waits until bytes arrive, but no longer than until this time, and appends up to `most` of them. Returns how many arrived; 0 means that
+/// the other end has closed the connection. If the time is up, the error has the kind `TimedOut`.
+pub fn receive(stream: &UnixStream, bytes: &mut Vec<u8>, most: usize, until: Option<Instant>) -> io::Result<usize> {
+    if !wait_for(stream, libc::POLLIN, until)? {
+        return Err(ErrorKind::TimedOut.into());
+    }
+    receive_now(stream, bytes, most)
+}
+
+/// Appends up to `most` bytes that have already arrived, without waiting for any.
+pub fn receive_now(stream: &UnixStream, bytes: &mut Vec<u8>, most: usize) -> io::Result<usize> {
+    bytes.reserve(most);
+    let spare = bytes.spare_capacity_mut();
+    // SAFETY: the pointer and the length are those of memory that the vector has reserved.
+    let received = unsafe {
+        let flags = libc::MSG_DONTWAIT;
+        libc::recv(
+            stream.as_raw_fd(),
+            spare.as_mut_ptr().cast(),
+            most.min(spare.len()),
+            flags,
+        )
+    };
+    let count = usize::try_from(received).map_err(|_| io::Error::last_os_error())?;
+    // SAFETY: the system has written this many bytes after the vector's last one.
+    unsafe { bytes.set_len(bytes.len() + count) };
+    Ok(count)
+}
+
+/// Returns the index of the first newline.
+pub fn newline_in(bytes: &[u8]) -> Option<usize> {
+    // SAFETY: the pointer and the length are those of the slice.
+    let found = unsafe { libc::memchr(bytes.as_ptr().cast(), libc::c_int::from(b'\n'), bytes.len()) };
+    (!found.is_null()).then(|| found as usize - bytes.as_ptr() as usize)
+}
+
+/// Connects to a socket. Connecting fails with `WouldBlock` if it takes longer than `within`.
 pub fn connect(path: &Path, within: Option<Duration>) -> io::Result<UnixStream> {
     let address = address(path)?;
     // SAFETY: the call takes only numbers, and nothing else owns the new descriptor.
@@ -129,6 +204,14 @@ mod tests {
         assert_eq!(connect(&path, time).unwrap_err().kind(), ErrorKind::ConnectionRefused);
         std::fs::remove_file(&path).unwrap();
         assert_eq!(connect(&path, time).unwrap_err().kind(), ErrorKind::NotFound);
+    }
+
+    #[test]
+    fn the_first_newline_is_found() {
+        assert_eq!(newline_in(b""), None);
+        assert_eq!(newline_in(&b"a\n"[..1]), None);
+        assert_eq!(newline_in(b"\n\n"), Some(0));
+        assert_eq!(newline_in(b"ab\0\n\n"), Some(3));
     }
 
     #[test]

@@ -64,7 +64,6 @@ impl Pushes {
         Push {
             watch: push.watch,
             commit: push.commit,
-            commits: push.commits,
             error: Some(Refusal::new(ErrorName::PushesLost, message)),
             ..Push::default()
         }

@@ -1,7 +1,7 @@
 //! Retries writes, on a new connection if necessary, until the server answers.
 
 use crate::options::end_of;
-use crate::wire::{self, Command, ErrorName, Hello, Token};
+use crate::wire::{self, Command, ErrorName, Token};
 use crate::{Client, Error, Result};
 use std::process;
 use std::sync::atomic::{AtomicU64, Ordering};
@@ -87,20 +87,14 @@ impl Client {
         }
     }
 
-    pub(crate) fn greeted(&mut self, hello: Hello) -> Hello {
-        self.run = Some(hello.run.clone());
-        self.volumes = hello.volumes;
-        hello
-    }
-
     /// Makes a write, and retries it until that time if there is one. A write that may be retried gets a token, so that it takes effect
-    /// only once. A batch for all volumes can't have a token.
+    /// only once.
     pub(crate) fn write_until(&mut self, mut write: wire::Write, until: Option<Instant>) -> Result<wire::Written> {
-        if until.is_none() || write.is_for_all(self.volumes as usize) {
+        if until.is_none() {
             return self.call(Command::Batch(write));
         }
         write.token = new_token();
-        write.run = write.expected.as_ref().and(self.run.clone());
+        write.run = write.expected.and(self.run.clone());
         // An error after which the write may have taken effect. A later attempt's error doesn't replace it by saying that nothing was
         // written.
         let mut uncertain = None;

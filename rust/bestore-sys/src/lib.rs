@@ -1,7 +1,7 @@
 //! Declarations for `bestore.h`, bestore's C interface. The crate `bestore` is the safe interface.
 //!
-//! The header and bestore(3) describe each call, its errors and its cost. The names are those of C. The constants and `bes_operation` come
-//! from `bestore-types`.
+//! The header and bestore(3) describe each call, its errors and its cost. The names are those of C. The constants and the structs that
+//! the client for C also has come from `bestore-types`.
 //!
 //! The library is found in the folder given by `BESTORE_LIB_DIR`, or otherwise through pkg-config. If that folder has both `libbestore.so`
 //! and `libbestore.a`, `BESTORE_STATIC` selects the latter.
@@ -14,7 +14,10 @@ use core::ptr::null_mut;
 /// The version of the header to which these declarations correspond, in the form that `bes_version` returns.
 pub const BES_VERSION_NUMBER: u32 = 4000;
 
-pub use bestore_types::raw::RawOperation as bes_operation;
+pub use bestore_types::raw::{
+    RawAttribute as bes_attribute, RawCell as bes_cell, RawCounts as bes_counts, RawItem as bes_item,
+    RawName as bes_name, RawOperation as bes_operation, RawUsage as bes_usage,
+};
 pub use bestore_types::sys::*;
 
 macro_rules! handles {
@@ -45,45 +48,8 @@ handles! {
     bes_witness, BES_WITNESS_INIT;
     /// A change that has begun and hasn't ended yet.
     bes_draft, BES_DRAFT_INIT;
-}
-
-/// An item of a query in reverse Polish order.
-#[repr(C)]
-#[derive(Clone, Copy, Debug, Default, PartialEq, Eq)]
-pub struct bes_item {
-    pub kind: u32,
-    pub at: u32,
-    pub length: u32,
-    pub number: u64,
-}
-
-/// A value, as written by `bes_get`.
-#[repr(C)]
-#[derive(Clone, Copy, Debug, Default, PartialEq, Eq)]
-pub struct bes_attribute {
-    pub code: u32,
-    pub length: u64,
-    pub number: u64,
-}
-
-/// A name that has been checked once. With any other contents, it names no attribute.
-#[repr(C)]
-#[derive(Clone, Copy, Debug, PartialEq, Eq)]
-pub struct bes_name {
-    pub length: u64,
-    pub bytes: [u8; 64],
-}
-
-/// An attribute, as written by `bes_columns`.
-#[repr(C)]
-#[derive(Clone, Copy, Debug, Default, PartialEq, Eq)]
-pub struct bes_cell {
-    /// `BES_OK`, `BES_NO_ATTRIBUTE` or `BES_NO_NODE`.
-    pub error: u32,
-    pub code: u32,
-    pub number: u64,
-    pub offset: u64,
-    pub length: u64,
+    /// A store that is being built.
+    bes_builder, BES_BUILDER_INIT;
 }
 
 /// A position in an order, as set by `bes_ordered`.
@@ -104,34 +70,12 @@ impl bes_cursor {
     };
 }
 
-/// A store's usage.
-#[repr(C)]
-#[derive(Clone, Copy, Debug, Default, PartialEq, Eq)]
-pub struct bes_usage {
-    pub pages: u64,
-    pub free: u64,
-    pub retired: u64,
-    pub entries: u64,
-    pub commits: u64,
-    pub is_held: bool,
-    pub oldest: u64,
-    pub holder: u64,
-}
-
 /// How many nodes a refresh added to the result and how many it removed.
 #[repr(C)]
 #[derive(Clone, Copy, Debug, Default, PartialEq, Eq)]
 pub struct bes_updates {
     pub created: u64,
     pub removed: u64,
-}
-
-/// The numbers of operations and bytes in a list.
-#[repr(C)]
-#[derive(Clone, Copy, Debug, Default, PartialEq, Eq)]
-pub struct bes_counts {
-    pub operations: u64,
-    pub bytes: u64,
 }
 
 /// A comparison in a query's text.
@@ -168,6 +112,22 @@ extern "C" {
     pub fn bes_join(pass: *mut bes_pass, witness: *mut bes_witness, seen: *mut u64) -> u32;
     pub fn bes_dismiss(witness: *mut bes_witness) -> u32;
     pub fn bes_move_witness(witness: *mut bes_witness, other: *mut bes_witness) -> u32;
+    pub fn bes_build(pages: u64, passes: u64, commits: u64, builder: *mut bes_builder) -> u32;
+    pub fn bes_build_index(builder: *mut bes_builder, name: *const u8, name_length: usize, code: u32) -> u32;
+    pub fn bes_build_node(builder: *mut bes_builder, node: u64) -> u32;
+    pub fn bes_build_attribute(
+        builder: *mut bes_builder,
+        name: *const u8,
+        name_length: usize,
+        code: u32,
+        number: u64,
+        value: *const u8,
+        value_length: usize,
+        held: u32,
+    ) -> u32;
+    pub fn bes_build_finish(builder: *mut bes_builder, next: u64, pass: *mut bes_pass) -> u32;
+    pub fn bes_build_close(builder: *mut bes_builder) -> u32;
+    pub fn bes_move_builder(builder: *mut bes_builder, other: *mut bes_builder) -> u32;
     pub fn bes_number(pass: *mut bes_pass, number: *mut u64) -> u32;
     pub fn bes_pin(pass: *mut bes_pass, number: *mut u64) -> u32;
     pub fn bes_unpin(pass: *mut bes_pass) -> u32;
@@ -318,6 +278,14 @@ extern "C" {
         bytes_room: usize,
         count: *mut u64,
     ) -> u32;
+    pub fn bes_ways(
+        pass: *mut bes_pass,
+        text: *const u8,
+        text_length: usize,
+        bytes: *mut u8,
+        bytes_room: usize,
+        count: *mut u64,
+    ) -> u32;
     pub fn bes_query_comparisons(
         text: *const u8,
         text_length: usize,
@@ -343,6 +311,7 @@ extern "C" {
         count: *mut u64,
     ) -> u32;
     pub fn bes_nodes(pass: *mut bes_pass, from: u64, nodes: *mut u64, nodes_room: usize, count: *mut u64) -> u32;
+    pub fn bes_is_held(pass: *mut bes_pass, node: u64, name: *const u8, name_length: usize, held: *mut u32) -> u32;
     pub fn bes_get(
         pass: *mut bes_pass,
         node: u64,

@@ -31,6 +31,7 @@ fn layouts() -> Vec<Layout> {
         bes_place { live, at }
         bes_witness { live, at }
         bes_draft { live, at }
+        bes_builder { live, at }
         bes_operation { kind, code, node, number, name_at, name_length, value_at, value_length }
         bes_item { kind, at, length, number }
         bes_attribute { code, length, number }

@@ -165,19 +165,6 @@ impl Batch {
         self
     }
 
-    /// Returns each node to which an operation refers, with the operation's index. An operation that creates a node refers to it only in a
-    /// batch from the journal.
-    pub(crate) fn named_nodes(&mut self) -> impl Iterator<Item = (usize, &mut u64)> {
-        let operations = self.list.operations.iter_mut().enumerate();
-        operations.filter_map(|(index, operation)| match operation.kind {
-            sys::BES_NEW_NODE if operation.node == 0 => None,
-            sys::BES_NEW_NODE | sys::BES_REMOVE_NODE | sys::BES_SET | sys::BES_UNSET => {
-                Some((index, &mut operation.node))
-            }
-            _ => None,
-        })
-    }
-
     pub(crate) fn add(&mut self, kind: u32, node: u64, name: &str, code: u32, number: u64, value: &[u8]) -> &mut Self {
         let List { operations, bytes } = &mut self.list;
         if operations.is_empty() {

@@ -8,20 +8,18 @@
 //! - kinds 2 and 4: the type code, 4 bytes;
 //! - kind 2: a number in 8 bytes, or the length of the value, one byte, and the value.
 
+use crate::fields::{write_name, write_value, Reader};
 use crate::raw::{RawOperation, OPERATIONS};
-use crate::{sys, Batch, Error, Kind, Result};
-use std::ops::RangeInclusive;
+use crate::{sys, Batch, Kind, Result, ValueRef};
 
 const BEGINNING: [u8; 4] = *b"BEB\x01";
-
-/// The number of bytes that a name can have.
-const LENGTHS_OF_A_NAME: RangeInclusive<u8> = 1..=63;
 
 impl Batch {
     /// Encodes the batch as bytes that can be stored or sent.
     ///
     /// # Errors
-    /// [`Error::BadCount`], [`Error::NameLength`], [`Error::DataLength`] or [`Error::HasNul`] if no store would accept such a batch.
+    /// [`BadCount`](crate::Error::BadCount), [`NameLength`](crate::Error::NameLength), [`DataLength`](crate::Error::DataLength) or
+    /// [`HasNul`](crate::Error::HasNul) if no store would accept such a batch.
     pub fn to_bytes(&self) -> Result<Vec<u8>> {
         self.check_count()?;
         let mut bytes = Vec::with_capacity(5 + 32 * self.len() + self.raw().bytes.len());
@@ -39,28 +37,15 @@ impl Batch {
             to.extend_from_slice(&operation.node.to_le_bytes());
         }
         if has_name(operation.kind) {
-            let name = self.raw().name(operation);
-            let length = u8::try_from(name.len())
-                .ok()
-                .filter(|length| LENGTHS_OF_A_NAME.contains(length));
-            to.push(length.ok_or(Error::NameLength { operation: index })?);
-            write_text(name.as_bytes(), index, to)?;
+            write_name(self.raw().name(operation), index, to)?;
         }
         if has_code(operation.kind) {
             to.extend_from_slice(&operation.code.to_le_bytes());
         }
         if operation.kind == sys::BES_SET {
             let kind = Kind::from_code(operation.code).unwrap_or(Kind::Raw);
-            if kind.is_number() {
-                to.extend_from_slice(&operation.number.to_le_bytes());
-                return Ok(());
-            }
-            let value = self.raw().value_bytes(operation);
-            to.push(u8::try_from(value.len()).map_err(|_| Error::DataLength { operation: index })?);
-            match kind {
-                Kind::Raw => to.extend_from_slice(value),
-                _ => write_text(value, index, to)?,
-            }
+            let value = ValueRef::of_parts(kind, operation.number, self.raw().value_bytes(operation));
+            write_value(value, index, to)?;
         }
         Ok(())
     }
@@ -68,20 +53,20 @@ impl Batch {
     /// Returns the batch that the bytes encode.
     ///
     /// # Errors
-    /// [`Error::BadBatch`] with the offset of the first invalid byte, of the first byte of a part that is cut off, or of a number that
-    /// doesn't fit its kind.
+    /// [`BadBatch`](crate::Error::BadBatch) with the offset of the first invalid byte, of the first byte of a part that is cut off, or of a
+    /// number that doesn't fit its kind.
     pub fn from_bytes(bytes: &[u8]) -> Result<Self> {
-        let mut reader = Reader { bytes, at: 0 };
-        reader.beginning()?;
+        let mut reader = Reader::new(bytes);
+        reader.beginning(BEGINNING, "the bytes don't begin with BEB, as those of a batch do")?;
         let count = reader.byte()?;
         if !(1..=OPERATIONS).contains(&usize::from(count)) {
             return reader.bad(1, "a batch has 1 to 64 operations");
         }
         let mut batch = Batch::new();
         for _ in 0..count {
-            reader.operation(&mut batch)?;
+            read_operation(&mut reader, &mut batch)?;
         }
-        if reader.at < bytes.len() {
+        if !reader.is_at_end() {
             return reader.bad(0, "the batch ends here, and more bytes follow");
         }
         Ok(batch)
@@ -100,148 +85,31 @@ fn has_code(kind: u32) -> bool {
     kind == sys::BES_SET || kind == sys::BES_MAKE_INDEX
 }
 
-/// Adds the bytes of a name or a text, unless one of them is zero.
-fn write_text(text: &[u8], operation: Option<u64>, to: &mut Vec<u8>) -> Result<()> {
-    if text.contains(&0) {
-        return Err(Error::HasNul { operation });
+fn read_operation(reader: &mut Reader<'_>, batch: &mut Batch) -> Result<()> {
+    let kind = u32::from(reader.byte()?);
+    if kind > sys::BES_REMOVE_INDEX {
+        return reader.bad(1, "no operation has this number; operations are numbered 0 to 5");
     }
-    to.extend_from_slice(text);
+    let node = if has_node(kind) { reader.number()? } else { 0 };
+    let name = if has_name(kind) { reader.name()? } else { "" };
+    if !has_code(kind) {
+        batch.add(kind, node, name, 0, 0, &[]);
+        return Ok(());
+    }
+    let of_value = reader.kind()?;
+    let value = match kind {
+        sys::BES_SET => reader.value(of_value)?,
+        _ => ValueRef::of_parts(of_value, 0, &[]),
+    };
+    batch.add(kind, node, name, of_value.code(), value.number(), value.bytes());
     Ok(())
-}
-
-struct Reader<'a> {
-    bytes: &'a [u8],
-    at: usize,
-}
-
-impl<'a> Reader<'a> {
-    /// Returns the error for the byte `back` bytes before the next one to be read.
-    fn bad<T>(&self, back: usize, why: &'static str) -> Result<T> {
-        Err(Error::BadBatch {
-            offset: self.at - back,
-            why,
-        })
-    }
-
-    fn take(&mut self, length: usize) -> Result<&'a [u8]> {
-        match self.bytes.get(self.at..self.at + length) {
-            Some(part) => {
-                self.at += length;
-                Ok(part)
-            }
-            None => self.bad(0, "the batch is cut off"),
-        }
-    }
-
-    /// Reads a length in one byte, and that many bytes. If they are cut off, the error is at the length.
-    fn counted(&mut self) -> Result<&'a [u8]> {
-        let length = self.byte()?;
-        if self.bytes.len() - self.at < length.into() {
-            return self.bad(1, "the batch is cut off");
-        }
-        self.take(length.into())
-    }
-
-    fn array<const N: usize>(&mut self) -> Result<[u8; N]> {
-        let mut array = [0; N];
-        array.copy_from_slice(self.take(N)?);
-        Ok(array)
-    }
-
-    fn byte(&mut self) -> Result<u8> {
-        self.array::<1>().map(|[byte]| byte)
-    }
-
-    fn beginning(&mut self) -> Result<()> {
-        for expected in BEGINNING {
-            if self.byte()? != expected {
-                let is_version = self.at == BEGINNING.len();
-                return self.bad(
-                    1,
-                    if is_version {
-                        "the batch's format has another version; only version 1 can be read"
-                    } else {
-                        "the bytes don't begin with BEB, as those of a batch do"
-                    },
-                );
-            }
-        }
-        Ok(())
-    }
-
-    /// Returns the name or text that these bytes, which have just been read, encode.
-    fn text(&self, bytes: &'a [u8]) -> Result<&'a str> {
-        let text = std::str::from_utf8(bytes);
-        let valid = text.map_or_else(|error| error.valid_up_to(), str::len);
-        if let Some(zero) = bytes[..valid].iter().position(|byte| *byte == 0) {
-            return self.bad(bytes.len() - zero, "a name or a text has a zero byte");
-        }
-        text.or_else(|_| self.bad(bytes.len() - valid, "a name or a text isn't valid UTF-8"))
-    }
-
-    fn name(&mut self) -> Result<&'a str> {
-        let name = self.counted()?;
-        match u8::try_from(name.len()) {
-            Ok(length) if LENGTHS_OF_A_NAME.contains(&length) => self.text(name),
-            _ => self.bad(name.len() + 1, "a name has 1 to 63 bytes"),
-        }
-    }
-
-    fn operation(&mut self, batch: &mut Batch) -> Result<()> {
-        let kind = u32::from(self.byte()?);
-        if kind > sys::BES_REMOVE_INDEX {
-            return self.bad(1, "no operation has this number; operations are numbered 0 to 5");
-        }
-        let node = if has_node(kind) {
-            u64::from_le_bytes(self.array()?)
-        } else {
-            0
-        };
-        let name = if has_name(kind) { self.name()? } else { "" };
-        let code = if has_code(kind) {
-            u32::from_le_bytes(self.array()?)
-        } else {
-            0
-        };
-        let value_kind = Kind::from_code(code);
-        match value_kind {
-            None if has_code(kind) => return self.bad(4, "no kind has this type code"),
-            Some(value_kind) if kind == sys::BES_SET => {
-                let (number, value) = self.value(value_kind)?;
-                batch.add(kind, node, name, code, number, value);
-            }
-            _ => {
-                batch.add(kind, node, name, code, 0, &[]);
-            }
-        }
-        Ok(())
-    }
-
-    fn value(&mut self, kind: Kind) -> Result<(u64, &'a [u8])> {
-        if kind.is_number() {
-            let number = u64::from_le_bytes(self.array()?);
-            let fits = match kind {
-                Kind::Int32 => i32::try_from(number as i64).is_ok(),
-                Kind::Uint32 => u32::try_from(number).is_ok(),
-                _ => true,
-            };
-            return if fits {
-                Ok((number, &[]))
-            } else {
-                self.bad(8, "the number doesn't fit its kind")
-            };
-        }
-        let value = self.counted()?;
-        if kind != Kind::Raw {
-            self.text(value)?;
-        }
-        Ok((0, value))
-    }
 }
 
 #[cfg(test)]
 mod tests {
     use super::*;
+    use crate::table::{bytes_of, lines};
+    use crate::Error;
     use crate::Value;
 
     fn example() -> Batch {
@@ -261,31 +129,6 @@ mod tests {
             Err(Error::BadBatch { offset, why }) => (offset, why),
             other => panic!("{other:?}"),
         }
-    }
-
-    /// Returns the lines with this mark in the table that tests the encoders of all languages. Each line has the bytes, followed by the
-    /// words that describe them.
-    fn table(mark: &str) -> Vec<(Vec<u8>, String)> {
-        let path = concat!(env!("CARGO_MANIFEST_DIR"), "/../../tests/batches.txt");
-        let text = std::fs::read_to_string(path).unwrap();
-        let lines = text.lines().filter(|line| !line.starts_with('#'));
-        lines
-            .filter_map(|line| line.split_once(mark))
-            .map(|(bytes, words)| (bytes_of(bytes), words.into()))
-            .collect()
-    }
-
-    /// Returns the bytes represented by words such as `00ff`, `61*63` and `-`.
-    fn bytes_of(words: &str) -> Vec<u8> {
-        words.split_whitespace().flat_map(word_bytes).collect()
-    }
-
-    fn word_bytes(word: &str) -> Vec<u8> {
-        let (digits, times) = word.split_once('*').unwrap_or((word, "1"));
-        let byte = |at: usize| u8::from_str_radix(&digits[at..at + 2], 16).unwrap();
-        let length = if digits == "-" { 0 } else { digits.len() };
-        let bytes: Vec<u8> = (0..length).step_by(2).map(byte).collect();
-        bytes.repeat(times.parse().unwrap())
     }
 
     /// Adds the operation that these words describe.
@@ -310,7 +153,7 @@ mod tests {
     #[test]
     fn operations_have_the_bytes_of_the_table() {
         let (mut all, mut together) = (Batch::new(), Vec::new());
-        for (bytes, words) in table(" = ") {
+        for (bytes, words) in lines("batches.txt", " = ") {
             let mut one = Batch::new();
             add_words(&mut one, &words);
             add_words(&mut all, &words);
@@ -323,9 +166,9 @@ mod tests {
 
     #[test]
     fn what_the_table_refuses_is_refused_there() {
-        let lines = table(" ! ");
-        assert!(lines.len() > 12);
-        for (bytes, words) in lines {
+        let refusals = lines("batches.txt", " ! ");
+        assert!(refusals.len() > 12);
+        for (bytes, words) in refusals {
             let (offset, part) = words.split_once(' ').unwrap();
             let why = match part {
                 "beginning" => "the bytes don't begin with BEB, as those of a batch do",

@@ -100,34 +100,6 @@ pub enum Error {
         /// The value's kind.
         value: Kind,
     },
-    /// The shelf has no such volume.
-    NoVolume {
-        /// The volume.
-        volume: u32,
-        /// The number of volumes.
-        volumes: u32,
-    },
-    /// An operation refers to a node that isn't in the volume being written to.
-    OtherVolume {
-        /// The volume being written to.
-        volume: u32,
-        /// The operation's index in the batch, counting from 0. In a change, this is the operation that would have been added.
-        operation: Option<u64>,
-    },
-    /// A batch in one volume can't create or remove an index of a shelf. Use the shelf's own methods, which do this in all volumes.
-    PartialIndex {
-        /// The operation's index in the batch, counting from 0.
-        operation: u64,
-    },
-    /// The store's next node number is too large for a volume of a shelf.
-    NodesSpent,
-    /// An error from one volume of a shelf.
-    InVolume {
-        /// The volume.
-        volume: u32,
-        /// The volume's error.
-        error: Box<Error>,
-    },
     /// Bytes that aren't a batch.
     BadBatch {
         /// The offset of the first invalid byte, or of the first byte of a part that is cut off.
@@ -135,6 +107,8 @@ pub enum Error {
         /// What is wrong at that position.
         why: &'static str,
     },
+    /// The store has a node or an index, or has been written to, so it can't begin with another volume.
+    NotEmpty,
     /// The handle was opened before this process was forked, and belongs to the parent.
     Forked,
     /// The write was applied in memory but couldn't be saved. The store accepts no more writes.
@@ -158,39 +132,6 @@ impl Error {
     /// Creates an application error. A closure passed to `change` returns it to abandon the change.
     pub fn other(error: impl Into<Box<dyn std::error::Error + Send + Sync>>) -> Self {
         Error::Other(error.into())
-    }
-
-    /// Attributes the error to this volume of a shelf, unless the error depends only on the call.
-    #[must_use]
-    pub fn in_volume(self, volume: u32) -> Self {
-        match self {
-            Error::Query(QueryError { fault, .. }) if fault != QueryFault::NotCovered => self,
-            Error::NoNode | Error::NoAttribute | Error::NotIndexable | Error::Forked | Error::BadCount { .. } => self,
-            Error::NameLength { .. } | Error::DataLength { .. } | Error::HasNul { .. } => self,
-            Error::BadCursor(_) | Error::NoRoom | Error::InVolume { .. } => self,
-            error => Error::InVolume {
-                volume,
-                error: Box::new(error),
-            },
-        }
-    }
-
-    /// Returns the volume of a shelf in which the error occurred, if any.
-    #[must_use]
-    pub fn volume(&self) -> Option<u32> {
-        match self {
-            Error::InVolume { volume, .. } => Some(*volume),
-            _ => None,
-        }
-    }
-
-    /// Returns the error without the volume to which it was attributed.
-    #[must_use]
-    pub fn without_volume(self) -> Self {
-        match self {
-            Error::InVolume { error, .. } => *error,
-            error => error,
-        }
     }
 
     /// Returns this error's number in `bestore.h`, if it has one.
@@ -224,11 +165,9 @@ impl Error {
             Error::BadCount { .. } => sys::BES_BAD_COUNT,
             Error::Conflict { .. } => sys::BES_CONFLICT,
             Error::Unexpected { code, .. } => *code,
-            Error::InVolume { error, .. } => return error.code(),
-            Error::NoVolume { .. } | Error::OtherVolume { .. } => return None,
-            Error::PartialIndex { .. } | Error::NodesSpent | Error::OtherStore => return None,
+            Error::OtherStore => return None,
             Error::KindMismatch { .. } => sys::BES_WRONG_KIND,
-            Error::BadBatch { .. } => return None,
+            Error::BadBatch { .. } | Error::NotEmpty => return None,
             Error::Forked | Error::Other(_) => return None,
             #[cfg(feature = "saved")]
             Error::NotSaved(_) | Error::Stopped(_) => return None,
@@ -239,8 +178,6 @@ impl Error {
     #[must_use]
     pub fn class(&self) -> Class {
         match self {
-            Error::InVolume { error, .. } => error.class(),
-            Error::NodesSpent => Class::Full,
             Error::Forked => Class::Gone,
             #[cfg(feature = "saved")]
             Error::NotSaved(_) | Error::Stopped(_) => Class::Gone,
@@ -262,7 +199,6 @@ impl fmt::Display for Error {
     fn fmt(&self, f: &mut fmt::Formatter<'_>) -> fmt::Result {
         match self {
             Error::Query(error) => error.fmt(f),
-            Error::InVolume { volume, error } => write!(f, "volume {volume}: {error}"),
             #[cfg(feature = "saved")]
             Error::NotSaved(error) => write!(f, "the write is in memory, but couldn't be saved: {error}"),
             #[cfg(feature = "saved")]
@@ -313,21 +249,10 @@ impl Error {
                  query finds it"
             ),
             Error::BadBatch { offset, why } => write!(f, "{why} (byte {offset}, counted from 0)"),
-            Error::NoVolume { volume, volumes } => {
-                write!(f, "there is no volume {volume}; there are {volumes}, counted from 0")
-            }
-            Error::OtherVolume { volume, operation } => {
-                write!(f, "a node isn't in volume {volume}, which the batch is for")?;
-                at_operation(f, operation)?;
-                f.write_str("; a batch can only have nodes of one volume")
-            }
-            Error::PartialIndex { operation } => {
-                f.write_str("an index has to be made or removed in all volumes")?;
-                at_operation(f, &Some(*operation))?;
-                f.write_str("; it needs a batch without other operations")
+            Error::NotEmpty => {
+                f.write_str("the store isn't empty; only one that was never written to can begin with another volume")
             }
             Error::OtherStore => f.write_str("the witness belongs to another store; join one of this store"),
-            Error::NodesSpent => f.write_str("the volume has used up its node numbers; write to another one"),
             _ => f.write_str("the handle belongs to the process that this one was forked from; open a store here"),
         }
     }
@@ -351,7 +276,6 @@ impl std::error::Error for Error {
             #[cfg(feature = "saved")]
             Error::NotSaved(error) | Error::Stopped(error) => Some(error.as_ref()),
             Error::Other(error) => error.source(),
-            Error::InVolume { error, .. } => error.source(),
             _ => None,
         }
     }
@@ -538,9 +462,8 @@ mod tests {
 
     #[test]
     fn an_error_of_this_crate_has_a_class() {
-        let volume = |error| Error::in_volume(error, 1);
-        assert_eq!(volume(Error::Busy { pass: 0 }).class(), Class::Retry);
-        assert_eq!(Error::NodesSpent.class(), Class::Full);
+        assert_eq!(Error::Busy { pass: 0 }.class(), Class::Retry);
+        assert_eq!(Error::NotEmpty.class(), Class::Mine);
         assert_eq!(Error::Forked.class(), Class::Gone);
         assert_eq!(Error::other("mine").class(), Class::Mine);
     }

@@ -1,14 +1,14 @@
-//! The types that bestore's stores and clients share: values and their kinds, batches, nodes, orders and cursors, and errors with their
+//! The types that bestore's stores and clients share: values and their kinds, batches, listings, orders and cursors, and errors with their
 //! messages.
 //!
 //! Nothing here opens a store or loads libbestore. The crate `bestore` contains the store, and `bestore-client` the client for a server;
 //! both re-export what they use from this one.
 //!
 //! ```
-//! use bestore_types::{Batch, Kind, Node};
+//! use bestore_types::{Batch, Kind};
 //!
 //! let mut batch = Batch::new();
-//! batch.make_index("MAIL:from", Kind::Text).new_node().set(Node { volume: 0, number: 1 }.into(), "MAIL:from", "Ada");
+//! batch.make_index("MAIL:from", Kind::Text).new_node().set(1, "MAIL:from", "Ada");
 //! assert_eq!(Batch::from_bytes(&batch.to_bytes()?)?, batch);
 //! # Ok::<(), bestore_types::Error>(())
 //! ```
@@ -24,15 +24,18 @@ mod bytes;
 mod class;
 mod cursor;
 mod error;
+mod fields;
 mod hint;
 mod kind;
 mod limits;
-mod node;
+pub mod listing;
 mod page;
 pub mod raw;
 #[cfg(feature = "saved")]
 pub mod saved;
 pub mod sys;
+#[cfg(test)]
+mod table;
 mod text;
 mod value;
 
@@ -42,8 +45,7 @@ pub use cursor::{Cursor, CursorFault, Order};
 pub use error::{Error, QueryError, QueryFault, Result};
 pub use hint::Hint;
 pub use kind::Kind;
-pub use limits::{Limits, MOST_PASSES, MOST_VOLUMES};
-pub use node::Node;
+pub use limits::{Limits, MOST_PASSES};
 pub use page::{Page, Paging};
 pub use text::{all_in, caret, escape};
-pub use value::Value;
+pub use value::{Value, ValueRef};

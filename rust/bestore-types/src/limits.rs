@@ -3,9 +3,6 @@
 /// The maximum number of passes in a store, not counting the store's own.
 pub const MOST_PASSES: u64 = 63;
 
-/// The maximum number of volumes in a shelf.
-pub const MOST_VOLUMES: u32 = 64;
-
 /// A store's limits.
 ///
 /// ```

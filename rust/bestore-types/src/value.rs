@@ -122,6 +122,90 @@ impl Value {
     }
 }
 
+/// A value whose bytes are borrowed, such as one that has just been read from a batch.
+///
+/// ```
+/// use bestore_types::{Value, ValueRef};
+/// let value = Value::from("Ada");
+/// assert_eq!(ValueRef::from(&value).to_value(), value);
+/// ```
+#[derive(Clone, Copy, Debug, PartialEq, Eq, Hash)]
+pub struct ValueRef<'a> {
+    kind: Kind,
+    number: u64,
+    bytes: &'a [u8],
+}
+
+impl<'a> ValueRef<'a> {
+    /// Assembles a value from parts, as [`Value::of_parts`] does. Of an integer, only the number is kept; of any other value, the bytes are.
+    #[must_use]
+    pub const fn of_parts(kind: Kind, number: u64, bytes: &'a [u8]) -> Self {
+        match kind.is_number() {
+            true => Self {
+                kind,
+                number,
+                bytes: &[],
+            },
+            false => Self { kind, number: 0, bytes },
+        }
+    }
+
+    /// Returns the kind of the value.
+    #[must_use]
+    pub const fn kind(self) -> Kind {
+        self.kind
+    }
+
+    /// Returns an integer in the form that the C library takes, or 0 for any other value.
+    #[must_use]
+    pub const fn number(self) -> u64 {
+        self.number
+    }
+
+    /// Returns the bytes of a string, a MIME type or a raw value; of an integer, none.
+    #[must_use]
+    pub const fn bytes(self) -> &'a [u8] {
+        self.bytes
+    }
+
+    /// Copies the value.
+    #[must_use]
+    pub fn to_value(self) -> Value {
+        Value::of_parts(self.kind, self.number, self.bytes)
+    }
+}
+
+impl<'a> From<&'a Value> for ValueRef<'a> {
+    fn from(value: &'a Value) -> Self {
+        Self {
+            kind: value.kind(),
+            number: value.number(),
+            bytes: value.as_bytes().unwrap_or_default(),
+        }
+    }
+}
+
+macro_rules! borrow {
+    ($($type:ty => $kind:ident with $value:ident: $number:expr, $bytes:expr;)*) => {$(
+        impl<'a> From<$type> for ValueRef<'a> {
+            fn from($value: $type) -> Self {
+                Self::of_parts(Kind::$kind, $number, $bytes)
+            }
+        }
+    )*};
+}
+
+borrow! {
+    &'a str => Text with text: 0, text.as_bytes();
+    &'a String => Text with text: 0, text.as_bytes();
+    i32 => Int32 with number: i64::from(number) as u64, &[];
+    i64 => Int64 with number: number as u64, &[];
+    u32 => Uint32 with number: number.into(), &[];
+    u64 => Uint64 with number: number, &[];
+    &'a [u8] => Raw with bytes: 0, bytes;
+    &'a Vec<u8> => Raw with bytes: 0, bytes;
+}
+
 /// Formats a string in quotes, a number, or bytes as hexadecimal digits.
 impl fmt::Display for Value {
     fn fmt(&self, f: &mut fmt::Formatter<'_>) -> fmt::Result {
@@ -170,6 +254,15 @@ mod tests {
         assert_eq!(Value::from(u64::MAX).as_u64(), Some(u64::MAX));
         assert_eq!(Value::from("5").as_i64(), None);
         assert_eq!(Value::from(-1_i32).number(), u64::MAX);
+    }
+
+    #[test]
+    fn a_borrowed_value_is_the_value() {
+        assert_eq!(ValueRef::from(-1_i32), ValueRef::from(&Value::from(-1_i32)));
+        assert_eq!(ValueRef::from(-1_i64).to_value(), Value::from(-1_i64));
+        assert_eq!(ValueRef::from(u64::MAX).to_value(), Value::from(u64::MAX));
+        assert_eq!(ValueRef::from("a"), ValueRef::from(&Value::from("a")));
+        assert_eq!(ValueRef::from(&vec![0, 255]), ValueRef::from(&[0, 255][..]));
     }
 
     #[test]

@@ -1,6 +1,7 @@
 //! Tests how long a file and its WAL get while entries are added, and that rewriting the state makes them short again.
 #![cfg(feature = "saved")]
 
+use bestore_types::listing::Writer;
 use bestore_types::saved::file::{File, Row};
 use bestore_types::Batch;
 use std::path::{Path, PathBuf};
@@ -12,7 +13,7 @@ const EXTRA: u64 = 1 << 20;
 /// How many entries are added in one commit.
 const AT_ONCE: u64 = 64;
 
-/// How many nodes each batch of the state creates.
+/// How many nodes each batch of the state has.
 const NODES: u64 = 16;
 
 /// How many times the state is rewritten.
@@ -44,14 +45,16 @@ fn lengths(path: &Path) -> (u64, u64) {
 }
 
 /// Returns a state of this many batches.
-fn state(batches: u64) -> impl Iterator<Item = bestore_types::Result<Batch>> {
+fn state(batches: u64) -> impl Iterator<Item = bestore_types::Result<Vec<u8>>> {
     (0..batches).map(|number| {
-        let mut batch = Batch::new();
+        let mut batch = Writer::new();
         for node in number * NODES + 1..=number * NODES + NODES {
-            batch.new_node().set(node, "name", format!("file {node}"));
-            batch.set(node, "text", "some words some words");
+            let name = format!("file {node}");
+            batch.node(node);
+            batch.attribute("name", name.as_str().into(), false)?;
+            batch.attribute("text", "some words some words".into(), false)?;
         }
-        Ok(batch)
+        Ok(batch.take())
     })
 }
 

@@ -196,11 +196,6 @@ impl<'a> Change<'a> {
         self.refused.is_none()
     }
 
-    /// Returns `true` if no operation has been collected, and none has an error with which the change fails.
-    pub(crate) fn is_unused(&self) -> bool {
-        self.batch.is_empty() && self.refused.is_none()
-    }
-
     /// Returns `true` if there is anything to write.
     ///
     /// # Errors

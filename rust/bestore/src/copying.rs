@@ -4,7 +4,7 @@
 //! over after a pause. In a store that is nearly full and constantly written to, this would never complete a copy. So the last attempt
 //! makes writes wait at the gate, where they need no pages.
 
-use crate::{Batch, Result, Snapshot, Store};
+use crate::{Result, Snapshot, Store};
 use std::thread;
 use std::time::Duration;
 
@@ -21,8 +21,8 @@ pub struct StateCopy {
     pub number: u64,
     /// The next node's number.
     pub next: u64,
-    /// The batches that rebuild the snapshot in an empty store, as returned by [`Snapshot::state`].
-    pub batches: Vec<Batch>,
+    /// The batches of the snapshot's [listing](crate::listing), as returned by [`Snapshot::listing`].
+    pub batches: Vec<Vec<u8>>,
 }
 
 /// A step of the copying.
@@ -68,7 +68,7 @@ fn try_to_copy(store: &Store, is_last: bool, take: &mut impl FnMut(Step)) -> Res
 /// Copies the snapshot. If `goes_on` returns `false`, stops and returns `None`, because the snapshot must be unpinned.
 fn read(snapshot: &Snapshot<'_>, mut goes_on: impl FnMut() -> bool) -> Result<Option<StateCopy>> {
     let mut batches = Vec::new();
-    for batch in snapshot.state() {
+    for batch in snapshot.listing() {
         batches.push(batch?);
         if !goes_on() {
             return Ok(None);
@@ -87,11 +87,11 @@ mod tests {
     use crate::{Error, Limits, Pass, Retry};
 
     /// The number of nodes in the store. Their state takes several batches, and leaves few pages free.
-    const NODES: u64 = 100;
+    const NODES: u64 = 800;
 
     fn nearly_full() -> Store {
         let limits = Limits {
-            pages: 96,
+            pages: 400,
             passes: 3,
             ..Limits::default()
         };
@@ -99,7 +99,7 @@ mod tests {
         let pass = store.pass().unwrap();
         for node in 1..=NODES {
             pass.new_node().unwrap();
-            pass.set(node, "text", "a".repeat(100)).unwrap();
+            pass.set(node, "text", "a".repeat(250)).unwrap();
         }
         store
     }

@@ -53,20 +53,18 @@
 //!
 //! In a forked child all of the parent's handles are dead: their calls return [`Error::Forked`], and dropping them does nothing.
 //!
-//! # More than one store
-//!
-//! A [`Shelf`] is a group of stores that a single query can search. See the module [`shelf`].
-//!
 //! # Features
 //!
 //! - `saved`: adds the module `saved`, for a store whose writes are kept in an SQLite file.
 #![warn(missing_docs, missing_debug_implementations, rust_2018_idioms)]
 #![deny(unsafe_code)]
 
+mod builder;
 mod change;
 mod copying;
 mod hints;
 mod journal;
+mod listings;
 mod page;
 mod pass;
 mod predicate;
@@ -75,28 +73,27 @@ mod raw;
 mod refused;
 #[cfg(feature = "saved")]
 pub mod saved;
-pub mod shelf;
 mod snapshot;
 mod store;
 mod succession;
 mod text;
 mod waits;
-mod writes;
 
 pub use bestore_types::{
-    caret, escape, Batch, Class, Cursor, CursorFault, Error, Hint, Kind, Limits, Node, Operation, Operations, Order,
-    Page, QueryError, QueryFault, Result, Value, Written, MOST_VOLUMES,
+    caret, escape, listing, Batch, Class, Cursor, CursorFault, Error, Hint, Kind, Limits, Operation, Operations, Order,
+    Page, QueryError, QueryFault, Result, Value, ValueRef, Written,
 };
+pub use builder::Builder;
 pub use change::Change;
 pub use copying::StateCopy;
 pub use hints::{compared, hints, Compared, Form};
 pub use journal::{Entries, Entry};
+pub use listings::Listing;
 pub use page::Ordered;
 pub use pass::{Keeper, MakeWrite, Oldest, Pass, Status, Witness};
 pub use predicate::{attribute, Attribute, Operand, Predicate};
 pub use prepared::{Live, Prepared, Updates};
-pub use shelf::{Shelf, ShelfChange, ShelfLive, ShelfNodes, ShelfPass, ShelfSnapshot, ShelfWritten};
-pub use snapshot::{Nodes, Snapshot, State};
+pub use snapshot::{Nodes, Snapshot};
 pub use store::Store;
 pub use text::any_case;
 pub use waits::Retry;

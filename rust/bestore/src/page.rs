@@ -2,7 +2,7 @@
 
 use crate::raw::{cursor_of, of_cursor, Refused};
 use crate::refused::no_order;
-use crate::{Cursor, CursorFault, Error, Order, Page, Prepared, Result, ShelfSnapshot, Snapshot};
+use crate::{Cursor, CursorFault, Error, Order, Page, Prepared, Result, Snapshot};
 use bestore_sys as sys;
 use bestore_types::Paging;
 
@@ -27,7 +27,12 @@ impl Snapshot<'_> {
     /// # Errors
     /// [`Error::Query`] if the text isn't a query, [`Error::OutOfMemory`]. The iterator itself returns the errors of [`page`](Self::page).
     pub fn ordered(&self, text: &str, order: Order) -> Result<Ordered<'_>> {
-        Ok(Ordered::new(Source::One(self), Prepared::new(text)?, order))
+        Ok(Ordered {
+            snapshot: self,
+            prepared: Prepared::new(text)?,
+            order,
+            paging: Paging::default(),
+        })
     }
 
     /// Returns a page: up to `most` of the nodes that the query finds, in the given order, starting after the cursor if one is given. Nodes
@@ -127,36 +132,17 @@ pub(crate) fn begin(order: &Order, check: u32, after: Option<&Cursor>, most: usi
     }
 }
 
-#[derive(Clone, Copy, Debug)]
-enum Source<'a> {
-    One(&'a Snapshot<'a>),
-    Shelf(&'a ShelfSnapshot<'a>),
-}
-
-/// An iterator over the nodes that a query finds, in order, returned by [`Snapshot::ordered`] or [`ShelfSnapshot::ordered`]. It reads
-/// pages, each twice as long as the last one. An error ends the iteration.
+/// An iterator over the nodes that a query finds, in order, returned by [`Snapshot::ordered`]. It reads pages, each twice as long as the
+/// last one. An error ends the iteration.
 #[derive(Debug)]
 pub struct Ordered<'a> {
-    source: Source<'a>,
+    snapshot: &'a Snapshot<'a>,
     prepared: Prepared,
     order: Order,
     paging: Paging,
 }
 
-impl<'a> Ordered<'a> {
-    fn new(source: Source<'a>, prepared: Prepared, order: Order) -> Self {
-        Self {
-            source,
-            prepared,
-            order,
-            paging: Paging::default(),
-        }
-    }
-
-    pub(crate) fn of_shelf(shelf: &'a ShelfSnapshot<'a>, prepared: Prepared, order: Order) -> Self {
-        Self::new(Source::Shelf(shelf), prepared, order)
-    }
-
+impl Ordered<'_> {
     /// Continues after this cursor, which must be from a page of the same query and order.
     #[must_use]
     pub fn after(mut self, cursor: Cursor) -> Self {
@@ -170,16 +156,7 @@ impl<'a> Ordered<'a> {
     /// The same errors as [`Snapshot::page`].
     pub fn page(&self, most: usize) -> Result<Page> {
         let after = self.paging.position();
-        self.source.page(&self.prepared, &self.order, after, most)
-    }
-}
-
-impl Source<'_> {
-    fn page(self, prepared: &Prepared, order: &Order, after: Option<&Cursor>, most: usize) -> Result<Page> {
-        match self {
-            Source::One(snapshot) => snapshot.page(prepared, order, after, most),
-            Source::Shelf(snapshot) => snapshot.page(prepared, order, after, most),
-        }
+        self.snapshot.page(&self.prepared, &self.order, after, most)
     }
 }
 
@@ -188,12 +165,12 @@ impl Iterator for Ordered<'_> {
 
     fn next(&mut self) -> Option<Result<u64>> {
         let Self {
-            source,
+            snapshot,
             prepared,
             order,
             paging,
         } = self;
-        paging.next(|after, most| source.page(prepared, order, after, most))
+        paging.next(|after, most| snapshot.page(prepared, order, after, most))
     }
 }
 

@@ -5,7 +5,6 @@ use crate::refused::of_write;
 use crate::store::Shared;
 use crate::succession::{Place, Seat, Succession};
 use crate::waits::{Retry, Waits};
-use crate::writes::writes_of_one_operation;
 use crate::{Batch, Change, Entries, Error, Kind, Limits, Result, Snapshot, Value, Written};
 use bestore_sys as sys;
 use bestore_types::raw::OPERATIONS;
@@ -120,8 +119,14 @@ pub trait Keeper: Send + Sync + fmt::Debug {
 impl Pass {
     /// Opens a store and returns the store's own pass.
     pub(crate) fn open(limits: Limits) -> Result<Self> {
-        Ok(Self {
-            seat: Seat::open(limits)?,
+        let raw = RawPass::open(limits.pages, limits.passes + 1, limits.commits)?;
+        Ok(Self::of_store(raw, limits))
+    }
+
+    /// Returns the own pass of a store with these limits, whose first pass this is.
+    pub(crate) fn of_store(raw: RawPass, limits: Limits) -> Self {
+        Self {
+            seat: Seat::first(raw),
             ahead: RefCell::default(),
             succession: Succession::new(limits),
             store: None,
@@ -130,7 +135,7 @@ impl Pass {
             is_changing: Cell::new(false),
             keeper: None,
             _place: None,
-        })
+        }
     }
 
     /// Creates a pass of this store.
@@ -528,7 +533,29 @@ impl Pass {
         Ok(self.apply(Batch::new().new_node())?.nodes[0])
     }
 
-    writes_of_one_operation!();
+    /// Removes the node and all its attributes.
+    ///
+    /// # Errors
+    /// The same errors as [`apply`](Self::apply).
+    pub fn remove_node(&self, node: u64) -> Result<()> {
+        self.apply(Batch::new().remove_node(node)).map(drop)
+    }
+
+    /// Sets the attribute.
+    ///
+    /// # Errors
+    /// The same errors as [`apply`](Self::apply).
+    pub fn set(&self, node: u64, name: &str, value: impl Into<Value>) -> Result<()> {
+        self.apply(Batch::new().set(node, name, value)).map(drop)
+    }
+
+    /// Removes the attribute.
+    ///
+    /// # Errors
+    /// The same errors as [`apply`](Self::apply).
+    pub fn unset(&self, node: u64, name: &str) -> Result<()> {
+        self.apply(Batch::new().unset(node, name)).map(drop)
+    }
 
     /// Creates an index. It holds the attributes of this name and kind that are set from then on. Use [`reindex`](Self::reindex) to add
     /// earlier ones.
@@ -591,7 +618,7 @@ impl Pass {
     }
 
     /// Returns the journal as text, one line per entry. Other passes can't write while this call runs. After
-    /// [`Store::carry_on`](crate::Store::carry_on), the text begins with the state at that time.
+    /// [`Store::carry_on`](crate::Store::carry_on), the text has only the entries made since the snapshot that was carried on.
     ///
     /// # Errors
     /// [`Error::Busy`], [`Error::OutOfMemory`], [`Error::Forked`].

@@ -8,13 +8,17 @@
 #![allow(unsafe_code)]
 #![deny(unsafe_op_in_unsafe_fn)]
 
+mod building;
+mod cursors;
 mod handle;
 mod texts;
 
+pub(crate) use building::RawBuilder;
+pub(crate) use cursors::{cursor_of, of_cursor};
 pub(crate) use handle::Birthplace;
 pub(crate) use texts::{any_case, comparisons, Comparisons};
 
-use crate::{Cursor, Kind, Order};
+use crate::Order;
 use bestore_sys as sys;
 use bestore_types::raw::{List, OPERATIONS};
 use handle::Handle;
@@ -22,8 +26,7 @@ use std::cell::Cell;
 use std::ptr::NonNull;
 use std::sync::atomic::{AtomicU64, Ordering};
 use sys::{
-    bes_attribute, bes_counts, bes_cursor, bes_draft, bes_operation, bes_pass, bes_place, bes_prepared, bes_updates,
-    bes_witness,
+    bes_attribute, bes_counts, bes_cursor, bes_draft, bes_operation, bes_pass, bes_prepared, bes_updates, bes_witness,
 };
 
 /// The code that a call returns in a forked child. The library itself never returns it.
@@ -96,31 +99,41 @@ pub(crate) fn checked_name(name: &str) -> Answer<sys::bes_name> {
     check(code, 0).map(|()| checked)
 }
 
-/// Returns a list of operations from a function. If the list doesn't fit, calls the function again with larger buffers.
+/// Returns a list of operations from a function.
 fn listed(
     room: (usize, usize),
-    mut call: impl FnMut(&mut bes_counts, *mut bes_operation, usize, *mut u8, usize) -> Answer<()>,
+    call: impl FnMut(&mut bes_counts, *mut bes_operation, usize, *mut u8, usize) -> Answer<()>,
 ) -> Answer<List> {
-    let (mut operations_room, mut bytes_room) = room;
+    let mut list = List {
+        operations: with_room(room.0)?,
+        bytes: with_room(room.1)?,
+    };
+    list_into(&mut list, call).map(|()| list)
+}
+
+/// Replaces the list with the operations from a function. If they don't fit, calls the function again with larger buffers.
+fn list_into(
+    list: &mut List,
+    mut call: impl FnMut(&mut bes_counts, *mut bes_operation, usize, *mut u8, usize) -> Answer<()>,
+) -> Answer<()> {
+    let List { operations, bytes } = list;
+    operations.clear();
+    bytes.clear();
     loop {
-        let mut list = List {
-            operations: with_room(operations_room)?,
-            bytes: with_room(bytes_room)?,
-        };
+        let room = (operations.capacity(), bytes.capacity());
         let mut counts = bes_counts::default();
-        let operations = list.operations.as_mut_ptr();
-        let bytes = list.bytes.as_mut_ptr();
-        call(&mut counts, operations, operations_room, bytes, bytes_room)?;
-        let (operations, bytes) = (counts.operations as usize, counts.bytes as usize);
-        if operations <= operations_room && bytes <= bytes_room {
+        call(&mut counts, operations.as_mut_ptr(), room.0, bytes.as_mut_ptr(), room.1)?;
+        let count = (counts.operations as usize, counts.bytes as usize);
+        if count.0 <= room.0 && count.1 <= room.1 {
             // SAFETY: the library has written the numbers of operations and bytes that it counted.
             unsafe {
-                list.operations.set_len(operations);
-                list.bytes.set_len(bytes);
+                operations.set_len(count.0);
+                bytes.set_len(count.1);
             }
-            return Ok(list);
+            return Ok(());
         }
-        (operations_room, bytes_room) = (operations, bytes);
+        *operations = with_room(count.0)?;
+        *bytes = with_room(count.1)?;
     }
 }
 
@@ -219,8 +232,13 @@ impl RawPass {
         self.store
     }
 
+    /// Returns a closed handle for the first pass of another store.
+    fn of_new_store() -> Self {
+        Self::new(STORES.fetch_add(1, Ordering::Relaxed))
+    }
+
     pub(crate) fn open(pages: u64, passes: u64, commits: u64) -> Answer<Self> {
-        let pass = Self::new(STORES.fetch_add(1, Ordering::Relaxed));
+        let pass = Self::of_new_store();
         // SAFETY: see the top of this module.
         let code = unsafe { sys::bes_open(pages, passes, commits, pass.handle.get()?) };
         check(code, 0).map(|()| pass)
@@ -446,6 +464,14 @@ impl RawPass {
         })
     }
 
+    pub(crate) fn ways(&self, text: &str) -> Answer<Vec<u8>> {
+        let pass = self.handle.get()?;
+        whole(256, |bytes, room, count| {
+            // SAFETY: see the top of this module.
+            unsafe { sys::bes_ways(pass, text.as_ptr(), text.len(), bytes, room, count) }
+        })
+    }
+
     /// Returns up to `room` nodes, starting at a given number.
     pub(crate) fn nodes(&self, from: u64, room: usize) -> Answer<Vec<u64>> {
         let mut nodes = with_room(room)?;
@@ -495,12 +521,29 @@ impl RawPass {
     }
 
     pub(crate) fn attributes(&self, node: u64) -> Answer<List> {
+        let mut list = List {
+            operations: with_room(16)?,
+            bytes: with_room(1024)?,
+        };
+        self.attributes_into(node, &mut list).map(|()| list)
+    }
+
+    /// Replaces the list with the node's attributes.
+    pub(crate) fn attributes_into(&self, node: u64, list: &mut List) -> Answer<()> {
         let pass = self.handle.get()?;
-        listed((16, 1024), |counts, operations, room, bytes, bytes_room| {
+        list_into(list, |counts, operations, room, bytes, bytes_room| {
             // SAFETY: see the top of this module.
             let code = unsafe { sys::bes_attributes(pass, node, counts, operations, room, bytes, bytes_room) };
             check(code, 0)
         })
+    }
+
+    /// Returns whether the index of this name has the node's attribute.
+    pub(crate) fn is_held(&self, node: u64, name: &str) -> Answer<bool> {
+        let mut held = 0;
+        // SAFETY: see the top of this module; `held` outlives the call.
+        let code = unsafe { sys::bes_is_held(self.handle.get()?, node, name.as_ptr(), name.len(), &mut held) };
+        check(code, 0).map(|()| held != 0)
     }
 
     pub(crate) fn indices(&self) -> Answer<List> {
@@ -508,16 +551,6 @@ impl RawPass {
         listed((32, 32 * 63), |counts, operations, room, bytes, bytes_room| {
             // SAFETY: see the top of this module.
             let code = unsafe { sys::bes_indices(pass, counts, operations, room, bytes, bytes_room) };
-            check(code, 0)
-        })
-    }
-
-    /// Returns the next list of operations that rebuild the snapshot.
-    pub(crate) fn state(&self, place: &RawPlace) -> Answer<List> {
-        let (pass, place) = (self.handle.get()?, place.0.get()?);
-        listed((OPERATIONS, BYTES), |counts, operations, room, bytes, bytes_room| {
-            // SAFETY: see the top of this module.
-            let code = unsafe { sys::bes_state(pass, place, counts, operations, room, bytes, bytes_room) };
             check(code, 0)
         })
     }
@@ -676,35 +709,6 @@ pub(crate) struct RawWitness {
     store: u64,
 }
 
-/// A position in the list of operations that rebuild a snapshot.
-#[derive(Debug)]
-pub(crate) struct RawPlace(Handle<bes_place>);
-
-impl RawPlace {
-    pub(crate) fn new() -> Self {
-        Self(Handle::new())
-    }
-}
-
-/// Converts the cursor to the form that the library takes. The library refuses a cursor whose key is longer than any in an index.
-pub(crate) fn cursor_of(cursor: &Cursor) -> bes_cursor {
-    let mut raw = bes_cursor::BEGINNING;
-    if let Some((kind, key)) = cursor.key() {
-        raw.kind = kind.code();
-        raw.length = length_of(&key);
-        if let Some(room) = raw.key.get_mut(..key.len()) {
-            room.copy_from_slice(&key);
-        }
-    }
-    raw
-}
-
-/// Converts the cursor that the library has written.
-pub(crate) fn of_cursor(order: &Order, check: u32, raw: &bes_cursor) -> Cursor {
-    let key = raw.key.get(..raw.length as usize).unwrap_or_default();
-    Cursor::of_key(order.clone(), check, Kind::from_code(raw.kind), key)
-}
-
 /// Returns the version of the running library, in the form of `BES_VERSION_NUMBER` in its header.
 pub(crate) fn version() -> u32 {
     // SAFETY: the call takes no arguments.
@@ -760,16 +764,5 @@ mod tests {
             Ok(())
         });
         assert_eq!(listed.err().map(|refused| refused.code), Some(sys::BES_NO_MEMORY));
-    }
-
-    #[test]
-    fn a_cursor_goes_to_the_library_and_back() {
-        let order = Order::by("n").descending();
-        for value in [i64::MIN.into(), u32::MAX.into(), "größe".into(), crate::Value::from("")] {
-            let mut cursor = Cursor::beginning(order.clone(), 7);
-            assert_eq!(of_cursor(&order, 7, &cursor_of(&cursor)), cursor);
-            cursor.move_to(value, u64::MAX);
-            assert_eq!(of_cursor(&order, 7, &cursor_of(&cursor)), cursor);
-        }
     }
 }

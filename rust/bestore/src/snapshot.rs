@@ -1,8 +1,8 @@
 //! Snapshots: what a pass reads while it is pinned.
 
-use crate::raw::{checked_name, Answer, RawPlace, Refused};
+use crate::raw::{checked_name, Answer, Refused};
 use crate::refused::{of_query, with_missing};
-use crate::{attribute, hints, Batch, Error, Hint, Kind, Pass, Prepared, Result, Value};
+use crate::{attribute, hints, Error, Hint, Kind, Listing, Pass, Prepared, Result, Value};
 use bestore_sys as sys;
 use bestore_types::raw::{List, RawOperation};
 use std::collections::BTreeMap;
@@ -143,12 +143,28 @@ impl<'a> Snapshot<'a> {
         }
     }
 
-    /// Returns the indices chosen for the query, as comparisons joined by ` || `, and its cost, such as `"size"<"0" score 3`.
+    /// Returns comparisons whose indices cover the query, joined by ` || `, and a score that depends only on the operators, such as
+    /// `"size"<"0" score 3`. Running the query may read other indices instead: those whose ranges have the fewest keys, by an estimate.
     ///
     /// # Errors
     /// The same errors as [`query`](Self::query).
     pub fn explain(&self, text: &str) -> Result<String> {
         let answer = self.pass.raw().explain(text);
+        let bytes = answer.map_err(|refused| self.query_error(refused, || text.into()))?;
+        Ok(String::from_utf8_lossy(&bytes).into_owned())
+    }
+
+    /// Runs a query, and says why it takes as long as it does: returns a line for each range of index keys that the answer walked, such as
+    /// `"size"  500 .. <600  about 90 keys, 100 walked`. It has the name of the index, the lowest and the highest value of the range, about
+    /// how many keys the range was estimated to have, and how many it has. A value that the range excludes has `<` or `>` before it, an
+    /// open end is left out, and `"ann"*` stands for the last string that begins with `ann`.
+    ///
+    /// This takes the time of the query, and that of listing each range once more.
+    ///
+    /// # Errors
+    /// The same errors as [`query`](Self::query).
+    pub fn ways(&self, text: &str) -> Result<String> {
+        let answer = self.pass.raw().ways(text);
         let bytes = answer.map_err(|refused| self.query_error(refused, || text.into()))?;
         Ok(String::from_utf8_lossy(&bytes).into_owned())
     }
@@ -247,24 +263,36 @@ impl<'a> Snapshot<'a> {
         }))
     }
 
-    /// Returns the batches that rebuild the snapshot in an empty store: its next node number, its nodes with their attributes, and its
-    /// indices with their entries.
+    /// Returns `true` if the index of this name has the node's attribute. It doesn't have an attribute that was set before the index was
+    /// created, or that has another kind. This takes a search of the index.
+    ///
+    /// # Errors
+    /// [`Error::NameLength`], [`Error::HasNul`], [`Error::OutOfMemory`], [`Error::Forked`].
+    pub fn is_held(&self, node: u64, name: &str) -> Result<bool> {
+        Ok(self.pass.raw().is_held(node, name)?)
+    }
+
+    /// Returns the batches of the snapshot's [listing](crate::listing), from which a [`Builder`](crate::Builder) builds a store with the same
+    /// volume. The next node number isn't part of them. A batch has about 64 KiB. An empty volume has no batches.
+    ///
+    /// The cost is that of reading each node with its attributes, and of [`is_held`](Self::is_held) for each attribute whose name and kind
+    /// are those of an index.
     ///
     /// ```
-    /// # use bestore::{Limits, Store};
+    /// # use bestore::{Builder, Limits, Store};
     /// # let mut pass = Store::open(Limits::default())?.pass()?;
-    /// # let other = Store::open(Limits::default())?.pass()?;
-    /// for batch in pass.pin()?.state() {
-    ///     other.apply(&batch?)?;
+    /// # pass.new_node()?;
+    /// let snapshot = pass.pin()?;
+    /// let mut builder = Builder::new(Limits::default())?;
+    /// for batch in snapshot.listing() {
+    ///     builder.batch(&batch?)?;
     /// }
+    /// let other = builder.finish(snapshot.next_node()?)?;
+    /// # assert_eq!(other.pass()?.new_node()?, 2);
     /// # Ok::<(), bestore::Error>(())
     /// ```
-    pub fn state(&self) -> State<'_> {
-        State {
-            snapshot: self,
-            place: RawPlace::new(),
-            is_over: false,
-        }
+    pub fn listing(&self) -> Listing<'_> {
+        Listing::new(self)
     }
 }
 
@@ -349,39 +377,3 @@ impl Iterator for Nodes<'_> {
 }
 
 impl std::iter::FusedIterator for Nodes<'_> {}
-
-/// An iterator over the batches that rebuild a snapshot, returned by [`Snapshot::state`]. An error ends the iteration.
-#[derive(Debug)]
-pub struct State<'a> {
-    snapshot: &'a Snapshot<'a>,
-    place: RawPlace,
-    is_over: bool,
-}
-
-impl Iterator for State<'_> {
-    type Item = Result<Batch>;
-
-    fn next(&mut self) -> Option<Result<Batch>> {
-        if self.is_over {
-            return None;
-        }
-        match self.snapshot.pass.raw().state(&self.place) {
-            Ok(mut list) if !list.operations.is_empty() => {
-                // The list has capacity for the longest batch, and the caller may keep many lists.
-                list.operations.shrink_to_fit();
-                list.bytes.shrink_to_fit();
-                Some(Ok(list.into()))
-            }
-            Ok(_) => {
-                self.is_over = true;
-                None
-            }
-            Err(refused) => {
-                self.is_over = true;
-                Some(Err(refused.into()))
-            }
-        }
-    }
-}
-
-impl std::iter::FusedIterator for State<'_> {}

@@ -93,12 +93,16 @@ impl Store {
         if !(1..=MOST_PASSES).contains(&limits.passes) {
             return Err(Error::BadLimits);
         }
-        let own = Pass::open(limits)?;
-        Ok(Self(Arc::new(Shared {
+        Ok(Self::of_pass(Pass::open(limits)?))
+    }
+
+    /// Returns the store that this pass, its own one, belongs to.
+    pub(crate) fn of_pass(own: Pass) -> Self {
+        Self(Arc::new(Shared {
             succession: own.succession().clone(),
             own: Mutex::new(own),
             task: Mutex::default(),
-        })))
+        }))
     }
 
     /// Takes a pass. The pass goes back to the store when it is dropped.
@@ -124,7 +128,7 @@ impl Store {
 
     /// Closes the store, and returns the whole journal as text, one line per entry. This must be the last clone, and no pass may be open.
     /// For each pass, the journal has exactly the writes that calls on that pass have committed, at their commit numbers. After
-    /// [`carry_on`](Self::carry_on), the text begins with the state at that time.
+    /// [`carry_on`](Self::carry_on), the text has only the entries made since the snapshot that was carried on.
     ///
     /// # Errors
     /// [`Error::InUse`] if another clone or a pass is open; [`Error::OutOfMemory`]; [`Error::Forked`]. The unchanged store is returned
@@ -144,13 +148,14 @@ impl Store {
         }
     }
 
-    /// Frees the memory of the journal, which would otherwise grow forever. This copies the current snapshot into a new store of the
-    /// underlying library, adds the writes made in the meantime, and switches to the new store, for which writers wait briefly. Pinned
+    /// Frees the memory of the journal, which would otherwise grow forever. This builds a new store of the underlying library from the
+    /// current snapshot, adds the writes made in the meantime, and switches to the new store, for which writers wait briefly. Pinned
     /// snapshots don't change, commit numbers and node numbers continue, and [`Pass::journal_from`] still returns the entries made since
     /// that snapshot.
     ///
     /// While this opens a store, it needs memory for all pages, and then as much again as the pages in use. It takes as long as
-    /// [copying](Self::copy_state) and writing the state. The old memory is freed once every pass has called [`Pass::pin`] or [`Pass::follow`].
+    /// [copying](Self::copy_state) the state and building a store from it. The old memory is freed once every pass has called [`Pass::pin`] or
+    /// [`Pass::follow`].
     ///
     /// ```
     /// # use bestore::{Limits, Store};
@@ -191,6 +196,30 @@ impl Store {
     #[must_use]
     pub fn generation(&self) -> u64 {
         self.0.succession.generation()
+    }
+
+    /// Replaces the volume of an empty store with the one that these batches of a [listing](crate::listing) and this next node number give.
+    /// This takes one commit number, which is returned, but no entry: [`Pass::journal_from`] returns the entries after it.
+    ///
+    /// ```
+    /// # use bestore::{Limits, Store};
+    /// # let store = Store::open(Limits::default())?;
+    /// # let mut pass = store.pass()?;
+    /// # pass.new_node()?;
+    /// let other = Store::open(Limits::default())?;
+    /// let copy = store.copy_state()?;
+    /// assert_eq!(other.begin_with(&copy.batches, copy.next)?, 1);
+    /// # assert_eq!(other.copy_state()?.batches, copy.batches);
+    /// # Ok::<(), bestore::Error>(())
+    /// ```
+    ///
+    /// # Errors
+    /// After an error, the store is unchanged. [`Error::NotEmpty`] if the store has a node or an index, or has ever been written to.
+    /// [`Error::InUse`] if [`carry_on`](Self::carry_on) would return it. The errors of [`Builder`](crate::Builder)'s calls.
+    pub fn begin_with<B: AsRef<[u8]>>(&self, batches: impl IntoIterator<Item = B>, next: u64) -> Result<u64> {
+        self.check()?;
+        let build = || succession::build(self.0.succession.limits, batches, next);
+        succession::begin_with(self, build)
     }
 
     /// Copies the current snapshot for a slow reader, so that the reader doesn't keep pages from writers. If a write finds no free page

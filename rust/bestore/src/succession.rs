@@ -1,13 +1,13 @@
 //! Replaces a store of the library with a new one that has the same contents, which frees the memory of its journal.
 //!
-//! A store of the library keeps its whole journal. So a second one is built from a snapshot and the entries made since that snapshot, and
+//! A store of the library keeps its whole journal. So a second one is built that begins with a snapshot, gets the entries made since, and
 //! replaces the first. Each such store is a *generation*. A pass takes a seat in the new generation when it next writes or pins. A pass
 //! that is reading a snapshot keeps it, and the old generation's memory is freed when its last seat is dropped. Commit numbers continue:
 //! each generation has an offset that it adds to the numbers of its own store.
 
 use crate::raw::{Answer, Birthplace, RawPass, Refused};
 use crate::store::Store;
-use crate::{Batch, Error, Limits, Pass, Result, StateCopy};
+use crate::{Batch, Builder, Error, Limits, Pass, Result, StateCopy};
 use bestore_sys as sys;
 use std::sync::atomic::{AtomicU64, Ordering};
 use std::sync::{Arc, Mutex, MutexGuard, PoisonError, RwLock, RwLockReadGuard, RwLockWriteGuard, Weak};
@@ -28,9 +28,8 @@ const FEW: u64 = 256;
 #[derive(Debug)]
 pub(crate) struct Generation {
     number: u64,
-    /// The offset from the library's numbers to commit numbers, which may be negative.
-    shift: u64,
-    /// The commit number of the state with which the generation began. Its journal has the entries after that number.
+    /// The commit number of the state with which the generation began. Its journal has the entries after that number, so this is the offset
+    /// from the library's numbers to commit numbers.
     state: u64,
     /// The commit number at which this generation replaced the one before.
     begin: u64,
@@ -39,16 +38,13 @@ pub(crate) struct Generation {
 impl Generation {
     /// Returns the commit number for this number in the library's store.
     fn outside(&self, number: u64) -> u64 {
-        number.wrapping_add(self.shift)
+        number.wrapping_add(self.state)
     }
 
     /// Returns the number in the library's store for this commit number. If the library's store has never had such a number, the result is
     /// greater than any of its numbers.
     fn within(&self, commit: u64) -> u64 {
-        match commit >= self.state {
-            true => commit.wrapping_sub(self.shift),
-            false => u64::MAX,
-        }
+        commit.checked_sub(self.state).unwrap_or(u64::MAX)
     }
 }
 
@@ -60,18 +56,17 @@ pub(crate) struct Seat {
 }
 
 impl Seat {
-    /// Opens a store, and returns the library's pass that opened it.
-    pub(crate) fn open(limits: Limits) -> Result<Self> {
+    /// Returns the seat of a store's first pass.
+    pub(crate) fn first(raw: RawPass) -> Self {
         let generation = Generation {
             number: 0,
-            shift: 0,
             state: 0,
             begin: 0,
         };
-        Ok(Self {
-            raw: RawPass::open(limits.pages, limits.passes + 1, limits.commits)?,
+        Self {
+            raw,
             generation: Arc::new(generation),
-        })
+        }
     }
 
     pub(crate) fn another(&self) -> Answer<Self> {
@@ -271,28 +266,69 @@ impl Succession {
 
 /// Builds the store's next generation, and replaces the newest one with it.
 pub(crate) fn carry_on(store: &Store) -> Result<()> {
-    let succession = store.succession();
-    let mut before = lock(&succession.before);
-    if before.strong_count() > 0 {
-        return Err(Error::InUse);
-    }
-    let carried = Next::make(store).and_then(|next| {
-        let earlier = next.take_place(store)?;
-        *before = Arc::downgrade(&earlier.generation);
-        Ok(())
-    });
+    let carried = replace(store, || Next::make(store), Next::take_place);
     if carried.is_err() {
+        let succession = store.succession();
         succession.set_journal_bytes(succession.journal_bytes.load(Ordering::Relaxed));
     }
     carried
 }
 
+/// Replaces the generation of an empty store with one that begins with the store that `build` returns. Returns its commit number.
+pub(crate) fn begin_with(store: &Store, build: impl FnOnce() -> Result<Pass>) -> Result<u64> {
+    let make = || {
+        let mut spare = store.spare()?;
+        check_empty(&mut spare)?;
+        drop(spare);
+        // The first commit number stands for the volume. No entry has it.
+        Ok(Next {
+            pass: build()?,
+            state: 1,
+            commit: 1,
+        })
+    };
+    replace(store, make, Next::take_place_of_nothing)?;
+    Ok(1)
+}
+
+/// Replaces the newest generation with the one that `make` returns, by `take_place`. No other thread does so at the same time.
+fn replace(
+    store: &Store,
+    make: impl FnOnce() -> Result<Next>,
+    take_place: impl FnOnce(Next, &Store) -> Result<Seat>,
+) -> Result<()> {
+    let mut before = lock(&store.succession().before);
+    if before.strong_count() > 0 {
+        return Err(Error::InUse);
+    }
+    let earlier = take_place(make()?, store)?;
+    *before = Arc::downgrade(&earlier.generation);
+    Ok(())
+}
+
+/// Returns an error unless the store is as it was when it was opened, without nodes and indices.
+fn check_empty(pass: &mut Pass) -> Result<()> {
+    let snapshot = pass.pin()?;
+    match snapshot.number() == 0 && snapshot.next_node()? == 1 && snapshot.indices()?.is_empty() {
+        true => Ok(()),
+        false => Err(Error::NotEmpty),
+    }
+}
+
+/// Builds a store from the batches of a listing, and returns the store's own pass.
+pub(crate) fn build<B: AsRef<[u8]>>(limits: Limits, batches: impl IntoIterator<Item = B>, next: u64) -> Result<Pass> {
+    let mut builder = Builder::new(limits)?;
+    for batch in batches {
+        builder.batch(batch.as_ref())?;
+    }
+    builder.finish_pass(next)
+}
+
 /// A generation that is being built.
 struct Next {
     pass: Pass,
-    /// The commit number of the generation's initial state, and the number of batches that rebuilt that state.
+    /// The commit number of the generation's initial state.
     state: u64,
-    batches: u64,
     /// The commit number of its last entry.
     commit: u64,
 }
@@ -300,17 +336,12 @@ struct Next {
 impl Next {
     /// Builds a generation from the store's current state.
     fn make(store: &Store) -> Result<Self> {
-        let StateCopy { number, batches, .. } = store.copy_state()?;
-        let next = Self {
-            pass: Pass::open(store.succession().limits)?,
+        let StateCopy { number, next, batches } = store.copy_state()?;
+        Ok(Self {
+            pass: build(store.succession().limits, batches, next)?,
             state: number,
-            batches: batches.len() as u64,
             commit: number,
-        };
-        for batch in &batches {
-            next.pass.apply(batch)?;
-        }
-        Ok(next)
+        })
     }
 
     /// Replays the entries that the generation lacks, up to this many.
@@ -352,10 +383,23 @@ impl Next {
         let mut own = pass.into_own(store)?;
         let _closed = succession.close();
         self.repeat_entries(&own, u64::MAX)?;
+        Ok(self.replace_newest(succession, &mut own))
+    }
+
+    /// Replaces the newest generation if nothing has been written to it.
+    fn take_place_of_nothing(self, store: &Store) -> Result<Seat> {
+        let succession = store.succession();
+        let mut own = store.spare()?.into_own(store)?;
+        let _closed = succession.close();
+        check_empty(&mut own)?;
+        Ok(self.replace_newest(succession, &mut own))
+    }
+
+    /// Replaces the newest generation, in which the store's own pass has its seat, while no write may take place. Returns that seat.
+    fn replace_newest(self, succession: &Succession, own: &mut Pass) -> Seat {
         let number = succession.newest.load(Ordering::Relaxed) + 1;
         let generation = Generation {
             number,
-            shift: self.state.wrapping_sub(self.batches),
             state: self.state,
             begin: self.commit,
         };
@@ -367,7 +411,7 @@ impl Next {
         };
         let earlier = own.change_seat(seat);
         succession.newest.store(number, Ordering::Release);
-        Ok(earlier)
+        earlier
     }
 }
 

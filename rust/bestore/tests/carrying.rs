@@ -185,6 +185,30 @@ fn live_queries_and_witnesses_go_on() {
 }
 
 #[test]
+fn indices_have_what_they_had_and_the_journal_begins_empty() {
+    let store = store();
+    let mut pass = store.pass().unwrap();
+    let (early, late) = (of_size(&pass, 5), pass.new_node().unwrap());
+    pass.make_index("size", Kind::Int64).unwrap();
+    pass.set(late, "size", 6_i64).unwrap();
+    let before = pass.status().unwrap().entries;
+    let list = |pass: &mut Pass| -> Vec<u8> { pass.pin().unwrap().listing().flat_map(Result::unwrap).collect() };
+    let listed = list(&mut pass);
+    store.carry_on().unwrap();
+    assert_eq!(list(&mut pass), listed);
+    assert_eq!(pass.pin().unwrap().query("size>0").unwrap(), [late]);
+    assert!(!pass.pin().unwrap().is_held(early, "size").unwrap());
+    assert_eq!(
+        (pass.journal_begin().unwrap(), pass.status().unwrap().entries),
+        (before, before)
+    );
+    assert_eq!(pass.journal().unwrap(), "");
+    pass.set(early, "size", 7_i64).unwrap();
+    let numbers: Vec<u64> = pass.journal_from(0).map(|entry| entry.unwrap().number).collect();
+    assert_eq!(numbers, [before + 1]);
+}
+
+#[test]
 fn there_are_as_many_passes_as_before() {
     let store = shared(2);
     let mut passes = vec![store.pass().unwrap(), store.pass().unwrap()];
@@ -200,9 +224,9 @@ fn there_are_as_many_passes_as_before() {
     let last = store.pass().unwrap();
     assert_eq!(last.new_node().unwrap(), 4);
     drop((passes, last));
-    // The text begins with the state, which has three nodes.
+    // The text has only what was written after the state.
     let text = store.finish().unwrap();
-    assert_eq!(text.lines().count(), 2, "{text}");
+    assert_eq!(text.lines().count(), 1, "{text}");
 }
 
 /// Now and then the task has the only pass, and a caller that needs one waits for it.

@@ -5,6 +5,7 @@ mod common;
 
 use bestore::saved::{self, Error as SavedError, Options, Place, Saved};
 use bestore::{Kind, Limits};
+use common::earlier::convert_back;
 use common::Folder;
 use rusqlite::Connection;
 use std::collections::BTreeMap;
@@ -97,15 +98,13 @@ fn killed(name: &str, entries: u64) -> (Folder, Image) {
 fn shown(saved: &Saved) -> Vec<u8> {
     let mut pass = saved.pass().unwrap();
     let snapshot = pass.pin().unwrap();
-    let batches = snapshot.state().map(|batch| batch.unwrap().to_bytes().unwrap());
-    batches.flatten().collect()
+    snapshot.listing().flat_map(Result::unwrap).collect()
 }
 
 /// Reads a file that has no state up to an entry. Returns how many entries the store then has.
 fn read_until(folder: &Folder, entry: u64) -> saved::Result<u64> {
-    let shelf = options().until(0, entry).load(folder.file())?;
-    let pass = shelf.pass()?;
-    Ok(pass.volumes()[0].status()?.entries)
+    let store = options().until(entry).load(folder.file())?;
+    Ok(store.pass()?.status()?.entries)
 }
 
 fn next_random(state: &mut u64, below: u64) -> u64 {
@@ -274,14 +273,7 @@ fn only_entries_that_are_there_can_be_the_last_one() {
     drop(folder.open().unwrap());
     let said = "entry 8 can't be the last one: the file has the state after entry 9, so the lowest is 9";
     check_not_within(&folder, 8, (9, 9), said);
-    assert!(read_until(&folder, 9).is_ok());
-    let refused = options().until(0, 9).until(1, 9).load(folder.file()).unwrap_err();
-    assert!(
-        refused
-            .to_string()
-            .ends_with(": there is no volume 1; the only one is 0"),
-        "{refused}"
-    );
+    assert_eq!(read_until(&folder, 9).unwrap(), 0);
 }
 
 #[test]
@@ -320,18 +312,10 @@ fn another_file_in_the_place_of_one_that_was_killed_is_opened() {
     assert_eq!(saved.number_in_file(saved.pass().unwrap().status().unwrap().entries), 3);
 }
 
-/// Converts the file to the original format.
-fn remove_checksums(folder: &Folder) {
-    for table in ["about", "state", "entry", "token"] {
-        folder.sql(&format!("ALTER TABLE {table} DROP COLUMN checksum"));
-    }
-    folder.sql("DELETE FROM about WHERE what = 'file'; PRAGMA user_version = 1");
-}
-
 #[test]
 fn a_file_of_the_first_format_gets_checksums() {
     let (folder, _) = killed("first format", 9);
-    remove_checksums(&folder);
+    convert_back(&folder.file(), 1);
     assert_eq!(read_until(&folder, 7).unwrap(), 7);
     let saved = folder.open().unwrap();
     let whole = shown(&saved);
@@ -341,7 +325,7 @@ fn a_file_of_the_first_format_gets_checksums() {
         let file = Connection::open(folder.file()).unwrap();
         file.query_row(sql, [], |row| row.get(0)).unwrap()
     };
-    assert_eq!(number("PRAGMA user_version"), 2);
+    assert_eq!(number("PRAGMA user_version"), 3);
     for table in ["about", "state", "entry", "token"] {
         assert_eq!(
             number(&format!("SELECT count(*) FROM {table} WHERE checksum IS NULL")),

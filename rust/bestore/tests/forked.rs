@@ -2,7 +2,7 @@
 
 mod common;
 
-use bestore::{Error, Kind, Limits, Live, Prepared, Retry, Shelf, Store};
+use bestore::{Error, Limits, Live, Prepared, Store};
 use std::os::unix::process::CommandExt;
 use std::process::Command;
 use std::sync::atomic::{AtomicBool, Ordering};
@@ -60,15 +60,12 @@ fn kept_store() {
 
 /// A lock that another thread had when the process was forked stays locked in the child, where no call may wait for it.
 fn locks_of_other_threads() {
-    let (store, shelf) = (common::store(), Shelf::open(2, Limits::default()).unwrap());
+    let store = common::store();
     let pass = store.pass().unwrap();
     for _ in 0..200 {
         pass.new_node().unwrap();
     }
     drop(pass);
-    let (mut making, mut reading) = (shelf.pass().unwrap(), shelf.pass().unwrap());
-    making.set_retry(Retry::NEVER);
-    let snapshot = reading.pin().unwrap();
     let is_over = AtomicBool::new(false);
     thread::scope(|scope| {
         scope.spawn(|| {
@@ -76,19 +73,11 @@ fn locks_of_other_threads() {
                 store.carry_on().unwrap();
             }
         });
-        scope.spawn(|| {
-            while !is_over.load(Ordering::Relaxed) {
-                // The snapshot above keeps pages, so in the end these writes find none.
-                let _ = making.make_index("a", Kind::Text);
-                let _ = making.remove_index("a");
-            }
-        });
         let child = |_| {
             in_a_child(|| {
                 // SAFETY: the call takes a number. Its signal ends a child that waits.
                 unsafe { libc::alarm(120) };
-                let are_dead = !store.is_read_before() && is_dead(snapshot.remove_index("b"));
-                if are_dead && is_dead(store.carry_on()) {
+                if !store.is_read_before() && is_dead(store.carry_on()) {
                     // Ends without a report of leaks: the child has lost what the other threads of the parent had.
                     let _ = Command::new("true").exec();
                 }

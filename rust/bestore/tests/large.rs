@@ -1,6 +1,9 @@
 //! Tests that no answer of a large store is cut, and that its pages take no memory before they are used.
 
+mod common;
+
 use bestore::{Batch, Kind, Limits, Order, Pass, Prepared, Store};
+use common::resident;
 
 const NODES: u64 = 220_000;
 const LIMITS: Limits = Limits {
@@ -11,13 +14,6 @@ const LIMITS: Limits = Limits {
 
 /// How many bytes of memory a store may take that has just been opened.
 const OPENED: u64 = 30 << 20;
-
-/// Returns how many bytes of this process are in memory, assuming pages of 4 KiB or more.
-fn resident() -> u64 {
-    let read = std::fs::read_to_string("/proc/self/statm").unwrap();
-    let pages: u64 = read.split(' ').nth(1).unwrap().parse().unwrap();
-    pages * 4096
-}
 
 /// Creates the nodes, each with its number, negated, as the indexed `k`.
 fn fill(pass: &Pass) {

@@ -1,7 +1,7 @@
-//! Tests that pages in an index's order agree with the whole result, sorted and cut into pages, in one store and in a shelf.
+//! Tests that pages in an index's order agree with the whole result, sorted and cut into pages.
 
-use bestore::{attribute, Cursor, CursorFault, Error, Kind, Limits, Live, Order, Page, Prepared, Result, Shelf};
-use bestore::{ShelfLive, ShelfPass, ShelfSnapshot, Store, Value};
+use bestore::{attribute, Cursor, CursorFault, Error, Kind, Limits, Live, Order, Page, Pass, Prepared, Result};
+use bestore::{Snapshot, Store, Value};
 use std::sync::atomic::{AtomicBool, Ordering};
 use std::thread;
 
@@ -46,16 +46,15 @@ impl Chance {
     }
 }
 
-fn shelf(volumes: u32) -> ShelfPass {
-    let mut pass = Shelf::open(volumes, Limits::default()).unwrap().pass().unwrap();
-    for volume in 0..volumes {
-        // The attribute is set before the index is created, so the index doesn't hold it.
-        pass.change_in(volume, |change| {
-            let node = change.new_node()?;
-            change.set(node, "other", 1_i64).map(drop)
-        })
-        .unwrap();
-    }
+/// A pass of a store with an index of each kind.
+fn indexed() -> Pass {
+    let mut pass = Store::open(Limits::default()).unwrap().pass().unwrap();
+    // The attribute is set before the index is created, so the index doesn't hold it.
+    pass.change(|change| {
+        let node = change.new_node();
+        change.set(node, "other", 1_i64).map(drop)
+    })
+    .unwrap();
     for (name, kind) in KINDS {
         pass.make_index(name, kind).unwrap();
     }
@@ -64,15 +63,14 @@ fn shelf(volumes: u32) -> ShelfPass {
 }
 
 /// Performs random writes: creates and removes nodes, and changes values.
-fn write(pass: &mut ShelfPass, chance: &mut Chance, volumes: u64, count: usize) {
+fn write(pass: &mut Pass, chance: &mut Chance, count: usize) {
     for _ in 0..count {
-        let volume = chance.below(volumes) as u32;
-        let node = pass.change_in(volume, |change| {
-            let next = change.snapshot().volume(volume)?.next_node()?;
+        let node = pass.change(|change| {
+            let next = change.snapshot().next_node()?;
             let number = 1 + chance.below(next);
-            let node = match number == next || !change.snapshot().volume(volume)?.contains(number)? {
-                true => change.new_node()?,
-                false => bestore::Node { volume, number }.into(),
+            let node = match number == next || !change.snapshot().contains(number)? {
+                true => change.new_node(),
+                false => number,
             };
             for (name, kind) in KINDS {
                 if chance.below(3) > 0 {
@@ -103,7 +101,7 @@ fn rank(value: &Value) -> (i128, Vec<u8>) {
 }
 
 /// The whole result in this order, each node with its value.
-fn plain(snapshot: &ShelfSnapshot<'_>, query: &Prepared, order: &Order, kind: Kind) -> Vec<(Value, u64)> {
+fn plain(snapshot: &Snapshot<'_>, query: &Prepared, order: &Order, kind: Kind) -> Vec<(Value, u64)> {
     let pairs = attribute(order.name()).any(kind).prepare().unwrap();
     let indexed = snapshot.query_prepared(&pairs).unwrap();
     let found = snapshot.query_prepared(query).unwrap().into_iter();
@@ -133,7 +131,7 @@ fn cut(all: &[(Value, u64)], after: Option<&Cursor>, is_descending: bool, most: 
 }
 
 /// Reads page after page, writing in between. Compares each page with its snapshot's whole result.
-fn page_on(pass: &mut ShelfPass, chance: &mut Chance, volumes: u64, query: &str, order: &Order, kind: Kind) {
+fn page_on(pass: &mut Pass, chance: &mut Chance, query: &str, order: &Order, kind: Kind) {
     let prepared = Prepared::new(query).unwrap();
     let mut after: Option<Cursor> = None;
     for _ in 0..12 {
@@ -149,7 +147,7 @@ fn page_on(pass: &mut ShelfPass, chance: &mut Chance, volumes: u64, query: &str,
         );
         check_cursor(&page, after.as_ref(), &all);
         drop(snapshot);
-        write(pass, chance, volumes, 2);
+        write(pass, chance, 2);
         after = Some(page.cursor.to_string().parse().unwrap());
         if !page.more {
             break;
@@ -167,167 +165,122 @@ fn check_cursor(page: &Page, after: Option<&Cursor>, all: &[(Value, u64)]) {
     }
 }
 
-/// A shelf after this many writes, with the generator for more.
-fn written(volumes: u32, seed: u64, count: usize) -> (ShelfPass, Chance) {
-    let (mut pass, mut chance) = (shelf(volumes), Chance(seed));
-    write(&mut pass, &mut chance, volumes.into(), count);
+/// A store after this many writes, with the generator for more.
+fn written(seed: u64, count: usize) -> (Pass, Chance) {
+    let (mut pass, mut chance) = (indexed(), Chance(seed));
+    write(&mut pass, &mut chance, count);
     (pass, chance)
 }
 
-fn alike(volumes: u32, seed: u64) {
-    let (mut pass, mut chance) = written(volumes, seed, 150);
+#[test]
+fn pages_are_those_of_the_whole_answer() {
+    let (mut pass, mut chance) = written(0x5eed, 150);
     for query in QUERIES {
         for (name, kind) in KINDS {
             for order in [Order::by(name), Order::by(name).descending()] {
-                page_on(&mut pass, &mut chance, volumes.into(), query, &order, kind);
+                page_on(&mut pass, &mut chance, query, &order, kind);
             }
         }
     }
 }
 
 #[test]
-fn pages_of_a_store_are_those_of_the_whole_answer() {
-    alike(1, 0x5eed);
-}
-
-#[test]
-fn pages_of_a_shelf_are_those_of_the_whole_answer() {
-    alike(3, 0x5eed_5eed);
-}
-
-#[test]
 fn an_iterator_has_the_whole_answer_in_order() {
-    for volumes in [1, 4] {
-        let (mut pass, _) = written(volumes, 0xc0de, 600);
-        let snapshot = pass.pin().unwrap();
-        let (query, order) = ("u64>=0", Order::by("text").descending());
-        let all = plain(&snapshot, &Prepared::new(query).unwrap(), &order, Kind::Text);
-        assert!(all.len() > 64);
-        let found = snapshot.ordered(query, order.clone()).unwrap();
-        let found: Vec<u64> = found.collect::<Result<_>>().unwrap();
-        assert!(found.iter().eq(all.iter().map(|(_, node)| node)));
-        let page = snapshot.ordered(query, order.clone()).unwrap().page(10).unwrap();
-        let rest = snapshot.ordered(query, order).unwrap().after(page.cursor);
-        assert!(rest.map(Result::unwrap).eq(found[10..].iter().copied()));
-    }
+    let (mut pass, _) = written(0xc0de, 600);
+    let snapshot = pass.pin().unwrap();
+    let (query, order) = ("u64>=0", Order::by("text").descending());
+    let all = plain(&snapshot, &Prepared::new(query).unwrap(), &order, Kind::Text);
+    assert!(all.len() > 64);
+    let found = snapshot.ordered(query, order.clone()).unwrap();
+    let found: Vec<u64> = found.collect::<Result<_>>().unwrap();
+    assert!(found.iter().eq(all.iter().map(|(_, node)| node)));
+    let page = snapshot.ordered(query, order.clone()).unwrap().page(10).unwrap();
+    let rest = snapshot.ordered(query, order).unwrap().after(page.cursor);
+    assert!(rest.map(Result::unwrap).eq(found[10..].iter().copied()));
 }
 
 #[test]
 fn the_first_and_any_are_some_of_the_answer() {
-    for volumes in [1, 3] {
-        let (mut pass, mut chance) = written(volumes, 0xbed, 200);
-        let snapshot = pass.pin().unwrap();
-        for query in QUERIES {
-            let (all, prepared) = (snapshot.query(query).unwrap(), Prepared::new(query).unwrap());
-            for most in [1, 3, all.len().max(1), 5000] {
-                let place = chance.below(all.len() as u64 + 1) as usize;
-                let from = all.get(place).map_or(u64::MAX, |node| node - chance.below(2));
-                let rest: Vec<u64> = all.iter().copied().filter(|node| *node >= from).take(most).collect();
-                assert_eq!(snapshot.first(query, from, most).unwrap(), rest);
-                assert_eq!(snapshot.first_prepared(&prepared, from, most).unwrap(), rest);
-                let mut any = snapshot.any(query, most).unwrap();
-                any.sort_unstable();
-                any.dedup();
-                assert_eq!(any.len(), most.min(all.len()));
-                assert!(any.iter().all(|node| all.contains(node)));
-                assert_eq!(snapshot.any_prepared(&prepared, most).unwrap().len(), any.len());
-            }
+    let (mut pass, mut chance) = written(0xbed, 200);
+    let snapshot = pass.pin().unwrap();
+    for query in QUERIES {
+        let (all, prepared) = (snapshot.query(query).unwrap(), Prepared::new(query).unwrap());
+        for most in [1, 3, all.len().max(1), 5000] {
+            let place = chance.below(all.len() as u64 + 1) as usize;
+            let from = all.get(place).map_or(u64::MAX, |node| node - chance.below(2));
+            let rest: Vec<u64> = all.iter().copied().filter(|node| *node >= from).take(most).collect();
+            assert_eq!(snapshot.first(query, from, most).unwrap(), rest);
+            assert_eq!(snapshot.first_prepared(&prepared, from, most).unwrap(), rest);
+            let mut any = snapshot.any(query, most).unwrap();
+            any.sort_unstable();
+            any.dedup();
+            assert_eq!(any.len(), most.min(all.len()));
+            assert!(any.iter().all(|node| all.contains(node)));
+            assert_eq!(snapshot.any_prepared(&prepared, most).unwrap().len(), any.len());
         }
     }
 }
 
 #[test]
 fn what_has_no_page_is_refused() {
-    for volumes in [1, 2] {
-        let (mut pass, _) = written(volumes, 0xbad, 30);
-        let snapshot = pass.pin().unwrap();
-        let query = Prepared::new("i64>=0 || i64<0").unwrap();
-        let (order, other) = (Order::by("i64"), Order::by("text"));
-        let cursor = snapshot.page(&query, &order, None, 1).unwrap().cursor;
-        let said = |page: Result<Page>| page.unwrap_err().without_volume().to_string();
-        assert_eq!(
-            said(snapshot.page(&query, &Order::by("none"), None, 1)),
-            "there is no index \"none\"; indices: \"i32\", \"i64\", \"other\", \"text\", \"u32\", \"u64\""
-        );
-        assert_eq!(
-            said(snapshot.page(&query, &other, Some(&cursor), 1)),
-            "the cursor belongs to the order by \"i64\" ascending, but this page is in the order by \"text\" ascending: \
-             keep the order, or begin without a cursor"
-        );
-        let reverse = snapshot.page(&query, &order.clone().descending(), Some(&cursor), 1);
-        assert!(said(reverse).contains("in the order by \"i64\" descending"));
-        let query_of = |text| snapshot.page(&Prepared::new(text).unwrap(), &order, Some(&cursor), 1);
-        assert!(matches!(
-            query_of("i64>0"),
-            Err(Error::BadCursor(CursorFault::OtherQuery))
-        ));
-        assert!(query_of("(i64 >= 0) || \"i64\" < \"0\"").is_ok());
-        assert!(matches!(snapshot.page(&query, &order, None, 0), Err(Error::NoRoom)));
-        assert!(matches!(snapshot.first("i64>0", 0, 0), Err(Error::NoRoom)));
-        assert!(matches!(snapshot.any("i64>0", 0), Err(Error::NoRoom)));
-        assert!(matches!(snapshot.ordered("i64>", order.clone()), Err(Error::Query(_))));
-        assert!(said(snapshot.page(&Prepared::new("none==1").unwrap(), &order, None, 1)).contains("\"none\" has none"));
-        let long = snapshot.page(&query, &Order::by(&"n".repeat(64)), None, 1);
-        assert!(long.is_err());
-        // A program can move a cursor to a value that no attribute has.
-        let mut moved = snapshot.page(&query, &other, None, 1).unwrap().cursor;
-        for value in ["x".repeat(256).into(), "x".repeat(5000).into(), vec![7; 300].into()] {
-            moved.move_to(value, 1);
-            let refused = snapshot.page(&query, &other, Some(&moved), 1).unwrap_err();
-            assert!(matches!(refused.without_volume(), Error::BadCursor(_)));
-        }
-        moved.move_to("x".repeat(255).into(), 1);
-        assert!(snapshot.page(&query, &other, Some(&moved), 1).is_ok());
+    let (mut pass, _) = written(0xbad, 30);
+    let snapshot = pass.pin().unwrap();
+    let query = Prepared::new("i64>=0 || i64<0").unwrap();
+    let (order, other) = (Order::by("i64"), Order::by("text"));
+    let cursor = snapshot.page(&query, &order, None, 1).unwrap().cursor;
+    let said = |page: Result<Page>| page.unwrap_err().to_string();
+    assert_eq!(
+        said(snapshot.page(&query, &Order::by("none"), None, 1)),
+        "there is no index \"none\"; indices: \"i32\", \"i64\", \"other\", \"text\", \"u32\", \"u64\""
+    );
+    assert_eq!(
+        said(snapshot.page(&query, &other, Some(&cursor), 1)),
+        "the cursor belongs to the order by \"i64\" ascending, but this page is in the order by \"text\" ascending: \
+         keep the order, or begin without a cursor"
+    );
+    let reverse = snapshot.page(&query, &order.clone().descending(), Some(&cursor), 1);
+    assert!(said(reverse).contains("in the order by \"i64\" descending"));
+    let query_of = |text| snapshot.page(&Prepared::new(text).unwrap(), &order, Some(&cursor), 1);
+    assert!(matches!(
+        query_of("i64>0"),
+        Err(Error::BadCursor(CursorFault::OtherQuery))
+    ));
+    assert!(query_of("(i64 >= 0) || \"i64\" < \"0\"").is_ok());
+    assert!(matches!(snapshot.page(&query, &order, None, 0), Err(Error::NoRoom)));
+    assert!(matches!(snapshot.first("i64>0", 0, 0), Err(Error::NoRoom)));
+    assert!(matches!(snapshot.any("i64>0", 0), Err(Error::NoRoom)));
+    assert!(matches!(snapshot.ordered("i64>", order.clone()), Err(Error::Query(_))));
+    assert!(said(snapshot.page(&Prepared::new("none==1").unwrap(), &order, None, 1)).contains("\"none\" has none"));
+    let long = snapshot.page(&query, &Order::by(&"n".repeat(64)), None, 1);
+    assert!(long.is_err());
+    // A program can move a cursor to a value that no attribute has.
+    let mut moved = snapshot.page(&query, &other, None, 1).unwrap().cursor;
+    for value in ["x".repeat(256).into(), "x".repeat(5000).into(), vec![7; 300].into()] {
+        moved.move_to(value, 1);
+        let refused = snapshot.page(&query, &other, Some(&moved), 1).unwrap_err();
+        assert!(matches!(refused, Error::BadCursor(_)));
     }
+    moved.move_to("x".repeat(255).into(), 1);
+    assert!(snapshot.page(&query, &other, Some(&moved), 1).is_ok());
 }
 
 #[test]
 fn a_cursor_of_another_kind_is_refused() {
-    for volumes in [1, 2] {
-        let (mut pass, _) = written(volumes, 0x1d, 60);
-        let (query, order) = (Prepared::new("i64>=0 || i64<0").unwrap(), Order::by("u32"));
-        let cursor = pass.pin().unwrap().page(&query, &order, None, 1).unwrap().cursor;
-        pass.remove_index("u32").unwrap();
-        pass.make_index("u32", Kind::Uint64).unwrap();
-        let refused = pass.pin().unwrap().page(&query, &order, Some(&cursor), 1).unwrap_err();
-        let said = "the index \"u32\" has the kind u64, and had u32 when the cursor was made: begin without a cursor";
-        assert_eq!(refused.to_string(), said);
-        assert!(pass
-            .pin()
-            .unwrap()
-            .page(&query, &order, None, 1)
-            .unwrap()
-            .nodes
-            .is_empty());
-    }
-}
-
-#[test]
-fn an_index_that_a_volume_lacks_orders_nothing() {
-    let shelf = Shelf::open(2, Limits::default()).unwrap();
-    let mut pass = shelf.pass().unwrap();
-    pass.make_index("size", Kind::Int64).unwrap();
-    shelf.volumes()[0]
-        .pass()
+    let (mut pass, _) = written(0x1d, 60);
+    let (query, order) = (Prepared::new("i64>=0 || i64<0").unwrap(), Order::by("u32"));
+    let cursor = pass.pin().unwrap().page(&query, &order, None, 1).unwrap().cursor;
+    pass.remove_index("u32").unwrap();
+    pass.make_index("u32", Kind::Uint64).unwrap();
+    let refused = pass.pin().unwrap().page(&query, &order, Some(&cursor), 1).unwrap_err();
+    let said = "the index \"u32\" has the kind u64, and had u32 when the cursor was made: begin without a cursor";
+    assert_eq!(refused.to_string(), said);
+    assert!(pass
+        .pin()
         .unwrap()
-        .make_index("when", Kind::Int64)
-        .unwrap();
-    let query = Prepared::new("size>0").unwrap();
-    let mut refused = |order: &Order| {
-        pass.pin()
-            .unwrap()
-            .page(&query, order, None, 1)
-            .unwrap_err()
-            .to_string()
-    };
-    let said = "volume 1: there is no index \"when\"; indices: \"size\"";
-    assert_eq!(refused(&Order::by("when")), said);
-    shelf.volumes()[1]
-        .pass()
+        .page(&query, &order, None, 1)
         .unwrap()
-        .make_index("when", Kind::Text)
-        .unwrap();
-    assert_eq!(refused(&Order::by("when")), said);
+        .nodes
+        .is_empty());
 }
 
 #[test]
@@ -389,18 +342,4 @@ fn a_refresh_by_what_changed_returns_the_same_while_another_thread_writes() {
         }
         is_over.store(true, Ordering::Relaxed);
     });
-}
-
-#[test]
-fn a_refresh_of_a_shelf_by_what_changed_returns_the_same() {
-    let (mut pass, mut chance) = written(3, 0x11fe, 400);
-    let (mut live, mut changed) = (ShelfLive::new("u64>=1").unwrap(), ShelfLive::new("u64>=1").unwrap());
-    for _ in 0..20 {
-        write(&mut pass, &mut chance, 3, 3);
-        let snapshot = pass.pin().unwrap();
-        assert_eq!(
-            live.refresh(&snapshot).unwrap(),
-            changed.refresh_changed(&snapshot).unwrap()
-        );
-    }
 }

@@ -208,6 +208,18 @@ fn a_query_is_explained() {
 }
 
 #[test]
+fn a_query_shows_its_ways() {
+    let mut pass = ten();
+    let snapshot = pass.pin().unwrap();
+    let found = snapshot.query("size<0").unwrap().len();
+    let said = format!("\"size\"  .. <0  about {found} keys, {found} walked\n");
+    assert_eq!(snapshot.ways("size<0").unwrap(), said);
+    assert_eq!(snapshot.ways("size<0 || size>0").unwrap().lines().count(), 2);
+    assert!(matches!(snapshot.ways("size<"), Err(Error::Query(_))));
+    assert!(matches!(snapshot.ways("größe==1"), Err(Error::Query(_))));
+}
+
+#[test]
 fn a_live_query_returns_what_changed() {
     let mut pass = ten();
     let mut live = Live::new("size>=9").unwrap();
@@ -250,26 +262,6 @@ fn escaped_texts_are_found_and_match_nothing_else() {
     assert_eq!(any, "[gG][rR][öÖ][sSſ][sSſ][eE]\\ \\[[dD][rR][aA][fF][tT]]");
     let found = snapshot.query(&format!("name==\"{}\"", any_case("GRÖßE"))).unwrap();
     assert_eq!(found, [6]);
-}
-
-#[test]
-fn a_state_makes_the_snapshot_again() {
-    let mut pass = ten();
-    pass.remove_node(10).unwrap();
-    let other = store();
-    let mut next = other.pass().unwrap();
-    let snapshot = pass.pin().unwrap();
-    for batch in snapshot.state() {
-        next.apply(&batch.unwrap()).unwrap();
-    }
-    let made = next.pin().unwrap();
-    assert_eq!(made.next_node().unwrap(), snapshot.next_node().unwrap());
-    assert_eq!(made.indices().unwrap(), snapshot.indices().unwrap());
-    assert_eq!(made.query("size>=1").unwrap(), snapshot.query("size>=1").unwrap());
-    for node in snapshot.nodes() {
-        let node = node.unwrap();
-        assert_eq!(made.attributes(node).unwrap(), snapshot.attributes(node).unwrap());
-    }
 }
 
 #[test]

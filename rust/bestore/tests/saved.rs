@@ -6,6 +6,7 @@ mod common;
 use bestore::saved::{self, Error as SavedError, Options, Place, Saved};
 use bestore::{Batch, Error, Kind, Limits, Live, Pass, Value};
 use bestore_types::saved::file::File;
+use common::earlier::convert_back;
 use common::Folder;
 use rusqlite::Connection;
 use std::collections::BTreeMap;
@@ -344,7 +345,7 @@ fn files_of_others_are_refused() {
             newer,
             SavedError::Newer {
                 version: 7,
-                known: 2,
+                known: 3,
                 ..
             }
         ),
@@ -419,17 +420,10 @@ fn a_file_is_opened_once() {
     saved::open(folder.file()).unwrap();
 }
 
-/// Converts the file to the original format, which has no checksums that would reveal changes.
-fn remove_checksums(path: &Path) {
-    let remove = |table: &str| sql(path, &format!("ALTER TABLE {table} DROP COLUMN checksum"));
-    ["about", "state", "entry", "token"].into_iter().for_each(remove);
-    sql(path, "PRAGMA user_version = 1");
-}
-
 /// Makes this change to a file in the original format, and returns the place named by the error.
 fn place_after(name: &str, change: &str) -> Place {
     let folder = of_three(name);
-    remove_checksums(&folder.file());
+    convert_back(&folder.file(), 1);
     sql(&folder.file(), change);
     match refusal(&folder.file()) {
         SavedError::Differs { place, .. } => place,
@@ -458,7 +452,7 @@ fn a_file_that_differs_is_refused_with_the_entry() {
 fn numbered(path: &Path, entries: i64) {
     three(path);
     saved::open(path).unwrap().close().unwrap();
-    remove_checksums(path);
+    convert_back(path, 1);
     sql(
         path,
         &format!("UPDATE about SET number = {entries} WHERE what = 'entries'"),
@@ -502,13 +496,14 @@ fn check_spent(refused: &SavedError, entry: u64) {
 }
 
 #[test]
-fn an_empty_file_with_no_number_left_is_refused() {
+fn an_empty_file_with_no_number_left_takes_no_writes() {
     let folder = Folder::new("no number");
     saved::open(folder.file()).unwrap().close().unwrap();
     let last = format!("UPDATE about SET number = {} WHERE what = 'entries'", i64::MAX);
-    remove_checksums(&folder.file());
+    convert_back(&folder.file(), 1);
     sql(&folder.file(), &last);
-    check_spent(&refusal(&folder.file()), i64::MAX as u64);
+    let saved = saved::open(folder.file()).unwrap();
+    assert!(matches!(saved.pass().unwrap().new_node(), Err(Error::CommitsSpent)));
 }
 
 #[test]

@@ -119,8 +119,8 @@ fn a_file_that_was_closed_lacks_nothing() {
         saved.close().unwrap();
     }
     let backup = folder.0.join("backup");
-    let made = Backup::create(&backup, 1).unwrap();
-    made.finish(&[About { entries: 0, next: 1 }]).unwrap();
+    let made = Backup::create(&backup).unwrap();
+    made.finish(About { entries: 0, next: 1 }).unwrap();
     assert!(!saved::open(&backup).unwrap().lacks_wal());
 }
 

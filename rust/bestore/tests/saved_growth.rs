@@ -3,10 +3,12 @@
 
 mod common;
 
-use bestore::saved::Saved;
-use bestore::{Batch, Pass};
+use bestore::listing::records;
+use bestore::saved::{About, Backup, Saved};
+use bestore::{Batch, Kind, Pass};
 use bestore_types::saved;
-use common::Folder;
+use common::{resident, Folder};
+use std::time::{Duration, Instant};
 
 /// The number of pages in a store.
 const PAGES: u64 = 8192;
@@ -18,11 +20,11 @@ const AT_ONCE: u64 = 16;
 const SAVED: u64 = 64;
 
 impl Folder {
-    /// How many operations are applied when the file is opened: those of the state, and those of the entries.
+    /// How many records of the state and how many operations of the entries are read when the file is opened.
     fn operations(&self) -> (usize, usize) {
         let contents = saved::read(self.file()).unwrap();
-        let count = |batches: &[Batch]| batches.iter().map(Batch::len).sum();
-        (count(&contents[0].state), count(&contents[0].entries))
+        let records = contents.state.iter().map(|batch| records(batch).unwrap().count());
+        (records.sum(), contents.entries.iter().map(Batch::len).sum())
     }
 }
 
@@ -73,6 +75,75 @@ fn operations_after(folder: &Folder, nodes: u64, times: u64) -> (usize, usize) {
     folder.operations()
 }
 
+/// How many bytes a file may have whose nodes are gone, and the time in which it opens.
+const MOST_BYTES: u64 = 100_000;
+const MOMENT: Duration = Duration::from_secs(5);
+
+/// How many bytes more of memory a process may use once it has made and removed all nodes.
+const MOST_MEMORY: u64 = 64 << 20;
+
+/// Makes this many nodes with an attribute, and removes each soon after. Compacts, and frees the journal's memory, when it is time to.
+fn make_and_remove(saved: &Saved, nodes: u64) {
+    let mut pass = saved.pass().unwrap();
+    for first in (1..=nodes + AT_ONCE).step_by(AT_ONCE as usize) {
+        let mut batch = Batch::new();
+        for node in first..first + AT_ONCE {
+            if node <= nodes {
+                batch.new_node().set(node, "size", node as i64);
+            }
+            if node > AT_ONCE {
+                batch.remove_node(node - AT_ONCE);
+            }
+        }
+        pass.apply(&batch).unwrap();
+        if saved.is_due() {
+            saved.compact().unwrap();
+        }
+        if saved.store().is_due() {
+            saved.store().carry_on().unwrap();
+            pass.follow().unwrap();
+        }
+    }
+    saved.compact().unwrap();
+}
+
+/// Returns the length of a backup of the store's newest snapshot.
+fn backup_bytes(folder: &Folder, saved: &Saved) -> u64 {
+    let mut pass = saved.pass().unwrap();
+    let snapshot = pass.pin().unwrap();
+    let path = folder.0.join("backup");
+    let mut backup = Backup::create(&path).unwrap();
+    for batch in snapshot.listing() {
+        backup.add(&batch.unwrap()).unwrap();
+    }
+    let entries = saved.number_in_file(snapshot.number());
+    let next = snapshot.next_node().unwrap();
+    backup.finish(About { entries, next }).unwrap();
+    path.metadata().unwrap().len()
+}
+
+/// `BESTORE_NODES` overrides how many nodes there were, a multiple of [`AT_ONCE`].
+#[test]
+fn a_file_does_not_grow_by_nodes_that_are_gone() {
+    let folder = Folder::in_memory("growth-gone");
+    let nodes = std::env::var("BESTORE_NODES").map_or(20_000, |number| number.parse().unwrap());
+    let saved = folder.open_lazily(64);
+    saved.pass().unwrap().make_index("size", Kind::Int64).unwrap();
+    let memory = resident();
+    make_and_remove(&saved, nodes);
+    let more = resident().saturating_sub(memory);
+    let (file, backup) = (folder.file().metadata().unwrap().len(), backup_bytes(&folder, &saved));
+    saved.close().unwrap();
+    let begin = Instant::now();
+    let saved = folder.open_lazily(64);
+    let time = begin.elapsed();
+    println!("{nodes} removed nodes: file {file} B, backup {backup} B, {more} B more memory, opened in {time:?}");
+    assert!(file < MOST_BYTES && backup < MOST_BYTES && more < MOST_MEMORY && time < MOMENT);
+    let mut pass = saved.pass().unwrap();
+    assert_eq!(pass.pin().unwrap().nodes().count(), 0);
+    assert_eq!(pass.new_node().unwrap(), nodes + 1);
+}
+
 #[test]
 fn opening_reads_as_much_after_many_writes_as_after_few() {
     for nodes in [AT_ONCE, 12_000] {
@@ -87,7 +158,6 @@ fn opening_reads_as_much_after_many_writes_as_after_few() {
             few.1.max(many.1) <= few.1.min(many.1) + SAVED as usize,
             "{few:?}, {many:?}"
         );
-        // The state's operations are written out again, so each takes longer than an entry's.
         assert!(many.1 < 12_000 || 10 * many.1 < 3 * all.0, "{all:?}, {many:?}");
     }
 }

@@ -3,7 +3,7 @@
 
 mod common;
 
-use bestore::saved::{self, Error as SavedError, Options, SavedShelf};
+use bestore::saved::{self, Error as SavedError, Options};
 use bestore::{Error, Pass};
 use common::Folder;
 use std::fs;
@@ -148,11 +148,11 @@ fn a_store_whose_wal_was_removed_stops_and_loses_nothing() {
     assert_eq!(count_in(&folder.file()), 2);
 }
 
-/// When a server ends, its clients' threads may still have the shelf and a pass.
+/// When a server ends, its clients' threads may still have the store and a pass.
 #[test]
-fn a_shared_shelf_whose_wal_was_removed_loses_nothing_when_it_ends() {
+fn a_shared_store_whose_wal_was_removed_loses_nothing_when_it_ends() {
     let folder = Folder::new("shared");
-    let saved = Arc::new(SavedShelf::of_volumes(vec![saved::open(folder.file()).unwrap()]).unwrap());
+    let saved = Arc::new(saved::open(folder.file()).unwrap());
     let (_shared, pass) = (saved.clone(), saved.pass().unwrap());
     pass.new_node().unwrap();
     remove_wal(&folder);

@@ -1,4 +1,4 @@
-//! Tests of files that need more pages than the store that wrote them had.
+//! Tests of files that are opened with fewer pages than their store had.
 #![cfg(feature = "saved")]
 
 mod common;
@@ -10,15 +10,21 @@ use common::Folder;
 /// The number of pages of the store that writes the file.
 const PAGES: u64 = 512;
 
-fn open(folder: &Folder, pages: u64) -> Result<Saved, SavedError> {
+fn options(pages: u64) -> Options {
     let limits = Limits {
         pages,
         ..Limits::default()
     };
-    Options::new().limits(limits).open(folder.file())
+    let mut options = Options::new();
+    options.limits(limits);
+    options
 }
 
-/// Fills a file's store until few pages are free. Reopened, it needs more of them.
+fn open(folder: &Folder, pages: u64) -> Result<Saved, SavedError> {
+    options(pages).open(folder.file())
+}
+
+/// Fills a file's store until few pages are free.
 fn fill(folder: &Folder) {
     let saved = folder.open_lazily(PAGES);
     let mut pass = saved.pass().unwrap();
@@ -42,7 +48,7 @@ fn fill(folder: &Folder) {
 fn a_file_that_needs_more_pages_says_how_many() {
     let folder = Folder::in_memory("room");
     fill(&folder);
-    let error = open(&folder, PAGES).map(drop).unwrap_err();
+    let error = open(&folder, PAGES / 2).map(drop).unwrap_err();
     let said = error.to_string();
     let pages = match error {
         SavedError::TooLarge {
@@ -52,25 +58,23 @@ fn a_file_that_needs_more_pages_says_how_many() {
         } => pages,
         error => panic!("{error}"),
     };
-    assert!(
-        said.ends_with(&format!(
-            "it can be opened with {pages} pages (--pages {pages}, or Limits::pages)"
-        )),
-        "{said}"
-    );
-    // The number is at most a quarter larger than necessary.
-    assert!(open(&folder, pages * 4 / 5).is_err());
-    let read = Options::new()
-        .limits(Limits {
-            pages: PAGES,
-            ..Limits::default()
-        })
-        .load(folder.file())
-        .map(drop);
+    let end = format!("it can be opened with {pages} pages (--pages {pages}, or Limits::pages)");
+    assert!(said.ends_with(&end), "{said}");
+    assert!(pages <= PAGES);
+    let read = options(PAGES / 2).load(folder.file()).map(drop);
     assert_eq!(read.unwrap_err().to_string(), said);
-    for _ in 0..3 {
+    // The number without what is added for the first writes is the lowest.
+    let used = (pages - 16) * 16 / 17;
+    assert!(open(&folder, used - 1).is_err());
+    for pages in [pages, used + 1, PAGES] {
         let saved = open(&folder, pages).unwrap();
-        saved.pass().unwrap().new_node().unwrap();
+        let pass = saved.pass().unwrap();
+        let status = pass.status().unwrap();
+        assert!(
+            (used..used + 2).contains(&(status.pages - status.free)),
+            "{status:?}, {used}"
+        );
+        drop(pass);
         saved.close().unwrap();
     }
 }

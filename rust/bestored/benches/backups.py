@@ -4,9 +4,9 @@ down?
 
 usage: backups.py FOLDER [BACKUPS]    the folder with bestored and be, such as rust/target/release; 50 backups by default
 
-The program creates a store of 60,000 nodes in five volumes, in a new folder. It measures how long writes take, first alone and
+The program creates a store of 60,000 nodes in a new folder. It measures how long writes take, first alone and
 then while it runs `be backup` again and again. Finally, it opens each backup. Every write increments one counter, so the counters
-in a volume must add up to the volume's commit number. No counter may be lower than the count acknowledged before the backup began.
+must add up to the commit number. No counter may be lower than the count acknowledged before the backup began.
 PYTHONPATH must name the folder that contains the bestore package. The program exits with 1 if a backup is wrong, or if the 99th
 percentile of the writes' times more than triples.
 """
@@ -14,7 +14,6 @@ from __future__ import annotations
 
 import json
 import multiprocessing
-import shutil
 import subprocess
 import sys
 import tempfile
@@ -25,19 +24,14 @@ from typing import Any, List, NamedTuple, cast
 
 import bestore
 from bestore import saved
-from filled import NODES, VOLUMES, fill, node
+from filled import NODES, fill
 
 WRITERS = 8
 BACKUPS = 50
 ALONE = 10.0
 """How many seconds to measure writes before the backups begin."""
 MOST_GROWTH = 3.0
-PAGES = 16_384
-
-
-def counted_by(writer: int) -> int:
-    """Returns the node that a writer counts in. Writers are numbered from 0 and spread over the volumes in turn."""
-    return node(writer)
+PAGES = 81_920
 
 
 def counter() -> Synchronized[int]:
@@ -55,13 +49,13 @@ class Shared(NamedTuple):
 
 def write(socket: str, shared: Shared, writer: int) -> None:
     """Increments the counter in the writer's node with each write, and reports how long each write took."""
-    answered, node = shared.answered[writer], counted_by(writer)
+    answered = shared.answered[writer]
     times: List[float] = []
     with bestore.connect(socket) as store:
         while not shared.is_over.value:
             count = answered.value + 1
             begin = time.perf_counter()
-            store.set(node, "count", count)
+            store.set(writer + 1, "count", count)
             times.append(time.perf_counter() - begin)
             answered.value = count
     shared.times.put(times)
@@ -94,17 +88,15 @@ class Writing:
             process.join(60)
 
 
-def check(path: Path, about: Any, begin: List[int], before: List[int]) -> None:
-    """Exits unless the backup holds each volume's state at its commit, with all writes acknowledged before the backup."""
-    with saved.open_shelf(path, pages=PAGES) as store, store.pin() as version:
-        found = version.column(map(counted_by, range(WRITERS)), "count")
+def check(path: Path, about: Any, begin: int, before: List[int]) -> None:
+    """Exits unless the backup holds the state at its commit, with all writes acknowledged before the backup."""
+    with saved.open(path, pages=PAGES) as store, store.pin() as version:
+        found = version.column(range(1, WRITERS + 1), "count")
         counts = [int(value) for value in found if isinstance(value, int)]
         if any(count < answered for count, answered in zip(counts, before)):
             raise SystemExit(f"{path}: {counts}, of {before} that were replied to")
-        for volume, commit in enumerate(about["commits"]):
-            made = sum(counts[volume::VOLUMES])
-            if made != commit - begin[volume]:
-                raise SystemExit(f"{path}: {made} writes to volume {volume}, and commit {commit} after {begin[volume]}")
+        if sum(counts) != about["commit"] - begin:
+            raise SystemExit(f"{path}: {sum(counts)} writes, and commit {about['commit']} after {begin}")
         nodes = sum(1 for _ in version)
         if nodes != NODES:
             raise SystemExit(f"{path}: it has {nodes} nodes")
@@ -136,7 +128,7 @@ def measure(programs: Path, folder: Path, socket: str, backups: int) -> float:
     print(f"{backups} backups of {NODES} nodes: {min(seconds):.2f} to {max(seconds):.2f} s each", flush=True)
     for path, about, before in made:
         check(path, about, begin, before)
-        shutil.rmtree(path)
+        path.unlink()
     return percentile(beside.times, 0.99) / percentile(alone.times, 0.99)
 
 
@@ -149,8 +141,7 @@ def main() -> None:
         folder = Path(name)
         socket = str(folder / "socket")
         server = subprocess.Popen(
-            [programs / "bestored", "--socket", socket, "--keep", folder / "kept", "--pages", str(PAGES), "--volumes",
-             str(VOLUMES)])
+            [programs / "bestored", "--socket", socket, "--keep", folder / "kept", "--pages", str(PAGES)])
         try:
             while not (folder / "socket").exists() and server.poll() is None:
                 time.sleep(0.05)

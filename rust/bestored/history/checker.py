@@ -8,8 +8,9 @@ snapshot that it was based on. The order respects real time: if one operation en
 from __future__ import annotations
 
 from dataclasses import replace
-from typing import Dict, Iterator, List, Tuple, Union
+from typing import Dict, Iterator, List, Optional, Tuple, Union
 
+from crowd import Crowd
 from record import NO_VALUES, History, Outcome, Read, Snapshot, Values, Write
 
 Event = Tuple[float, int, int]
@@ -17,13 +18,15 @@ BEGIN, END = 1, 0
 """If two events have the same time, an end is ordered before a beginning, since they may have happened in this order."""
 
 
-def violations(history: History) -> Iterator[str]:
-    """Yields a description of everything in the history that a correct store wouldn't do."""
+def violations(history: History, crowd: Optional[Crowd] = None) -> Iterator[str]:
+    """Yields a description of everything in the history that a correct store wouldn't do. `crowd` is what the store also had."""
     yield from _wrong_trail(history)
     yield from _wrong_outcomes(history)
     yield from _wrong_commits(history)
     yield from _wrong_states(history)
     yield from _wrong_times(history)
+    if crowd:
+        yield from _wrong_counts(history, crowd)
 
 
 def _wrong_trail(history: History) -> Iterator[str]:
@@ -95,6 +98,14 @@ def _wrong_states(history: History) -> Iterator[str]:
                 yield f"{who} saw {snapshot.values} after batch {number}, and {values} would be right"
     for number in waiting:
         yield f"a snapshot shows batch {number}, and there are {len(history.trail)} batches"
+
+
+def _wrong_counts(history: History, crowd: Crowd) -> Iterator[str]:
+    """Yields snapshots in which queries counted something else than what the snapshot's number says."""
+    for snapshot in [*(read.snapshot for read in history.reads), *(write.on for write in history.writes)]:
+        right = crowd.counts_after(snapshot.number)
+        if snapshot.counts != right:
+            yield f"queries counted {snapshot.counts} after batch {snapshot.number}, and {right} would be right"
 
 
 def _states(history: History, written: Dict[int, Write]) -> Iterator[Values]:

@@ -9,6 +9,7 @@ from dataclasses import dataclass, field
 from typing import Counter as Counts
 from typing import List, Optional, Sequence, Tuple
 
+from crowd import Crowd
 from lines import Connection, Gone, Late, Refused, Reply
 from record import REGISTERS, Outcome, Read, Snapshot, Write
 
@@ -32,22 +33,25 @@ NOT_WRITTEN_BEFORE = {"Conflict"}
 @dataclass
 class Setting:
     """The settings that a round's clients share. `base` is the last node before the trail's first one. With `is_latest`, each read
-    that `flush` confirms must show everything that was acknowledged before it."""
+    that `flush` confirms must show everything that was acknowledged before it. If there is a crowd, each snapshot is also queried."""
 
     places: Sequence[str]
     base: int
     seed: str
     is_latest: bool
     pause: float
+    crowd: Optional[Crowd] = None
     over: threading.Event = field(default_factory=threading.Event)
 
 
-def snapshot_of(connection: Connection) -> Snapshot:
-    """Pins a snapshot, reads the registers, and unpins it."""
+def snapshot_of(connection: Connection, crowd: Optional[Crowd]) -> Snapshot:
+    """Pins a snapshot, reads the registers, queries the crowd, and unpins it."""
     columns = {"nodes": list(range(1, REGISTERS + 1)), "names": ["value", "number"]}
-    pinned, read, _ = connection.ask_all([("pin", {}), ("columns", columns), ("unpin", {})])
+    questions = crowd.questions() if crowd else []
+    pinned, read, *counted, _ = connection.ask_all([("pin", {}), ("columns", columns), *questions, ("unpin", {})])
     values = tuple(int(row[0]) for row in read["rows"])
-    return Snapshot(connection.run, pinned["commit"], int(read["rows"][0][1]), values)
+    counts = tuple(int(answer["count"]) for answer in counted)
+    return Snapshot(connection.run, pinned["commit"], int(read["rows"][0][1]), values, counts)
 
 
 class Client(threading.Thread):
@@ -81,7 +85,7 @@ class Client(threading.Thread):
     def read(self, connection: Connection) -> Snapshot:
         """Reads a snapshot, and records it once the server has confirmed that all of it is kept."""
         begin = time.monotonic()
-        snapshot = snapshot_of(connection)
+        snapshot = snapshot_of(connection, self.setting.crowd)
         connection.ask("flush", {})
         self.reads.append(Read(snapshot, begin, time.monotonic(), self.setting.is_latest))
         return snapshot
@@ -127,7 +131,7 @@ class Writer(Client):
         if self.random.random() < PART_READS:
             self.read(connection)
             return
-        write = self._next(snapshot_of(connection))
+        write = self._next(snapshot_of(connection, self.setting.crowd))
         self.writes.append(write)
         self._send(connection, write, NOT_WRITTEN)
         until = time.monotonic() + REPEATING
@@ -148,6 +152,8 @@ class Writer(Client):
         on, node = write.on, self.setting.base + write.on.number + 1
         operations = [["new"], ["set", node, "value", write.value], ["set", 1, "number", on.number + 1]]
         operations += [["set", register, "value", write.value] for register in write.registers]
+        if self.setting.crowd:
+            operations += self.setting.crowd.moves(on.number + 1)
         batch = {"operations": operations, "expected": on.commit, "run": on.run}
         if self._repeats:
             batch["token"] = f"{self.setting.base} {write.value}"

@@ -24,6 +24,8 @@ class Snapshot:
     commit: int
     number: int
     values: Values
+    counts: Tuple[int, ...] = ()
+    """What queries of a large store counted."""
 
 
 @dataclass

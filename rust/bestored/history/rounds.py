@@ -10,6 +10,7 @@ from typing import Callable, Iterator, List, Optional, Tuple
 
 from checker import violations
 from clients import Client, Setting, Writer
+from crowd import Crowd
 from faults import Fault
 from lines import Connection, Reply
 from record import REGISTERS, History, Outcome
@@ -86,11 +87,11 @@ class Given(Plan):
         return made
 
 
-def run_round(servers: Servers, plan: Plan, seed: str, pause: float) -> Report:
+def run_round(servers: Servers, plan: Plan, seed: str, pause: float, crowd: Optional[Crowd] = None) -> Report:
     """Runs clients that rest up to `pause` seconds after each write while the plan causes its faults, and then checks what they
-    saw."""
+    saw. With a crowd, the store must be new."""
     is_shared = isinstance(servers, LogServers)
-    setting = Setting(servers.places, servers.ask_leader(_begin), seed, not is_shared, pause)
+    setting = Setting(servers.places, servers.ask_leader(lambda connection: _begin(connection, crowd)), seed, not is_shared, pause, crowd)
     writers = [Writer(setting, number + 1, _from(servers.places, number), PATIENCES[number % 2] if is_shared else PATIENT)
                for number in range(WRITERS)]
     readers = [Client(setting, WRITERS + 1 + number, [place], PATIENT) for number, place in enumerate(servers.places) if is_shared]
@@ -108,7 +109,7 @@ def run_round(servers: Servers, plan: Plan, seed: str, pause: float) -> Report:
         writer.take_all_late(LATE)
     history = History([it for writer in writers for it in writer.writes], [it for client in clients for it in client.reads])
     history.trail = servers.ask_leader(lambda connection: _trail(connection, setting.base))
-    found = list(violations(history)) + list(_other_trails(servers, setting.base, history.trail))
+    found = list(violations(history, crowd)) + list(_other_trails(servers, setting.base, history.trail))
     errors = sum((client.errors for client in clients), Counter[str]())
     return Report(history, found, [(fault, _wait_after(history, since)) for fault, since in made], errors)
 
@@ -119,12 +120,17 @@ def _from(places: List[str], number: int) -> List[str]:
     return places[first:] + places[:first]
 
 
-def _begin(connection: Connection) -> int:
-    """Creates the registers, or resets them and removes the previous round's trail. Returns the last node before the next trail."""
+def _begin(connection: Connection, crowd: Optional[Crowd]) -> int:
+    """Creates the registers and the crowd, or resets the registers and removes the previous round's trail. Returns the last node before
+    the next trail."""
     if connection.ask("next", {})["next"] == 1:
-        _apply(connection, [["new"]] * REGISTERS)
+        if crowd:
+            crowd.restore(connection)
+        else:
+            _apply(connection, [["new"]] * REGISTERS)
+    first = (crowd.last if crowd else REGISTERS) + 1
     while True:
-        nodes = connection.ask("nodes", {"from": REGISTERS + 1, "limit": OPERATIONS})["nodes"]
+        nodes = connection.ask("nodes", {"from": first, "limit": OPERATIONS})["nodes"]
         if not nodes:
             break
         _apply(connection, [["remove", node] for node in nodes])

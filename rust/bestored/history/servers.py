@@ -140,11 +140,11 @@ class Servers:
 class FileServers(Servers):
     """A single server with a file."""
 
-    def __init__(self, programs: Path, *options: str) -> None:
+    def __init__(self, programs: Path, *options: str, pages: int = PAGES) -> None:
         super().__init__(programs)
         place = self.folder / "socket"
-        command = [self.program, "--socket", str(place), "--pages", str(PAGES), "--journal", str(JOURNAL), "--keep", str(self.folder / "kept"),
-                   *options]
+        command = [self.program, "--socket", str(place), "--pages", str(pages), "--journal", str(JOURNAL),
+                   "--keep", str(self.folder / "kept"), *options]
         self.members.append(Server(command, place, 0.0))
 
     def leader(self) -> Optional[Server]:

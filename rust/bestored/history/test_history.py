@@ -1,5 +1,5 @@
 """Tests the checker with histories that each contain one fault, and runs short rounds with real servers. If BESTORED doesn't give
-the path of the program bestored, the rounds are skipped."""
+the path of the program bestored, the rounds are skipped. BESTORE_SEED changes the rounds' random choices."""
 from __future__ import annotations
 
 import os
@@ -7,10 +7,11 @@ import subprocess
 import unittest
 from dataclasses import replace
 from pathlib import Path
-from typing import List
+from typing import List, Optional
 from unittest import mock
 
 from checker import violations
+from crowd import Crowd
 from faults import KILL, KILL_LEADER, RESTART_DATABASE, Fault
 from postgres import Postgres, programs
 from record import NO_VALUES, History, Outcome, Read, Snapshot, Values, Write
@@ -22,6 +23,8 @@ FIRST_COMMIT = 7
 """The commit number before the first batch."""
 BATCHES = 50
 """How many batches are written before each of a round's faults."""
+CROWD = Crowd(300_000)
+CROWDED_PAGES = 131_072
 
 
 def snapshot(number: int, values: Values) -> Snapshot:
@@ -131,6 +134,17 @@ class Checker(unittest.TestCase):
         history.writes[3] = replace(history.writes[3], on=snapshot(3, NO_VALUES))
         self.check(history, "the batch of value 40 saw (0, 0, 0, 0, 0, 0) after batch 3")
 
+    def test_query_that_sees_two_states(self) -> None:
+        history, crowd = sound(), Crowd(100)
+        for place, read in enumerate(history.reads):
+            history.reads[place] = replace(read, snapshot=replace(read.snapshot, counts=crowd.counts_after(read.snapshot.number)))
+        for write in history.writes:
+            write.on = replace(write.on, counts=crowd.counts_after(write.on.number))
+        self.assertEqual(list(violations(history, crowd)), [])
+        wrong = replace(history.reads[2].snapshot, counts=(51, 6))
+        history.reads[2] = replace(history.reads[2], snapshot=wrong)
+        self.assertEqual(list(violations(history, crowd)), ["queries counted (51, 6) after batch 3, and (50, 6) would be right"])
+
     def test_commit_numbers(self) -> None:
         history = sound()
         history.writes[3] = replace(history.writes[3], commit=FIRST_COMMIT + 9)
@@ -145,10 +159,10 @@ class Rounds(unittest.TestCase):
 
     folder = Path(BESTORED or "").parent
 
-    def run_round(self, servers: Servers, faults: List[Fault]) -> Report:
+    def run_round(self, servers: Servers, faults: List[Fault], crowd: Optional[Crowd] = None) -> Report:
         """Runs a round in which batches are written before each fault."""
-        seed = self.id()
-        return run_round(servers, Given(seed, faults, BATCHES), seed, 0.01)
+        seed = self.id() + os.environ.get("BESTORE_SEED", "")
+        return run_round(servers, Given(seed, faults, BATCHES), seed, 0.01, crowd)
 
     def check(self, report: Report) -> None:
         """Checks that a round found no fault. On a busy machine, writes may take longer to continue."""
@@ -160,6 +174,14 @@ class Rounds(unittest.TestCase):
         with FileServers(self.folder) as servers:
             self.check(self.run_round(servers, [KILL] * 6))
             self.check(self.run_round(servers, [KILL]))
+
+    def test_server_with_many_nodes(self) -> None:
+        """Each snapshot counts half of 300,000 nodes while others exchange some of them."""
+        with FileServers(self.folder, pages=CROWDED_PAGES) as servers:
+            report = self.run_round(servers, [KILL], CROWD)
+            self.assertEqual(report.violations, [])
+            self.assertGreaterEqual(report.count(Outcome.ACKNOWLEDGED), BATCHES)
+            self.assertTrue(all(write.on.counts for write in report.history.writes))
 
     def test_servers_with_a_log(self) -> None:
         if programs() is None:

@@ -6,15 +6,14 @@ use crate::failure::Failure;
 use crate::info;
 use crate::memory;
 use crate::outbox::Outbox;
-use crate::page::{self, commits, rows_of, Reading, Room};
+use crate::page::{self, rows_of, Reading, Room};
 use crate::query::Queries;
 use crate::reach;
 use crate::server::Shared;
 use crate::text;
-use crate::volumes;
 use crate::watcher::{self, Watch, Watches};
 use crate::writes;
-use bestore::{Error, Pass, ShelfLive, ShelfPass, ShelfSnapshot, Snapshot, Status, Updates};
+use bestore::{Error, Live, Pass, Snapshot, Updates};
 use bestore_client::wire::{self, Command, ErrorName};
 use serde::Serialize;
 use std::io::{self, Write};
@@ -24,18 +23,6 @@ use std::time::{Duration, Instant};
 /// The maximum number of live queries per connection.
 pub const WATCHES: usize = 32;
 
-/// The features that the server adds to the first version of the protocol.
-const FEATURES: [&str; 8] = [
-    "token",
-    "run",
-    "collect",
-    "info",
-    "clients",
-    "kick",
-    "text",
-    "confirmed",
-];
-
 /// The maximum length of a reply to a write, in bytes, and of one that says that there is no memory.
 const SHORT: usize = 1 << 12;
 
@@ -44,22 +31,23 @@ const COLLECTED: usize = 1 << 16;
 
 /// The state that a connection's reads see.
 #[derive(Debug)]
+#[allow(clippy::large_enum_variant)] // a view is on the stack, for one request
 pub enum View<'v, 'p> {
     /// Each read uses the current snapshot.
-    Current(&'v mut ShelfPass),
+    Current(&'v mut Pass),
     /// All reads use one snapshot, which has been pinned since this time.
     Kept {
-        snapshot: &'v ShelfSnapshot<'p>,
+        snapshot: &'v Snapshot<'p>,
         since: Instant,
         /// How far the client has read the snapshot with `state`.
         state: Option<Reading<'v>>,
     },
     /// Reads fail, because the server has ended the snapshot.
-    Expired(&'v mut ShelfPass),
+    Expired(&'v mut Pass),
 }
 
 impl<'v, 'p> View<'v, 'p> {
-    pub fn kept(snapshot: &'v ShelfSnapshot<'p>) -> Self {
+    pub fn kept(snapshot: &'v Snapshot<'p>) -> Self {
         View::Kept {
             snapshot,
             since: Instant::now(),
@@ -75,51 +63,23 @@ impl<'v, 'p> View<'v, 'p> {
         }
     }
 
-    /// Releases the earlier memory of volumes that were carried on, unless a snapshot is pinned. Records the client's new passes. If
-    /// this fails, the next call tries again, and the next read returns the error.
+    /// Releases the earlier memory of a store that was carried on, unless a snapshot is pinned. Records the client's new pass. If this
+    /// fails, the next call tries again, and the next read returns the error.
     pub fn follow(&mut self, client: &Client) {
         let pass = match self {
             View::Current(pass) | View::Expired(pass) => pass,
             View::Kept { .. } => return,
         };
         if let Ok(true) = pass.follow() {
-            client.takes(pass.volumes().iter());
+            client.takes(pass);
         }
     }
 
-    /// Returns the number of volumes.
-    pub fn volumes(&self) -> usize {
+    /// Returns the connection's pass.
+    pub fn pass(&self) -> &Pass {
         match self {
-            View::Current(pass) => pass.volumes().len(),
-            View::Kept { snapshot, .. } => snapshot.volumes().len(),
-            View::Expired(pass) => pass.volumes().len(),
-        }
-    }
-
-    /// Returns the connection's pass in a volume.
-    pub fn pass(&self, volume: u32) -> Result<&Pass, Error> {
-        match self {
-            View::Current(pass) => pass.volume(volume),
-            View::Kept { snapshot, .. } => snapshot.volume(volume).map(Snapshot::pass),
-            View::Expired(pass) => pass.volume(volume),
-        }
-    }
-
-    /// Returns the volume with the most free pages.
-    pub fn roomiest(&self) -> Result<u32, Error> {
-        match self {
-            View::Current(pass) => pass.roomiest(),
-            View::Kept { snapshot, .. } => snapshot.roomiest(),
-            View::Expired(pass) => pass.roomiest(),
-        }
-    }
-
-    /// Returns how full each volume is.
-    pub fn status(&self) -> Result<Vec<Status>, Error> {
-        match self {
-            View::Current(pass) => pass.status(),
-            View::Kept { snapshot, .. } => snapshot.status(),
-            View::Expired(pass) => pass.status(),
+            View::Current(pass) | View::Expired(pass) => pass,
+            View::Kept { snapshot, .. } => snapshot.pass(),
         }
     }
 
@@ -133,21 +93,11 @@ impl<'v, 'p> View<'v, 'p> {
     }
 
     /// Reads the pinned snapshot, or the current one if none is pinned.
-    pub fn read<T>(&mut self, read: impl FnOnce(&ShelfSnapshot<'_>) -> Result<T, Failure>) -> Result<T, Failure> {
+    pub fn read<T>(&mut self, read: impl FnOnce(&Snapshot<'_>) -> Result<T, Failure>) -> Result<T, Failure> {
         match self {
+            View::Current(pass) => read(&pass.pin()?),
+            View::Kept { snapshot, .. } => read(snapshot),
             View::Expired(_) => Err(Failure::expired()),
-            _ => self.on_snapshot(read),
-        }
-    }
-
-    /// Calls the closure with the pinned snapshot or, if none is pinned or the server has ended it, with the current one.
-    pub fn on_snapshot<T>(
-        &mut self,
-        call: impl FnOnce(&ShelfSnapshot<'_>) -> Result<T, Failure>,
-    ) -> Result<T, Failure> {
-        match self {
-            View::Current(pass) | View::Expired(pass) => call(&pass.pin()?),
-            View::Kept { snapshot, .. } => call(snapshot),
         }
     }
 }
@@ -159,6 +109,8 @@ pub struct Desk<'a> {
     client: &'a Client,
     /// The copy that `state` reads when no snapshot is pinned.
     copy: Option<Copy<'a>>,
+    /// The batches of a state that the client is restoring.
+    restoring: Vec<Vec<u8>>,
     outbox: Arc<Outbox>,
     out: Vec<u8>,
     /// Whether the outbox still holds unsent replies.
@@ -184,6 +136,7 @@ impl<'a> Desk<'a> {
             shared,
             client,
             copy: None,
+            restoring: Vec::new(),
             outbox,
             out: Vec::new(),
             is_left: false,
@@ -286,7 +239,8 @@ impl<'a> Desk<'a> {
                 let page = page::journal(view, &journal);
                 page.and_then(|page| self.confirm().map(|()| self.reply(id, &page)))
             }
-            Command::State(from) => self.state(view, &from).map(|page| self.reply(id, &page)),
+            Command::State(from) => self.state(view, from.from).map(|page| self.reply(id, &page)),
+            Command::Restore(restore) => self.restore(id, restore),
             Command::Collect(_) => self.collect(view).map(|next| self.reply(id, &next)),
             Command::Reach(reach) => {
                 // Earlier replies must not wait for the commit.
@@ -323,9 +277,9 @@ impl<'a> Desk<'a> {
     }
 
     /// Answers a command that reads from a snapshot.
-    fn read(&mut self, id: u64, command: Command<'_>, snapshot: &ShelfSnapshot<'_>) -> Result<(), Failure> {
+    fn read(&mut self, id: u64, command: Command<'_>, snapshot: &Snapshot<'_>) -> Result<(), Failure> {
         self.confirm()?;
-        let (commit, commits) = (snapshot.number(), commits(snapshot));
+        let commit = snapshot.number();
         match command {
             Command::Query(query) => {
                 let answer = self.queries.answer(snapshot, &query)?;
@@ -333,28 +287,33 @@ impl<'a> Desk<'a> {
             }
             Command::Get(wire::Get { node, name }) => {
                 let value = snapshot.get(node, &name)?.map(wire::Json);
-                self.reply(id, &wire::Value { commit, commits, value })
+                self.reply(id, &wire::Value { commit, value })
             }
             Command::Columns(wire::ColumnsOf { nodes, names }) => {
                 let rows = rows_of(snapshot, &nodes, &names, &mut Room::new(None))?;
-                self.reply(id, &wire::Rows { commit, commits, rows })
+                self.reply(id, &wire::Rows { commit, rows })
             }
             Command::Attributes(wire::Node { node }) => {
                 let attributes = snapshot.attributes(node)?.into_iter();
                 let attributes = attributes.map(|(name, value)| (name, wire::Json(value))).collect();
-                let reply = wire::Attributes {
-                    commit,
-                    commits,
-                    attributes,
-                };
-                self.reply(id, &reply)
+                self.reply(id, &wire::Attributes { commit, attributes })
             }
-            Command::Indices(_) => self.reply(id, &volumes::indices(snapshot)?),
+            Command::Indices(_) => {
+                let indices = snapshot.indices()?.into_iter();
+                let indices = indices
+                    .map(|(name, kind)| (name, wire::kind_name(kind).into()))
+                    .collect();
+                self.reply(id, &wire::Indices { commit, indices })
+            }
             Command::Nodes(from) => self.reply(id, &page::nodes(snapshot, &from)?),
-            Command::Next(_) => self.reply(id, &volumes::next(snapshot)?),
+            Command::Next(_) => self.reply(id, &page::next(snapshot)?),
             Command::Explain(wire::QueryText { query }) => {
                 let text = snapshot.explain(&query)?;
-                self.reply(id, &wire::Explained { commit, commits, text })
+                self.reply(id, &wire::Explained { commit, text })
+            }
+            Command::Ways(wire::QueryText { query }) => {
+                let text = snapshot.ways(&query)?;
+                self.reply(id, &wire::Explained { commit, text })
             }
             _ => return Err(Failure::new(ErrorName::BadRequest, "the command reads nothing")),
         }
@@ -362,9 +321,8 @@ impl<'a> Desk<'a> {
     }
 
     fn hello(&mut self, id: u64, greeting: &wire::Greeting, view: &View<'_, '_>) -> Result<(), Failure> {
-        if greeting.protocol.map_or(false, |protocol| protocol != wire::PROTOCOL) {
-            let failure = Failure::named(ErrorName::Protocol);
-            return Err(failure.with("known", vec![wire::PROTOCOL]));
+        if let Some(protocol) = greeting.protocol.filter(|protocol| *protocol != wire::PROTOCOL) {
+            return Err(Failure::protocol(protocol));
         }
         self.is_confirmed |= greeting.confirmed;
         let (major, minor, patch) = bestore::library_version();
@@ -374,7 +332,7 @@ impl<'a> Desk<'a> {
             server: env!("CARGO_PKG_VERSION").into(),
             library: format!("{major}.{minor}.{patch}"),
             run: self.shared.run.clone(),
-            pass: view.pass(0)?.number()?,
+            pass: view.pass().number()?,
             kept: self.shared.kept.when().into(),
             limits: wire::Limits {
                 pages: options.pages,
@@ -384,12 +342,6 @@ impl<'a> Desk<'a> {
                 line: wire::LINE as u64,
                 watches: WATCHES as u64,
             },
-            volumes: view.volumes() as u32,
-            features: wire::QUERY_FEATURES
-                .iter()
-                .chain(&FEATURES)
-                .map(|name| name.to_string())
-                .collect(),
         };
         self.reply(id, &hello);
         Ok(())
@@ -400,7 +352,7 @@ impl<'a> Desk<'a> {
             clients: self.shared.clients.count() as u64,
             watches: self.shared.watcher.count() as u64,
             trouble: self.shared.kept.trouble(),
-            ..volumes::status(&view.status()?)
+            ..info::status(&view.pass().status()?)
         };
         self.reply(id, &status);
         Ok(())
@@ -415,14 +367,32 @@ impl<'a> Desk<'a> {
         Ok(next)
     }
 
-    /// Returns a page of the batches that rebuild the pinned snapshot or the copy.
-    fn state(&self, view: &mut View<'_, '_>, from: &wire::From) -> Result<wire::State, Failure> {
+    /// Returns a page of the batches that list the contents of the pinned snapshot or the copy.
+    fn state(&self, view: &mut View<'_, '_>, from: u64) -> Result<wire::State, Failure> {
         match (view, &self.copy) {
             (View::Kept { snapshot, state, .. }, _) => page::state(snapshot, state, from),
             (View::Current(_), Some(copy)) => copy.page(from),
             (View::Current(_), None) => Err(Failure::not_pinned()),
             (View::Expired(_), _) => Err(Failure::expired()),
         }
+    }
+
+    /// Collects the batches of a state. After the last of them, gives them to the store, which must be empty.
+    fn restore(&mut self, id: u64, restore: wire::Restore) -> Result<(), Failure> {
+        memory::check()?;
+        let mut batches = std::mem::take(&mut self.restoring);
+        batches.extend(restore.batches);
+        match restore.next {
+            None => {
+                self.restoring = batches;
+                self.reply(id, &wire::Nothing {});
+            }
+            Some(next) => {
+                let restored = writes::restore(self.shared, &batches, next)?;
+                self.reply(id, &restored);
+            }
+        }
+        Ok(())
     }
 
     /// Starts a watch, and runs its query for the first time.
@@ -433,25 +403,24 @@ impl<'a> Desk<'a> {
             return Err(Failure::new(ErrorName::TooManyWatches, message));
         }
         let number = self.last_watch + 1;
-        let mut live = watch.query.map(|query| ShelfLive::new(&query)).transpose()?;
-        let (numbers, mut found) = view.read(|snapshot| {
+        let mut live = watch.query.map(|query| Live::new(&query)).transpose()?;
+        let (commit, mut found) = view.read(|snapshot| {
             self.confirm()?;
             let found = match &mut live {
                 Some(live) => live.refresh_changed(snapshot)?,
                 None => Updates::default(),
             };
-            Ok((snapshot.numbers().collect::<Vec<_>>(), found))
+            Ok((snapshot.number(), found))
         })?;
         self.last_watch = number;
         let nodes = watcher::take(&mut found.created, watcher::NODES);
         let reply = wire::Watched {
             watch: number,
-            commit: numbers.iter().sum(),
-            commits: wire::several(&numbers),
+            commit,
             nodes: live.is_some().then_some(nodes),
             more: !found.created.is_empty(),
         };
-        Ok((reply, Watch::new(number, live, numbers, found)))
+        Ok((reply, Watch::new(number, live, commit, found)))
     }
 
     /// Runs a live query again, in the snapshot that reads see. The watch stays off the list until the reply has been sent.

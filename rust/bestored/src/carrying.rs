@@ -1,4 +1,4 @@
-//! A thread that carries on the volumes whose journals have grown, so that their memory is freed. It makes sure that no pass
+//! A thread that carries on the store when its journal has grown, so that the journal's memory is freed. It makes sure that no pass
 //! keeps the earlier memory.
 
 use crate::kept::Kept;
@@ -28,9 +28,9 @@ impl Carrying {
         self.state.lock().unwrap_or_else(PoisonError::into_inner)
     }
 
-    /// Wakes the thread after a write, if a volume is due to be carried on.
+    /// Wakes the thread after a write, if the store is due to be carried on.
     pub fn written(&self, kept: &Kept) {
-        if kept.shelf().is_due() {
+        if kept.store().is_due() {
             self.lock().is_due = true;
             self.wake.notify_one();
         }
@@ -42,11 +42,15 @@ impl Carrying {
         self.wake.notify_one();
     }
 
-    /// Carries volumes on whenever they are due, until [`end`](Self::end) is called.
+    /// Carries the store on whenever it is due, until [`end`](Self::end) is called.
     pub fn run(&self, shared: &Shared) {
-        let shelf = shared.kept.shelf();
-        while self.wait(shelf.is_read_before()) {
-            match shelf.carry_on_if_due().map_err(Error::without_volume) {
+        let store = shared.kept.store();
+        while self.wait(store.is_read_before()) {
+            let carried = match store.is_due() {
+                true => store.carry_on(),
+                false => Ok(()),
+            };
+            match carried {
                 Ok(()) => {}
                 Err(Error::InUse) => shared.pressure.waits(),
                 Err(error) => report!("bestored: the journal in memory can't be made shorter now: {error}"),
@@ -55,7 +59,7 @@ impl Carrying {
         }
     }
 
-    /// Waits until a volume may be due or, while passes still use earlier memory, for a short time. Returns `false` if the thread
+    /// Waits until the store may be due or, while passes still use earlier memory, for a short time. Returns `false` if the thread
     /// must end.
     fn wait(&self, is_read_before: bool) -> bool {
         let mut state = self.lock();

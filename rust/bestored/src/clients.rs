@@ -1,7 +1,7 @@
 //! The connected clients, and what each of them is doing.
 
 use crate::os;
-use bestore::{Pass, ShelfSnapshot};
+use bestore::{Pass, Snapshot};
 use bestore_client::socket::peer_process;
 use bestore_client::wire;
 use std::collections::BTreeMap;
@@ -39,13 +39,13 @@ pub struct Client {
 /// What a client is doing at the moment.
 #[derive(Debug, Default)]
 struct Doing {
-    /// The client's pass in each volume.
-    seats: Vec<Seat>,
+    /// The client's pass.
+    seat: Option<Seat>,
     pinned: Option<Pinned>,
     command: Option<&'static str>,
 }
 
-/// How a volume identifies a pass. Pass numbers start again when the volume is carried on.
+/// How the store identifies a pass. Pass numbers start again when the store is carried on.
 #[derive(Clone, Copy, Debug, PartialEq, Eq)]
 pub struct Seat {
     pub pass: u64,
@@ -65,25 +65,21 @@ impl Seat {
 #[derive(Debug)]
 struct Pinned {
     commit: u64,
-    /// The snapshot's number in each volume.
-    commits: Vec<u64>,
     since: Instant,
 }
 
 impl Client {
-    /// Records the client's passes in the volumes.
-    pub fn takes<'a>(&self, passes: impl Iterator<Item = &'a Pass>) {
-        // If this fails, the only effect is that the client can't be found by its passes.
-        let seats = passes.map(Seat::of).collect::<bestore::Result<_>>();
-        lock(&self.doing).seats = seats.unwrap_or_default();
+    /// Records the client's pass.
+    pub fn takes(&self, pass: &Pass) {
+        // If this fails, the only effect is that the client can't be found by its pass.
+        lock(&self.doing).seat = Seat::of(pass).ok();
     }
 
     /// Records that the client has pinned this snapshot.
-    pub fn pins(&self, snapshot: &ShelfSnapshot<'_>) {
-        self.takes(snapshot.volumes().iter().map(bestore::Snapshot::pass));
+    pub fn pins(&self, snapshot: &Snapshot<'_>) {
+        self.takes(snapshot.pass());
         lock(&self.doing).pinned = Some(Pinned {
             commit: snapshot.number(),
-            commits: snapshot.numbers().collect(),
             since: Instant::now(),
         });
     }
@@ -118,20 +114,19 @@ impl Client {
         lock(&self.doing).pinned.as_ref().map(|pinned| pinned.since.elapsed())
     }
 
-    fn has_seat(&self, volume: usize, seat: Seat) -> bool {
-        lock(&self.doing).seats.get(volume) == Some(&seat)
+    fn has_seat(&self, seat: Seat) -> bool {
+        lock(&self.doing).seat == Some(seat)
     }
 
-    /// Returns the snapshot that the client has pinned in a volume, if the volume has been carried on since then. `generation`
-    /// is the volume's current generation.
-    fn reads_before(&self, volume: usize, generation: u64) -> Option<u64> {
+    /// Returns the snapshot that the client has pinned, if the store has been carried on since then. `generation` is the store's current
+    /// generation.
+    fn reads_before(&self, generation: u64) -> Option<u64> {
         let doing = lock(&self.doing);
-        let seat = doing.seats.get(volume)?;
         let pinned = doing.pinned.as_ref()?;
-        (seat.generation < generation).then(|| pinned.commits.get(volume).copied())?
+        (doing.seat?.generation < generation).then_some(pinned.commit)
     }
 
-    /// Describes the client as the reader of this snapshot of a volume.
+    /// Describes the client as the reader of this snapshot.
     fn reading(&self, commit: u64) -> wire::OldestReader {
         wire::OldestReader {
             commit,
@@ -208,11 +203,11 @@ impl Clients {
         connected.requests + sent.map(|client| client.requests.load(Ordering::Relaxed)).sum::<u64>()
     }
 
-    /// Returns who is reading this snapshot of a volume: the client with that pass or, if there is none, the server itself.
-    pub fn reader(&self, volume: usize, commit: u64, seat: Seat) -> wire::OldestReader {
+    /// Returns who is reading this snapshot: the client with that pass or, if there is none, the server itself.
+    pub fn reader(&self, commit: u64, seat: Seat) -> wire::OldestReader {
         let connected = lock(&self.connected);
         let mut clients = connected.clients.values();
-        let client = clients.find(|client| client.has_seat(volume, seat));
+        let client = clients.find(|client| client.has_seat(seat));
         client.map_or_else(
             || wire::OldestReader {
                 commit,
@@ -222,12 +217,12 @@ impl Clients {
         )
     }
 
-    /// Of the clients that have pinned a snapshot from before this generation of a volume, returns the one that has had it pinned
-    /// the longest.
-    pub fn reader_before(&self, volume: usize, generation: u64) -> Option<wire::OldestReader> {
+    /// Of the clients that have pinned a snapshot from before this generation of the store, returns the one that has had it pinned the
+    /// longest.
+    pub fn reader_before(&self, generation: u64) -> Option<wire::OldestReader> {
         let connected = lock(&self.connected);
         let readers = connected.clients.values().filter_map(|client| {
-            let commit = client.reads_before(volume, generation)?;
+            let commit = client.reads_before(generation)?;
             Some(wire::OldestReader {
                 earlier: true,
                 ..client.reading(commit)

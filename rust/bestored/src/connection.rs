@@ -6,10 +6,10 @@ use crate::failure::Failure;
 use crate::lines::{Lines, Received};
 use crate::memory;
 use crate::outbox::{Outbox, PATIENCE};
+use crate::page;
 use crate::pressure;
 use crate::server::{no_pass, Shared};
-use crate::volumes;
-use bestore::ShelfPass;
+use bestore::Pass;
 use bestore_client::wire::{id_of, Command, ErrorName, Nothing, Request};
 use std::io;
 use std::os::unix::net::UnixStream;
@@ -22,7 +22,7 @@ const VISIT: Duration = Duration::from_secs(2);
 /// How long a visitor may wait after a reply before it sends its next request.
 const IDLE: Duration = Duration::from_millis(250);
 
-/// How often an idle connection checks whether its pass still holds the earlier memory of a volume that was carried on.
+/// How often an idle connection checks whether its pass still holds the earlier memory of a store that was carried on.
 const RESTS: Duration = Duration::from_secs(1);
 
 /// A request with a line of at most this many bytes is parsed even if memory is short.
@@ -61,8 +61,8 @@ impl<'a> Connection<'a> {
     }
 
     /// Answers the client's requests until it closes the connection.
-    pub fn run(&mut self, pass: &mut ShelfPass) -> io::Result<()> {
-        self.client.takes(pass.volumes().iter());
+    pub fn run(&mut self, pass: &mut Pass) -> io::Result<()> {
+        self.client.takes(pass);
         self.lines.rest_at_most(RESTS)?;
         let mut is_expired = false;
         loop {
@@ -88,11 +88,11 @@ impl<'a> Connection<'a> {
 
     /// Pins a snapshot, and answers requests until the client unpins it or the server ends it. Returns `None` if no snapshot
     /// could be pinned; the reply then says why.
-    fn keep(&mut self, id: u64, pass: &mut ShelfPass) -> io::Result<Option<Turn>> {
+    fn keep(&mut self, id: u64, pass: &mut Pass) -> io::Result<Option<Turn>> {
         let pinned = pass.pin().map_err(Failure::from);
         let pinned = pinned.and_then(|snapshot| {
             self.desk.confirm()?;
-            Ok((volumes::next(&snapshot)?, snapshot))
+            Ok((page::next(&snapshot)?, snapshot))
         });
         match pinned {
             Ok((next, snapshot)) => {

@@ -4,10 +4,10 @@
 use crate::answer::View;
 use crate::failure::Failure;
 use crate::memory;
-use crate::page::{self, Room};
+use crate::page::{take_batch, Room};
 use crate::server::Shared;
-use bestore::{Batch, Node, ShelfSnapshot, StateCopy};
-use bestore_client::wire::{self, ErrorName, ShownOperations};
+use bestore::{Snapshot, StateCopy};
+use bestore_client::wire::{self, ErrorName};
 use std::sync::{Arc, Mutex, MutexGuard, PoisonError};
 use std::time::{Duration, Instant};
 
@@ -31,20 +31,12 @@ pub struct Copies {
 #[derive(Debug, Default)]
 struct Place(Mutex<Option<Made>>);
 
-/// The batches that rebuild a snapshot, for each volume.
+/// A copy that is complete.
 #[derive(Debug)]
 struct Made {
-    volumes: Vec<Volume>,
+    state: StateCopy,
     /// When the client last read the copy.
     read: Instant,
-}
-
-/// A volume's batches, as bytes.
-#[derive(Debug)]
-struct Volume {
-    commit: u64,
-    next: u64,
-    batches: Vec<Vec<u8>>,
 }
 
 /// A client's copy.
@@ -117,23 +109,21 @@ fn taken_back() -> Failure {
     Failure::new(ErrorName::Expired, message)
 }
 
-/// Copies the state that reads see. If no snapshot is pinned, each volume is copied from a snapshot of its own.
+/// Copies the state that reads see.
 pub fn collect<'a>(shared: &'a Shared, view: &View<'_, '_>) -> Result<(Copy<'a>, wire::Next), Failure> {
     let copy = shared.copies.begin()?;
     memory::check_for(bytes_of(view))?;
-    let mut volumes = Vec::new();
-    for (volume, store) in (0_u32..).zip(shared.kept.shelf().volumes()) {
-        volumes.push(match view {
-            View::Current(_) => Volume::of_copy(volume, store.copy_state()?)?,
-            View::Kept { snapshot, since, .. } => {
-                Volume::of_snapshot(volume, snapshot, || shared.pressure.is_over(*since))?
-            }
-            View::Expired(_) => return Err(Failure::expired()),
-        });
-    }
-    let next = next(&volumes, view.roomiest()?);
+    let state = match view {
+        View::Current(_) => shared.kept.store().copy_state()?,
+        View::Kept { snapshot, since, .. } => copy_of(snapshot, || shared.pressure.is_over(*since))?,
+        View::Expired(_) => return Err(Failure::expired()),
+    };
+    let next = wire::Next {
+        commit: state.number,
+        next: state.next,
+    };
     *copy.place.lock() = Some(Made {
-        volumes,
+        state,
         read: Instant::now(),
     });
     Ok((copy, next))
@@ -142,86 +132,52 @@ pub fn collect<'a>(shared: &'a Shared, view: &View<'_, '_>) -> Result<(Copy<'a>,
 /// Returns how many bytes a copy takes at most while it is made: twice as many as the store's pages in use. If writes keep the status
 /// from being read, returns 0.
 fn bytes_of(view: &View<'_, '_>) -> usize {
-    let all = view.status().unwrap_or_default();
-    let used: u64 = all.iter().map(|status| status.pages - status.free).sum();
+    let used = view.pass().status().map_or(0, |status| status.pages - status.free);
     usize::try_from(used).unwrap_or(usize::MAX).saturating_mul(2 * PAGE)
 }
 
-/// Returns the copied commit numbers and next node numbers. New nodes are created in the volume with the most free pages.
-fn next(volumes: &[Volume], roomiest: u32) -> wire::Next {
-    let commits: Vec<u64> = volumes.iter().map(|volume| volume.commit).collect();
-    let nexts: Vec<u64> = volumes.iter().map(|volume| volume.next).collect();
-    wire::Next {
-        commit: commits.iter().sum(),
-        commits: wire::several(&commits),
-        next: nexts.get(roomiest as usize).copied().unwrap_or_default(),
-        nexts: wire::several(&nexts),
-    }
-}
-
-impl Volume {
-    fn of_copy(volume: u32, copy: StateCopy) -> Result<Self, Failure> {
-        let number = copy.next;
-        let batches = copy.batches.into_iter().map(|batch| batch.to_bytes());
-        Ok(Self {
-            commit: copy.number,
-            next: Node { volume, number }.into(),
-            batches: batches.collect::<bestore::Result<_>>()?,
-        })
-    }
-
-    /// Copies the volume, unless `is_over` says that its snapshot has to be unpinned before the copy is complete.
-    fn of_snapshot(volume: u32, snapshot: &ShelfSnapshot<'_>, is_over: impl Fn() -> bool) -> Result<Self, Failure> {
-        let of_volume = snapshot.volume(volume)?;
-        let mut batches = Vec::new();
-        for batch in of_volume.state() {
-            if is_over() {
-                return Err(Failure::expired());
-            }
-            batches.push(batch?.to_bytes()?);
-            memory::check()?;
+/// Copies the snapshot, unless `is_over` says that it has to be unpinned before the copy is complete.
+fn copy_of(snapshot: &Snapshot<'_>, is_over: impl Fn() -> bool) -> Result<StateCopy, Failure> {
+    let mut batches = Vec::new();
+    for batch in snapshot.listing() {
+        if is_over() {
+            return Err(Failure::expired());
         }
-        Ok(Self {
-            commit: of_volume.number(),
-            next: snapshot.next_node(volume)?,
-            batches,
-        })
+        batches.push(batch?);
+        memory::check()?;
     }
+    Ok(StateCopy {
+        number: snapshot.number(),
+        next: snapshot.next_node()?,
+        batches,
+    })
 }
 
 impl Copy<'_> {
-    /// Returns a page of a volume's batches, unless the server has taken the copy back.
-    pub fn page(&self, from: &wire::From) -> Result<wire::State, Failure> {
+    /// Returns a page of the batches from index `from` on, unless the server has taken the copy back.
+    pub fn page(&self, from: u64) -> Result<wire::State, Failure> {
         let mut place = self.place.lock();
         let made = place.as_mut().ok_or_else(taken_back)?;
-        let page = made.page(from);
+        let page = page_of(&made.state, from);
         made.read = Instant::now();
         page
     }
 }
 
-impl Made {
-    /// Returns a page of a volume's batches.
-    fn page(&self, from: &wire::From) -> Result<wire::State, Failure> {
-        let asked = page::volume(from.volume, self.volumes.len())?;
-        let volumes = self.volumes.len() as u32;
-        let volume = self.volumes.get(asked as usize);
-        let volume = volume.ok_or(bestore::Error::NoVolume { volume: asked, volumes })?;
-        let mut page = wire::State {
-            commit: volume.commit,
-            next: volume.next,
-            ..wire::State::default()
-        };
-        let mut room = Room::new(None);
-        for (number, bytes) in (1..).zip(&volume.batches).skip(from.from as usize) {
-            let batch = Batch::from_bytes(bytes)?.of_volume(asked);
-            let length = ShownOperations(&batch).length();
-            page.batches.push(batch.into());
-            if !room.take(8 + length)? {
-                page.more = (number < volume.batches.len() as u64).then_some(number);
-                break;
-            }
+/// Returns a page of the copy's batches from index `from` on.
+fn page_of(copy: &StateCopy, from: u64) -> Result<wire::State, Failure> {
+    let mut page = wire::State {
+        commit: copy.number,
+        next: copy.next,
+        ..wire::State::default()
+    };
+    let mut room = Room::new(None);
+    for (number, batch) in (1..).zip(&copy.batches).skip(from as usize) {
+        page.batches.push(batch.clone());
+        if !take_batch(&mut room, batch)? {
+            page.more = (number < copy.batches.len() as u64).then_some(number);
+            break;
         }
-        Ok(page)
     }
+    Ok(page)
 }

@@ -3,7 +3,7 @@
 #[cfg(feature = "log")]
 use crate::log::Refused;
 use bestore::{saved, Class, Error, QueryError};
-use bestore_client::wire::{ErrorName, Refusal};
+use bestore_client::wire::{ErrorName, Refusal, PROTOCOL};
 use serde_json::Value;
 
 /// Why a request had no effect.
@@ -71,6 +71,17 @@ impl Failure {
         Self(Refusal { message, ..self.0 })
     }
 
+    /// Converts the error of a state that couldn't be restored. The store refuses one that isn't in order, or has parts that don't fit.
+    pub fn of_listing(self) -> Self {
+        match self.0.class() {
+            Class::Mine if self.0.name != ErrorName::NotEmpty => {
+                let message = format!("the batches don't list a store's contents: {}", self.0.message);
+                Self(Refusal { message, ..self.0 })
+            }
+            _ => self,
+        }
+    }
+
     /// Returns whether a batch was meant for a different snapshot.
     pub fn is_conflict(&self) -> bool {
         self.0.name == ErrorName::Conflict
@@ -84,20 +95,13 @@ impl Failure {
         failure.with("found", found)
     }
 
-    /// Creates the error for a request that must name a volume and doesn't.
-    pub fn volume_missing(volumes: usize) -> Self {
-        let message = format!("the request has to name one of the {volumes} volumes, counted from 0");
-        Self::new(ErrorName::NoVolume, message).with("volumes", volumes)
-    }
-
-    /// Creates the error for commit numbers that don't match the volumes.
-    pub fn numbers(volumes: usize) -> Self {
-        match volumes {
-            1 => Self::bad_request("the server has one volume, so a commit number is one integer, not a list"),
-            _ => Self::bad_request(&format!(
-                "the server has {volumes} volumes, so commit numbers are a list, one for each"
-            )),
-        }
+    /// Creates the error for a client that speaks another version of the protocol.
+    pub fn protocol(of_client: u64) -> Self {
+        let older = if of_client < PROTOCOL { "client" } else { "server" };
+        let message = format!(
+            "the server speaks version {PROTOCOL} of the protocol, and the client version {of_client}; update the {older}"
+        );
+        Self::new(ErrorName::Protocol, message).with("known", vec![PROTOCOL])
     }
 
     pub fn bad_request(why: &str) -> Self {
@@ -117,11 +121,6 @@ impl Failure {
 
 impl From<Error> for Failure {
     fn from(error: Error) -> Self {
-        if let Some(volume) = error.volume() {
-            let Failure(refusal) = error.without_volume().into();
-            let message = format!("volume {volume}: {}", refusal.message);
-            return Failure(Refusal { message, ..refusal }).with("volume", volume);
-        }
         let failure = match &error {
             #[cfg(feature = "log")]
             Error::Other(other) => match other.downcast_ref::<Refused>() {
@@ -143,11 +142,6 @@ impl From<Error> for Failure {
             }
             Error::BadCount { count } => failure.with("count", count),
             Error::Conflict { expected, found } => failure.with("expected", expected).with("found", found),
-            Error::PartialIndex { operation } => failure.with("operation", operation),
-            Error::NoVolume { volume, volumes } => failure.with("volume", volume).with("volumes", volumes),
-            Error::OtherVolume { volume, operation } => {
-                failure.with("volume", volume).with_some("operation", operation)
-            }
             _ => failure,
         }
     }
@@ -156,9 +150,8 @@ impl From<Error> for Failure {
 /// Returns the protocol's name for an error.
 fn name(error: &Error) -> ErrorName {
     match error {
-        Error::PartialIndex { .. } => ErrorName::PartialIndex,
-        Error::NoVolume { .. } => ErrorName::NoVolume,
-        Error::OtherVolume { .. } => ErrorName::OtherVolume,
+        Error::BadBatch { .. } => ErrorName::BadRequest,
+        Error::NotEmpty => ErrorName::NotEmpty,
         Error::NotSaved(_) => ErrorName::NotSaved,
         Error::Stopped(_) => ErrorName::Stopped,
         _ => error
@@ -172,11 +165,6 @@ impl From<saved::Error> for Failure {
     fn from(error: saved::Error) -> Self {
         match error {
             saved::Error::Store(error) => error.into(),
-            saved::Error::OfVolume { volume, error } => {
-                let Failure(refusal) = (*error).into();
-                let message = format!("volume {volume}: {}", refusal.message);
-                Failure(Refusal { message, ..refusal }).with("volume", volume)
-            }
             saved::Error::Stopped(_) | saved::Error::Closed => Failure::new(ErrorName::Stopped, error.to_string()),
             error => Failure::new(ErrorName::NotSaved, error.to_string()),
         }

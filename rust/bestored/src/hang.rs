@@ -21,26 +21,26 @@ const WATCHDOG: u32 = 6;
 const GOES_ON: Duration = Duration::from_secs(5);
 const LOOK: Duration = Duration::from_millis(20);
 
-/// How the saving in the volumes' files is going.
+/// How the saving in the file is going.
 #[derive(Clone, Debug)]
-pub struct Hang(Arc<Files>);
+pub struct Hang(Arc<Saving>);
 
 #[derive(Debug)]
-struct Files {
+struct Saving {
     path: PathBuf,
-    files: Vec<Progress>,
+    progress: Progress,
     /// A disk that is overdue for longer than this counts as one that hangs.
     bound: Duration,
 }
 
 impl Hang {
-    pub fn new(path: PathBuf, files: Vec<Progress>, bound: Duration) -> Self {
-        Self(Arc::new(Files { path, files, bound }))
+    pub fn new(path: PathBuf, progress: Progress, bound: Duration) -> Self {
+        Self(Arc::new(Saving { path, progress, bound }))
     }
 
     /// Returns what is wrong if the disk has been hanging for this many times the bound.
     fn after(&self, bounds: u32) -> Option<String> {
-        let overdue = self.0.files.iter().filter_map(Progress::overdue).max()?;
+        let overdue = self.0.progress.overdue()?;
         (overdue >= self.0.bound.saturating_mul(bounds)).then(|| {
             format!(
                 "the disk of {} hangs: it hasn't completed what was written to it {} s ago",
@@ -60,15 +60,15 @@ impl Hang {
         self.after(WATCHDOG)
     }
 
-    /// Returns how old the oldest write is that isn't in the files yet, in milliseconds.
+    /// Returns how old the oldest write is that isn't in the file yet, in milliseconds.
     pub fn unsaved(&self) -> Option<u64> {
-        let oldest = self.0.files.iter().filter_map(Progress::unsaved).max()?;
+        let oldest = self.0.progress.unsaved()?;
         Some(u64::try_from(oldest.as_millis()).unwrap_or(u64::MAX))
     }
 
     /// Returns how long the latest commits took.
     pub fn commits(&self) -> Option<Latency> {
-        let mut times: Vec<Duration> = self.0.files.iter().flat_map(Progress::commits).collect();
+        let mut times = self.0.progress.commits();
         times.sort_unstable();
         let last = times.len().checked_sub(1)?;
         let of = |hundredths: usize| times[last * hundredths / 100].as_micros() as u64;
@@ -98,7 +98,7 @@ impl Hang {
     }
 }
 
-/// Loads the store. If a signal arrives meanwhile, ends the program after a short time. Nobody waits for a reply yet, and the files have
+/// Loads the store. If a signal arrives meanwhile, ends the program after a short time. Nobody waits for a reply yet, and the file has
 /// all writes that were ever confirmed.
 pub fn while_loading<T>(signals: &File, load: impl FnOnce() -> T) -> T {
     let is_loading = Arc::new(AtomicBool::new(true));

@@ -7,9 +7,9 @@ use crate::log::line::{Line, Role};
 use crate::options::Options;
 use crate::share;
 use crate::tokens::Tokens;
-use bestore::Shelf;
+use bestore::Store;
 #[cfg(feature = "log")]
-use bestore::{Batch, Keeper, MakeWrite, Store, Written};
+use bestore::{Batch, Keeper, MakeWrite, Written};
 use std::error::Error;
 use std::io::{self, Read, Write};
 use std::net::Shutdown;
@@ -21,7 +21,7 @@ use std::thread;
 use std::time::Duration;
 
 /// Returns options with small limits, so that a store opens quickly and can fill up.
-fn options(volumes: u32) -> Options {
+fn options() -> Options {
     Options {
         socket: None,
         background: false,
@@ -29,7 +29,6 @@ fn options(volumes: u32) -> Options {
         every: None,
         spare: 0,
         log: None,
-        volumes: Some(volumes),
         pages: 256,
         passes: 1,
         commits: 1000,
@@ -40,13 +39,13 @@ fn options(volumes: u32) -> Options {
     }
 }
 
-/// Returns the replies that a server with this many empty volumes sends to a client that sends these lines and leaves.
+/// Returns the replies that a server with an empty store sends to a client that sends these lines and leaves.
 ///
 /// # Errors
 /// The system has run out of memory, threads or sockets.
-pub fn replies_to(lines: &[u8], volumes: u32) -> Result<Vec<u8>, Box<dyn Error>> {
-    let options = options(volumes);
-    let kept = Kept::Memory(Shelf::open(volumes, options.limits())?);
+pub fn replies_to(lines: &[u8]) -> Result<Vec<u8>, Box<dyn Error>> {
+    let options = options();
+    let kept = Kept::Memory(Store::open(options.limits())?);
     let mut pass = kept.pass()?;
     let tokens = Arc::new(Tokens::default());
     let shared = share(kept, tokens, "in process".into(), options)?;
@@ -79,7 +78,7 @@ fn talk(mut client: UnixStream, lines: &[u8]) -> io::Result<Vec<u8>> {
 /// The process has run out of memory.
 #[cfg(feature = "log")]
 pub fn entries_of(batches: &[Batch], entries: u64) -> bestore::Result<Vec<(u64, Vec<u8>)>> {
-    let options = options(1);
+    let options = options();
     let store = Store::open(options.limits())?;
     let log = Arc::new(Log {
         line: Line::new(Role::Leader { term: 1 }, String::new(), entries, 0),
@@ -126,7 +125,7 @@ mod tests {
     #[test]
     fn each_line_has_a_reply() {
         let lines = b"{\"id\":1,\"next\":{}}\nnonsense\n{\"id\":2,\"indices\":{}}\n{\"id\":3";
-        let replies = String::from_utf8(replies_to(lines, 2).unwrap()).unwrap();
+        let replies = String::from_utf8(replies_to(lines).unwrap()).unwrap();
         let begins: Vec<&str> = replies.lines().filter_map(|line| line.split(',').next()).collect();
         assert_eq!(begins, ["{\"id\":1", "{\"id\":null", "{\"id\":2"]);
     }

@@ -5,13 +5,11 @@ use crate::clients::{Client, Seat};
 use crate::failure::Failure;
 use crate::hang::Hang;
 use crate::server::Shared;
-use crate::volumes;
-use bestore::{Oldest, Status, Store};
+use bestore::{Oldest, Status};
 use bestore_client::wire::{self, ErrorName};
 
 pub fn info(shared: &Shared, view: &View<'_, '_>) -> Result<wire::Info, Failure> {
-    let all = view.status()?;
-    let sums = volumes::status(&all);
+    let status = view.pass().status()?;
     let rate = shared.meter.rate();
     Ok(wire::Info {
         server: env!("CARGO_PKG_VERSION").into(),
@@ -27,41 +25,37 @@ pub fn info(shared: &Shared, view: &View<'_, '_>) -> Result<wire::Info, Failure>
         unsaved: shared.kept.hang().and_then(Hang::unsaved),
         commits: shared.kept.hang().and_then(Hang::commits),
         writing: shared.meter.writing(),
-        pages: sums.pages,
-        free: sums.free,
-        retired: sums.retired,
-        oldest: oldest(shared, &all),
+        pages: status.pages,
+        free: status.free,
+        retired: status.retired,
+        oldest: oldest(shared, &status),
         files: shared.kept.files(),
         log: shared.kept.role(),
         trouble: shared.kept.trouble(),
     })
 }
 
-/// Returns the oldest reader of the volumes. If several volumes have one, it is the reader that pinned its snapshot first.
-fn oldest(shared: &Shared, all: &[Status]) -> Option<wire::OldestReader> {
-    let stores = shared.kept.shelf().volumes();
-    let readers = stores
-        .iter()
-        .zip(all)
-        .enumerate()
-        .filter_map(|(volume, (store, status))| {
-            let reader = oldest_of(shared, volume, store, status)?;
-            Some(wire::OldestReader {
-                volume: (all.len() > 1).then_some(volume as u32),
-                ..reader
-            })
-        });
-    readers.max_by_key(|reader| reader.milliseconds)
+/// Returns how full the store is.
+pub fn status(status: &Status) -> wire::Status {
+    wire::Status {
+        pages: status.pages,
+        free: status.free,
+        retired: status.retired,
+        entries: status.entries,
+        commits: status.commits,
+        oldest: status
+            .oldest
+            .map(|Oldest { snapshot, pass }| wire::HeldBy { snapshot, pass }),
+        ..wire::Status::default()
+    }
 }
 
-/// Returns who holds a volume's oldest snapshot. A snapshot from before the volume was carried on is older than any snapshot that
-/// `status` reports.
-fn oldest_of(shared: &Shared, volume: usize, store: &Store, status: &Status) -> Option<wire::OldestReader> {
-    let generation = store.generation();
-    let before = shared.clients.reader_before(volume, generation);
-    before.or_else(|| {
+/// Returns who holds the oldest snapshot. A snapshot from before the store was carried on is older than any that `status` reports.
+fn oldest(shared: &Shared, status: &Status) -> Option<wire::OldestReader> {
+    let generation = shared.kept.store().generation();
+    shared.clients.reader_before(generation).or_else(|| {
         let Oldest { snapshot, pass } = status.oldest?;
-        Some(shared.clients.reader(volume, snapshot, Seat { pass, generation }))
+        Some(shared.clients.reader(snapshot, Seat { pass, generation }))
     })
 }
 

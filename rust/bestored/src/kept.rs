@@ -1,4 +1,4 @@
-//! The server's volumes: in memory only, kept in files, or a single one in a log that several machines share.
+//! The server's store: in memory only, kept in a file, or in a log that several machines share.
 
 use crate::disk::Disk;
 use crate::failure::Failure;
@@ -10,9 +10,9 @@ use crate::options::Options;
 use crate::os;
 use crate::server::Shared;
 use crate::tokens::Tokens;
-use crate::volumes;
-use bestore::saved::{self, Saved, SavedShelf};
-use bestore::{Class, Shelf, ShelfPass, Written};
+use crate::writes::shown;
+use bestore::saved::{self, Saved};
+use bestore::{Class, Pass, Store, Written};
 use bestore_client::wire::{self, ErrorName};
 use std::error::Error;
 use std::fs::File;
@@ -22,16 +22,16 @@ use std::sync::atomic::{AtomicBool, Ordering};
 use std::sync::{Arc, Mutex, PoisonError};
 use std::thread::{self, JoinHandle};
 
-/// The volumes, and where their writes are kept.
+/// The store, and where its writes are kept.
 #[derive(Debug)]
 pub enum Kept {
-    Memory(Shelf),
-    File(Box<InFiles>),
+    Memory(Store),
+    File(Box<InFile>),
     #[cfg(feature = "log")]
     Log(Box<Log>),
 }
 
-/// What a server needs to open its volumes.
+/// What a server needs to open its store.
 #[derive(Clone, Copy, Debug)]
 #[cfg_attr(not(feature = "log"), allow(dead_code))]
 pub struct Opening<'a> {
@@ -46,71 +46,69 @@ pub struct Opening<'a> {
     pub signals: &'a File,
 }
 
-/// Volumes that are kept in files.
+/// A store that is kept in a file.
 #[derive(Debug)]
-pub struct InFiles {
-    saved: Arc<SavedShelf>,
+pub struct InFile {
+    saved: Arc<Saved>,
     path: PathBuf,
     each: bool,
     disk: Disk,
     hang: Hang,
     /// Whether the server is ending because a commit has failed.
     is_over: AtomicBool,
-    /// The thread that rewrites the states, if one has been started.
+    /// The thread that rewrites the state, if one has been started.
     compacting: Mutex<Option<JoinHandle<()>>>,
 }
 
-impl InFiles {
+impl InFile {
     fn open(options: &Options, path: &Path, tokens: &Tokens) -> Result<Self, Box<dyn Error>> {
-        let mut saved = open_files(options, path)?;
-        report_lone_files(&saved, path);
+        let mut opened = saved::Options::new();
+        opened.limits(options.limits());
+        if let Some(time) = options.every {
+            opened.every(time);
+        }
+        let mut saved = opened.open(path)?;
+        if saved.lacks_wal() {
+            report_lone_file(path);
+        }
         add_tokens(saved.take_tokens(), tokens);
-        let progress = saved.volumes().iter().map(Saved::progress).collect();
+        let hang = Hang::new(path.to_owned(), saved.progress(), options.hung);
         Ok(Self {
             saved: Arc::new(saved),
             path: path.to_owned(),
             each: options.every.is_none(),
             disk: Disk::of(path, options.spare)?,
-            hang: Hang::new(path.to_owned(), progress, options.hung),
+            hang,
             is_over: AtomicBool::new(false),
             compacting: Mutex::default(),
         })
     }
 
-    /// Returns the total lengths of the volumes' files. If a file's path is a link, the WAL is beside the file that it names.
+    /// Returns the lengths of the file and of its WAL. If the file's path is a link, the WAL is beside the file that it names.
     fn sizes(&self) -> wire::Files {
-        let mut files = wire::Files::default();
-        let length = |path: PathBuf| path.metadata().map_or(0, |found| found.len());
-        for path in saved::files_of(&self.path, self.saved.volumes().len() as u32) {
-            let path = path.canonicalize().unwrap_or(path);
-            let mut wal = path.clone().into_os_string();
-            wal.push("-wal");
-            files.wal_bytes += length(wal.into());
-            files.bytes += length(path);
+        let length = |path: &Path| path.metadata().map_or(0, |found| found.len());
+        let path = self.path.canonicalize().unwrap_or_else(|_| self.path.clone());
+        let mut wal = path.clone().into_os_string();
+        wal.push("-wal");
+        wire::Files {
+            bytes: length(&path),
+            wal_bytes: length(Path::new(&wal)),
         }
-        files
-    }
-
-    /// Returns the error from the first failed commit, if any has failed.
-    fn failure(&self) -> Option<Arc<saved::Error>> {
-        self.saved.volumes().iter().find_map(Saved::failure)
-    }
-
-    /// Returns an error if a file isn't at its path any more.
-    fn check_files(&self) -> saved::Result<()> {
-        self.saved.volumes().iter().try_for_each(Saved::check_file)
     }
 
     /// Ends the server after a failed commit. While a file isn't at its path, the server goes on: a restart would find no store there,
     /// and what is in memory can still be read.
     fn end_if_failed(&self) {
-        if self.failure().is_some() && self.check_files().is_ok() && !self.is_over.swap(true, Ordering::Relaxed) {
+        if self.saved.failure().is_some()
+            && self.saved.check_file().is_ok()
+            && !self.is_over.swap(true, Ordering::Relaxed)
+        {
             os::end_program();
         }
     }
 
-    /// Starts a thread that rewrites the states that are due, unless one is already running or the disk has no space for a second
-    /// copy of the files.
+    /// Starts a thread that rewrites the state if it is due, unless one is already running or the disk has no space for a second copy of
+    /// the file.
     fn compact_if_due(&self) {
         if !self.saved.is_due() || !self.disk.has_room(self.sizes().bytes) {
             return;
@@ -121,7 +119,7 @@ impl InFiles {
         };
         let saved = self.saved.clone();
         let thread = thread::Builder::new().name("compaction".into()).spawn(move || {
-            if let Err(error) = saved.compact_if_due() {
+            if let Err(error) = saved.compact() {
                 report!("bestored: the state couldn't be rewritten: {error}");
             }
         });
@@ -131,7 +129,7 @@ impl InFiles {
         }
     }
 
-    /// Waits until no state is being rewritten, then saves all writes and closes the files, although clients' threads may still have them.
+    /// Waits until no state is being rewritten, then saves all writes and closes the file, although clients' threads may still have it.
     fn finish(&self) -> saved::Result<()> {
         let compacting = self.compacting.lock().unwrap_or_else(PoisonError::into_inner).take();
         // Even if the thread has panicked, the file still has its entries.
@@ -139,8 +137,8 @@ impl InFiles {
         self.saved.end()
     }
 
-    /// Returns the outcome of a call that uses the files, and ends the server if a commit has failed.
-    fn checked(&self, outcome: saved::Result<()>) -> Result<(), Failure> {
+    /// Returns the outcome of a call that uses the file, and ends the server if a commit has failed.
+    fn checked<T>(&self, outcome: saved::Result<T>) -> Result<T, Failure> {
         if outcome.is_err() {
             self.end_if_failed();
         }
@@ -163,21 +161,18 @@ pub fn start(_: &Arc<Shared>) -> io::Result<()> {
 }
 
 impl Kept {
-    /// Opens the volumes. Returns `None` if a signal arrived before the log had been read.
+    /// Opens the store. Returns `None` if a signal arrived before the log had been read.
     pub fn open(opening: Opening<'_>) -> Result<Option<Self>, Box<dyn Error>> {
         let Opening { options, tokens, .. } = opening;
         if options.log.is_some() {
             return Self::open_log(opening);
         }
         let path = match &options.keep {
-            None => {
-                let volumes = options.volumes.unwrap_or(1);
-                return Ok(Some(Kept::Memory(Shelf::open(volumes, options.limits())?)));
-            }
+            None => return Ok(Some(Kept::Memory(Store::open(options.limits())?))),
             Some(path) => path,
         };
-        let files = hang::while_loading(opening.signals, || InFiles::open(options, path, tokens))?;
-        Ok(Some(Kept::File(Box::new(files))))
+        let file = hang::while_loading(opening.signals, || InFile::open(options, path, tokens))?;
+        Ok(Some(Kept::File(Box::new(file))))
     }
 
     #[cfg(feature = "log")]
@@ -191,20 +186,20 @@ impl Kept {
         Err(crate::Unusable("this program was built without the feature log").into())
     }
 
-    /// Returns the volumes in memory. Writes are kept only if they go through a pass from [`pass`](Self::pass).
-    pub fn shelf(&self) -> &Shelf {
+    /// Returns the store in memory. Writes are kept only if they go through a pass from [`pass`](Self::pass).
+    pub fn store(&self) -> &Store {
         match self {
-            Kept::Memory(shelf) => shelf,
-            Kept::File(files) => files.saved.shelf(),
+            Kept::Memory(store) => store,
+            Kept::File(file) => file.saved.store(),
             #[cfg(feature = "log")]
-            Kept::Log(log) => log.shelf(),
+            Kept::Log(log) => log.store(),
         }
     }
 
-    pub fn pass(&self) -> bestore::Result<ShelfPass> {
+    pub fn pass(&self) -> bestore::Result<Pass> {
         match self {
-            Kept::Memory(shelf) => shelf.pass(),
-            Kept::File(files) => files.saved.pass(),
+            Kept::Memory(store) => store.pass(),
+            Kept::File(file) => file.saved.pass(),
             #[cfg(feature = "log")]
             Kept::Log(log) => log.pass(),
         }
@@ -214,7 +209,7 @@ impl Kept {
     pub fn when(&self) -> &'static str {
         match self {
             Kept::Memory(_) => "no",
-            Kept::File(files) if !files.each => "every",
+            Kept::File(file) if !file.each => "every",
             _ => "each",
         }
     }
@@ -222,7 +217,7 @@ impl Kept {
     /// Returns an error once a commit has failed, so that reads and writes are refused.
     pub fn check(&self) -> Result<(), Failure> {
         match self {
-            Kept::File(files) if files.is_over.load(Ordering::Relaxed) => Err(Failure::new(
+            Kept::File(file) if file.is_over.load(Ordering::Relaxed) => Err(Failure::new(
                 ErrorName::Stopped,
                 "a commit has failed, and the server is stopping",
             )),
@@ -233,7 +228,7 @@ impl Kept {
     /// Returns an error if a write can't be made here, either for lack of space or because another server has to make it.
     pub fn check_write(&self) -> Result<(), Failure> {
         let trouble = match self {
-            Kept::File(files) => files.disk.trouble(),
+            Kept::File(file) => file.disk.trouble(),
             #[cfg(feature = "log")]
             Kept::Log(log) => return Ok(log.check()?),
             _ => None,
@@ -256,18 +251,18 @@ impl Kept {
         }
     }
 
-    /// Returns the lengths of the files, if there are any.
+    /// Returns the lengths of the files, if the store is kept in one.
     pub fn files(&self) -> Option<wire::Files> {
         match self {
-            Kept::File(files) => Some(files.sizes()),
+            Kept::File(file) => Some(file.sizes()),
             _ => None,
         }
     }
 
-    /// Returns how the saving in the files is going, if there are any.
+    /// Returns how the saving in the file is going, if there is one.
     pub fn hang(&self) -> Option<&Hang> {
         match self {
-            Kept::File(files) => Some(&files.hang),
+            Kept::File(file) => Some(&file.hang),
             _ => None,
         }
     }
@@ -285,11 +280,11 @@ impl Kept {
     pub fn trouble(&self) -> Option<String> {
         match self {
             Kept::Memory(_) => None,
-            Kept::File(files) => {
-                let failure = files.failure().map(|error| error.to_string());
-                let failure = failure.or_else(|| files.check_files().err().map(|error| error.to_string()));
-                let failure = failure.or_else(|| files.hang.trouble());
-                failure.or_else(|| files.disk.trouble())
+            Kept::File(file) => {
+                let failure = file.saved.failure().map(|error| error.to_string());
+                let failure = failure.or_else(|| file.saved.check_file().err().map(|error| error.to_string()));
+                let failure = failure.or_else(|| file.hang.trouble());
+                failure.or_else(|| file.disk.trouble())
             }
             #[cfg(feature = "log")]
             Kept::Log(log) => log.trouble(),
@@ -298,15 +293,15 @@ impl Kept {
 
     /// Ends the server if a commit has failed, since memory then has writes that the file lacks.
     pub fn end_if_failed(&self) {
-        if let Kept::File(files) = self {
-            files.end_if_failed();
+        if let Kept::File(file) = self {
+            file.end_if_failed();
         }
     }
 
-    /// Starts compacting the files, if compaction is due.
+    /// Starts compacting the file, if compaction is due.
     pub fn compact_if_due(&self) {
-        if let Kept::File(files) = self {
-            files.compact_if_due();
+        if let Kept::File(file) = self {
+            file.compact_if_due();
         }
     }
 
@@ -314,7 +309,7 @@ impl Kept {
     pub fn flush_if_each(&self) -> Result<(), Failure> {
         match self {
             Kept::Memory(_) => Ok(()),
-            Kept::File(files) if !files.each => Ok(()),
+            Kept::File(file) if !file.each => Ok(()),
             _ => self.flush(),
         }
     }
@@ -322,7 +317,7 @@ impl Kept {
     pub fn flush(&self) -> Result<(), Failure> {
         match self {
             Kept::Memory(_) => Err(not_kept()),
-            Kept::File(files) => files.checked(files.saved.flush()),
+            Kept::File(file) => file.checked(file.saved.flush()),
             #[cfg(feature = "log")]
             Kept::Log(log) => Ok(log.flush()?),
         }
@@ -331,9 +326,19 @@ impl Kept {
     pub fn compact(&self) -> Result<(), Failure> {
         match self {
             Kept::Memory(_) => Err(not_kept()),
-            Kept::File(files) => files.checked(files.saved.compact()),
+            Kept::File(file) => file.checked(file.saved.compact()),
             #[cfg(feature = "log")]
             Kept::Log(log) => Ok(log.compact()?),
+        }
+    }
+
+    /// Gives the contents of a state to the store, if nobody has ever written to it. Returns the commit number.
+    pub fn restore(&self, batches: &[Vec<u8>], next: u64) -> Result<u64, Failure> {
+        match self {
+            Kept::Memory(store) => Ok(store.begin_with(batches, next)?),
+            Kept::File(file) => file.checked(file.saved.begin_with(batches, next)),
+            #[cfg(feature = "log")]
+            Kept::Log(log) => log.restore(batches, next),
         }
     }
 
@@ -361,11 +366,11 @@ impl Kept {
         }
     }
 
-    /// Saves all writes, and closes the files.
+    /// Saves all writes, and closes the file.
     pub fn finish(&self) -> Result<(), Box<dyn Error>> {
         match self {
             Kept::Memory(_) => Ok(()),
-            Kept::File(files) => Ok(files.finish()?),
+            Kept::File(file) => Ok(file.finish()?),
             #[cfg(feature = "log")]
             Kept::Log(log) => Ok(log.finish()?),
         }
@@ -376,47 +381,22 @@ fn not_kept() -> Failure {
     Failure::named(ErrorName::NotKept)
 }
 
-/// Reports files that are empty because their WALs weren't copied with them.
-fn report_lone_files(saved: &SavedShelf, path: &Path) {
-    let files = saved::files_of(path, saved.volumes().len() as u32);
-    for (_, file) in saved
-        .volumes()
-        .iter()
-        .zip(files)
-        .filter(|(volume, _)| volume.lacks_wal())
-    {
-        report!(
-            "bestored: {0}: the store is empty, but this file seems to be a copy of one in use, without its -wal; to copy a store, use \
-             be backup, or copy {0}-wal and {0}-last too",
-            file.display()
-        );
-    }
+/// Reports a file that is empty because its WAL wasn't copied with it.
+fn report_lone_file(path: &Path) {
+    report!(
+        "bestored: {0}: the store is empty, but this file seems to be a copy of one in use, without its -wal; to copy a store, use be \
+         backup, or copy {0}-wal and {0}-last too",
+        path.display()
+    );
 }
 
-/// Adds the tokens that were found in the volumes' files.
-fn add_tokens(found: Vec<Vec<saved::Token>>, tokens: &Tokens) {
-    let count = found.len();
-    for (volume, of_volume) in (0..).zip(found) {
-        for token in of_volume {
-            let written = Written {
-                number: token.commit,
-                nodes: token.nodes,
-            };
-            let volume = (count > 1).then_some(volume);
-            tokens.add(token.text.into(), volumes::shown(volume, &written));
-        }
-    }
-}
-
-/// Opens the file of a single volume, or the folder of several volumes.
-fn open_files(options: &Options, path: &Path) -> saved::Result<SavedShelf> {
-    let mut opened = saved::Options::new();
-    opened.limits(options.limits());
-    if let Some(time) = options.every {
-        opened.every(time);
-    }
-    match options.volumes {
-        None | Some(1) if !path.is_dir() => SavedShelf::of_volumes(vec![opened.open(path)?]),
-        volumes => opened.open_shelf(path, volumes),
+/// Adds the tokens that were found in the file.
+fn add_tokens(found: Vec<saved::Token>, tokens: &Tokens) {
+    for token in found {
+        let written = Written {
+            number: token.commit,
+            nodes: token.nodes,
+        };
+        tokens.add(token.text.into(), shown(&written));
     }
 }

@@ -43,7 +43,6 @@ mod server;
 mod socket;
 mod text;
 mod tokens;
-mod volumes;
 mod watcher;
 mod writes;
 
@@ -126,7 +125,7 @@ fn place(options: &Options) -> Result<Place, Box<dyn Error>> {
     }
 }
 
-/// Opens the volumes, and serves clients until a signal ends the program.
+/// Opens the store, and serves clients until a signal ends the program.
 fn serve(mut options: Options, place: Place, starter: Option<Starter>) -> Result<(), Box<dyn Error>> {
     let signals = os::ending_signals()?;
     let mut notifier = Notifier::of_environment();
@@ -142,7 +141,7 @@ fn serve(mut options: Options, place: Place, starter: Option<Starter>) -> Result
     Ok(())
 }
 
-/// Opens the volumes, and serves clients until a signal ends the program, or until the server has to begin again. In that case,
+/// Opens the store, and serves clients until a signal ends the program, or until the server has to begin again. In that case,
 /// returns the socket.
 fn serve_once(
     options: &Options,
@@ -166,8 +165,7 @@ fn serve_once(
         None => return Ok(None),
     };
     if let Some(bytes) = options.journal {
-        let stores = kept.shelf().volumes().iter();
-        stores.for_each(|store| store.set_due_after(bytes));
+        kept.store().set_due_after(bytes);
     }
     let own = kept.pass()?;
     let shared = share(kept, tokens, run, options.clone())?;

@@ -1,6 +1,6 @@
 //! The command-line options.
 
-use bestore::{Limits, MOST_VOLUMES};
+use bestore::Limits;
 use bestore_client::SocketPath;
 use clap::{value_parser, Arg, ArgAction, ArgGroup, Command};
 use std::path::PathBuf;
@@ -42,11 +42,10 @@ pub struct Options {
     pub spare: u64,
     /// The shared log, if the server uses one.
     pub log: Option<InLog>,
-    pub volumes: Option<u32>,
     pub pages: u64,
     pub passes: u64,
     pub commits: u64,
-    /// If given, how many bytes of entries a volume's journal may hold before its memory is freed.
+    /// If given, how many bytes of entries the journal may hold before its memory is freed.
     pub journal: Option<u64>,
     pub hold: Duration,
     /// The time after which a request is reported as slow.
@@ -85,7 +84,7 @@ fn command() -> Command {
                 .action(ArgAction::SetTrue)
                 .help("Returns once the server is listening in the background"),
         )
-        .arg(path("keep", "FILE").help("The file that stores the writes, or the folder if there are several volumes"))
+        .arg(path("keep", "FILE").help("The file that stores the writes"))
         .arg(
             Arg::new("every")
                 .long("every")
@@ -102,34 +101,24 @@ fn command() -> Command {
                 .requires("keep")
                 .help("Writes stop while the file's disk has less than this free; 1024 by default"),
         )
-        .arg(url("log", &["keep", "follow", "volumes"]).help("Leads a log in PostgreSQL that several machines share"))
-        .arg(url("follow", &["keep", "volumes"]).help("Follows such a log, and takes over when no server leads it"))
+        .arg(url("log", &["keep", "follow"]).help("Leads a log in PostgreSQL that several machines share"))
+        .arg(url("follow", &["keep"]).help("Follows such a log, and takes over when no server leads it"))
         .group(ArgGroup::new("database").args(["log", "follow"]))
         .arg(path("passfile", "FILE").requires("database").help(
             "The password for PostgreSQL, in a line as in .pgpass; otherwise $PGPASSWORD, $PGPASSFILE or ~/.pgpass",
         ))
-        .arg(
-            Arg::new("volumes")
-                .long("volumes")
-                .value_name("N")
-                .value_parser(value_parser!(u32).range(1..=i64::from(MOST_VOLUMES)))
-                .help("The number of volumes, which each query searches; by default as many as the folder has, or 1"),
-        )
-        .arg(
-            number("pages", "N", 8..=16_777_216, "16384")
-                .help("Pages of 4 KiB in each volume, which take memory once they are used"),
-        )
+        .arg(number("pages", "N", 8..=16_777_216, "16384").help("Pages of 4 KiB, which take memory once they are used"))
         .arg(number("passes", "N", 1..=61, "61").help("How many clients may be connected at the same time"))
         .arg(
             number("commits", "N", 1..=u32::MAX.into(), "4294967295")
-                .help("How many entries each volume's journal may have in all"),
+                .help("How many entries the journal may have in all"),
         )
         .arg(
             Arg::new("journal")
                 .long("journal")
                 .value_name("KIB")
                 .value_parser(value_parser!(u64).range(1..=1 << 30))
-                .help("Memory for the entries of a volume; by default half the size of its pages, but at least 1024"),
+                .help("Memory for the journal's entries; by default half the size of the pages, but at least 1024"),
         )
         .arg(
             Arg::new("slow")
@@ -161,7 +150,6 @@ impl Options {
             every: read.get_one("every").copied().map(Duration::from_millis),
             spare: read.get_one::<u64>("spare").map_or(SPARE, |kib| kib << 10),
             log,
-            volumes: read.get_one("volumes").copied(),
             pages: number("pages"),
             passes: number("passes").min(most),
             commits: number("commits"),
@@ -172,7 +160,7 @@ impl Options {
         }
     }
 
-    /// Returns the limits of each volume.
+    /// Returns the store's limits.
     pub fn limits(&self) -> Limits {
         Limits {
             pages: self.pages,
@@ -216,8 +204,6 @@ mod tests {
             ["--journal", "0"],
             ["--passfile", "FILE"],
             ["--slow", "3600001"],
-            ["--volumes", "0"],
-            ["--volumes", "65"],
         ]);
     }
 
@@ -227,8 +213,6 @@ mod tests {
             ["--log=a", "--keep=b"],
             ["--follow=a", "--keep=b"],
             ["--log=a", "--follow=b"],
-            ["--log=a", "--volumes=2"],
-            ["--follow=a", "--volumes=1"],
         ]);
     }
 }

@@ -4,7 +4,7 @@ use crate::answer::View;
 use crate::failure::Failure;
 use crate::memory;
 use crate::watcher;
-use bestore::{ShelfSnapshot, State};
+use bestore::{Listing, Snapshot};
 use bestore_client::wire::{self, Json, ShownOperations};
 
 /// How many bytes of JSON a page may hold. Its last item may exceed this limit.
@@ -43,7 +43,7 @@ impl Room {
 
 /// Returns each node's values in these columns, for as many nodes as fit on the page.
 pub fn rows_of(
-    snapshot: &ShelfSnapshot<'_>,
+    snapshot: &Snapshot<'_>,
     nodes: &[u64],
     columns: &wire::Columns<'_>,
     room: &mut Room,
@@ -66,51 +66,40 @@ pub fn rows_of(
     Ok(rows)
 }
 
-/// Returns the numbers of the volumes' snapshots, if there are several.
-pub fn commits(snapshot: &ShelfSnapshot<'_>) -> Vec<u64> {
-    match snapshot.volumes() {
-        [_] => Vec::new(),
-        _ => snapshot.numbers().collect(),
-    }
-}
-
-/// Returns the volume that a request names. If there are several volumes, the request must name one.
-pub fn volume(asked: Option<u32>, volumes: usize) -> Result<u32, Failure> {
-    match asked {
-        None if volumes > 1 => Err(Failure::volume_missing(volumes)),
-        asked => Ok(asked.unwrap_or(0)),
-    }
+/// Returns the snapshot's number, and the number that the next new node gets.
+pub fn next(snapshot: &Snapshot<'_>) -> Result<wire::Next, Failure> {
+    Ok(wire::Next {
+        commit: snapshot.number(),
+        next: snapshot.next_node()?,
+    })
 }
 
 /// Returns a page of the nodes.
-pub fn nodes(snapshot: &ShelfSnapshot<'_>, from: &wire::NodesFrom) -> Result<wire::Nodes, Failure> {
+pub fn nodes(snapshot: &Snapshot<'_>, from: &wire::NodesFrom) -> Result<wire::Nodes, Failure> {
     let room = Room::new(from.limit);
     let mut listed = snapshot.nodes_from(from.from);
     let nodes = listed.by_ref().take(room.nodes).collect::<Result<_, _>>()?;
     Ok(wire::Nodes {
         commit: snapshot.number(),
-        commits: commits(snapshot),
         nodes,
         more: listed.next().transpose()?,
     })
 }
 
-/// Returns a page of a volume's journal.
+/// Returns a page of the journal.
 pub fn journal(view: &View<'_, '_>, from: &wire::JournalFrom) -> Result<wire::Journal, Failure> {
-    let volume = volume(from.volume, view.volumes())?;
-    let pass = view.pass(volume)?;
+    let pass = view.pass();
     let mut room = Room::new(from.limit);
     let mut page = wire::Journal::default();
     let mut next = from.from;
     for entry in pass.journal_from(from.from).take(room.nodes) {
         let entry = entry?;
-        let batch = entry.batch.of_volume(volume);
-        let length = ShownOperations(&batch).length();
+        let length = ShownOperations(&entry.batch).length();
         next = entry.number;
         page.entries.push(wire::JournalEntry {
             commit: entry.number,
             pass: entry.pass,
-            operations: batch.into(),
+            operations: entry.batch.into(),
         });
         if !room.take(64 + length)? {
             break;
@@ -125,45 +114,46 @@ pub fn journal(view: &View<'_, '_>, from: &wire::JournalFrom) -> Result<wire::Jo
     Ok(page)
 }
 
-/// A position in a volume's batches: the index of the next batch to read.
-#[derive(Debug)]
-pub struct Reading<'s> {
-    volume: u32,
-    next: u64,
-    batches: State<'s>,
+/// Takes up the space of a state's batch, in base64.
+pub fn take_batch(room: &mut Room, batch: &[u8]) -> Result<bool, Failure> {
+    room.take(4 + batch.len() / 3 * 4)
 }
 
-/// Returns a page of the batches that rebuild a volume's snapshot. `read` remembers how far they have been read.
+/// A position in a snapshot's batches: the index of the next batch to read.
+#[derive(Debug)]
+pub struct Reading<'s> {
+    next: u64,
+    batches: Listing<'s>,
+}
+
+/// Returns a page of the batches that list a snapshot's contents, from index `from` on. `read` remembers how far they have been read.
 pub fn state<'s>(
-    snapshot: &'s ShelfSnapshot<'_>,
+    snapshot: &'s Snapshot<'_>,
     read: &mut Option<Reading<'s>>,
-    from: &wire::From,
+    from: u64,
 ) -> Result<wire::State, Failure> {
-    let volume = volume(from.volume, snapshot.volumes().len())?;
-    let of_volume = snapshot.volume(volume)?;
     let mut reading = match read.take() {
-        Some(reading) if reading.volume == volume && reading.next <= from.from => reading,
+        Some(reading) if reading.next <= from => reading,
         _ => Reading {
-            volume,
             next: 0,
-            batches: of_volume.state(),
+            batches: snapshot.listing(),
         },
     };
-    let mut room = Room::new(None);
+    let wire::Next { commit, next } = self::next(snapshot)?;
     let mut page = wire::State {
-        commit: of_volume.number(),
-        next: snapshot.next_node(volume)?,
+        commit,
+        next,
         ..wire::State::default()
     };
+    let mut room = Room::new(None);
     while let Some(batch) = reading.batches.next().transpose()? {
         reading.next += 1;
-        if reading.next <= from.from {
+        if reading.next <= from {
             continue;
         }
-        let batch = batch.of_volume(volume);
-        let length = ShownOperations(&batch).length();
-        page.batches.push(batch.into());
-        if !room.take(8 + length)? {
+        let has_room = take_batch(&mut room, &batch)?;
+        page.batches.push(batch);
+        if !has_room {
             page.more = Some(reading.next);
             *read = Some(reading);
             break;

@@ -70,28 +70,13 @@ impl Pressure {
         batch: &Batch,
         mut made: impl FnMut(&Written),
     ) -> Result<Written> {
-        self.with_pages(|_| Ok(pass), || pass.apply_with(expected, batch, &mut made))
-    }
-
-    /// Makes a write. While other clients' snapshots hold the pages that it needs, retries for a limited time. `pass_in` returns
-    /// the writing pass of the volume that an error names.
-    pub fn with_pages<'p, T>(
-        &self,
-        pass_in: impl Fn(u32) -> Result<&'p Pass>,
-        mut write: impl FnMut() -> Result<T>,
-    ) -> Result<T> {
         let (mut until, mut is_last, mut pause) = (None, false, FIRST_TRY);
         loop {
-            let error = match write() {
-                Err(error) => error,
+            let (error, oldest) = match pass.apply_with(expected, batch, &mut made) {
+                Err(error @ Error::Full { oldest }) => (error, oldest),
                 written => return written,
             };
-            let oldest = match full(&error) {
-                Some(oldest) => oldest,
-                None => return Err(error),
-            };
             let until = *until.get_or_insert_with(|| Instant::now() + self.wait);
-            let pass = pass_in(error.volume().unwrap_or(0))?;
             let status = pass.status()?;
             if is_last || !status.may_free_pages(pass.number()?, oldest) {
                 return Err(error);
@@ -104,15 +89,6 @@ impl Pressure {
                 pause = TRY.min(2 * pause);
             }
         }
-    }
-}
-
-/// Returns the oldest snapshot that was read when a write found no page, or `None` if the error is another one.
-fn full(error: &Error) -> Option<u64> {
-    match error {
-        Error::Full { oldest } => Some(*oldest),
-        Error::InVolume { error, .. } => full(error),
-        _ => None,
     }
 }
 

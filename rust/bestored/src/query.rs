@@ -1,8 +1,8 @@
 //! Answers `query` requests with a count, nodes by number, nodes in the order of an index, or any nodes.
 
 use crate::failure::Failure;
-use crate::page::{commits, rows_of, Room};
-use bestore::{Cursor, Error, Order, Prepared, ShelfSnapshot};
+use crate::page::{rows_of, Room};
+use bestore::{Cursor, Error, Order, Prepared, Snapshot};
 use bestore_client::wire::{self, NODES};
 use serde::Serialize;
 use std::collections::VecDeque;
@@ -23,10 +23,10 @@ struct Parsed {
     next: Option<Count>,
 }
 
-/// How many nodes numbered `from` or higher a query finds, in the snapshot with these numbers.
+/// How many nodes numbered `from` or higher a query finds, in the snapshot with this number.
 #[derive(Debug)]
 struct Count {
-    numbers: Vec<u64>,
+    commit: u64,
     from: u64,
     count: u64,
 }
@@ -55,7 +55,7 @@ enum Form<'q> {
 
 impl Queries {
     /// Answers a request.
-    pub fn answer(&mut self, snapshot: &ShelfSnapshot<'_>, query: &wire::Query<'_>) -> Result<Answer, Failure> {
+    pub fn answer(&mut self, snapshot: &Snapshot<'_>, query: &wire::Query<'_>) -> Result<Answer, Failure> {
         let form = form_of(query)?;
         let parsed = self.parsed(&query.query)?;
         match form {
@@ -137,39 +137,25 @@ fn most_of(name: &str, nodes: u64) -> Result<usize, Failure> {
     }
 }
 
-/// Returns whether the error is about the query, and not, for example, about a page's order or cursor.
-fn is_of_query(error: &Error) -> bool {
-    match error {
-        Error::Query(_) => true,
-        Error::InVolume { error, .. } => is_of_query(error),
-        _ => false,
-    }
-}
-
 impl Parsed {
     /// Runs the query. If the indices don't cover it, the error says where in its text.
-    fn ask<T>(
-        &self,
-        snapshot: &ShelfSnapshot<'_>,
-        ask: impl FnOnce(&Prepared) -> Result<T, Error>,
-    ) -> Result<T, Failure> {
-        ask(&self.prepared).map_err(|error| match is_of_query(&error) {
-            true => snapshot.explain(&self.text).err().unwrap_or(error).into(),
-            false => error.into(),
+    fn ask<T>(&self, snapshot: &Snapshot<'_>, ask: impl FnOnce(&Prepared) -> Result<T, Error>) -> Result<T, Failure> {
+        ask(&self.prepared).map_err(|error| match error {
+            Error::Query(_) => snapshot.explain(&self.text).err().unwrap_or(error).into(),
+            error => error.into(),
         })
     }
 
-    fn count(&self, snapshot: &ShelfSnapshot<'_>, query: &wire::Query<'_>) -> Result<wire::Hits, Failure> {
+    fn count(&self, snapshot: &Snapshot<'_>, query: &wire::Query<'_>) -> Result<wire::Hits, Failure> {
         Ok(wire::Hits {
             commit: snapshot.number(),
-            commits: commits(snapshot),
             count: Some(self.count_from(snapshot, query.from)?),
             ..wire::Hits::default()
         })
     }
 
     /// Returns how many of the nodes that the query finds have this number or a higher one.
-    fn count_from(&self, snapshot: &ShelfSnapshot<'_>, from: u64) -> Result<u64, Failure> {
+    fn count_from(&self, snapshot: &Snapshot<'_>, from: u64) -> Result<u64, Failure> {
         if from == 0 {
             return self.ask(snapshot, |prepared| snapshot.count_prepared(prepared));
         }
@@ -177,7 +163,7 @@ impl Parsed {
         Ok((found.len() - found.partition_point(|node| *node < from)) as u64)
     }
 
-    fn by_number(&mut self, snapshot: &ShelfSnapshot<'_>, query: &wire::Query<'_>) -> Result<wire::Hits, Failure> {
+    fn by_number(&mut self, snapshot: &Snapshot<'_>, query: &wire::Query<'_>) -> Result<wire::Hits, Failure> {
         let mut room = Room::new(query.limit);
         let is_whole = query.limit.is_none() && query.from == 0;
         let mut found = self.first(snapshot, query.from, (!is_whole).then_some(room.nodes + 1))?;
@@ -186,7 +172,6 @@ impl Parsed {
         found.truncate(room.nodes);
         let mut hits = wire::Hits {
             commit: snapshot.number(),
-            commits: commits(snapshot),
             ..wire::Hits::default()
         };
         if let Some(columns) = &query.columns {
@@ -205,7 +190,7 @@ impl Parsed {
     }
 
     /// Returns the nodes that the query finds from number `from` on: the first `most` of them, or all.
-    fn first(&self, snapshot: &ShelfSnapshot<'_>, from: u64, most: Option<usize>) -> Result<Vec<u64>, Failure> {
+    fn first(&self, snapshot: &Snapshot<'_>, from: u64, most: Option<usize>) -> Result<Vec<u64>, Failure> {
         if let Some(most) = most {
             return self.ask(snapshot, |prepared| snapshot.first_prepared(prepared, from, most));
         }
@@ -218,7 +203,7 @@ impl Parsed {
     /// page begins at `more`. `whole` is the count, if it is already known because the whole answer was read.
     fn count_of_page(
         &mut self,
-        snapshot: &ShelfSnapshot<'_>,
+        snapshot: &Snapshot<'_>,
         from: u64,
         page: u64,
         more: Option<u64>,
@@ -228,17 +213,17 @@ impl Parsed {
             Some(next) => next,
             None => return Ok(page),
         };
-        let numbers: Vec<u64> = snapshot.numbers().collect();
+        let commit = snapshot.number();
         let known = self
             .next
             .take()
-            .filter(|next| next.from == from && next.numbers == numbers);
+            .filter(|next| next.from == from && next.commit == commit);
         let count = match whole.or(known.map(|next| next.count)) {
             Some(count) => count,
             None => self.count_from(snapshot, from)?,
         };
         self.next = Some(Count {
-            numbers,
+            commit,
             from: next,
             count: count - page,
         });
@@ -247,7 +232,7 @@ impl Parsed {
 
     fn in_order(
         &self,
-        snapshot: &ShelfSnapshot<'_>,
+        snapshot: &Snapshot<'_>,
         query: &wire::Query<'_>,
         order: &Order,
         after: Option<&str>,
@@ -270,7 +255,6 @@ impl Parsed {
         }
         Ok(wire::Page {
             commit: snapshot.number(),
-            commits: commits(snapshot),
             nodes: page.nodes,
             rows,
             more: page.more,
@@ -278,11 +262,10 @@ impl Parsed {
         })
     }
 
-    fn any(&self, snapshot: &ShelfSnapshot<'_>, query: &wire::Query<'_>, most: usize) -> Result<wire::Page, Failure> {
+    fn any(&self, snapshot: &Snapshot<'_>, query: &wire::Query<'_>, most: usize) -> Result<wire::Page, Failure> {
         let nodes = self.ask(snapshot, |prepared| snapshot.any_prepared(prepared, most))?;
         let mut page = wire::Page {
             commit: snapshot.number(),
-            commits: commits(snapshot),
             nodes,
             ..wire::Page::default()
         };

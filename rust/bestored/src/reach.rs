@@ -4,38 +4,36 @@ use crate::answer::View;
 use crate::clients::Client;
 use crate::failure::Failure;
 use crate::pressure::Pressure;
-use bestore_client::wire::{self, ErrorName, Numbers};
+use bestore_client::wire::{self, ErrorName};
 use std::time::{Duration, Instant};
 
 /// The default and the maximum time to wait.
 const WITHIN: Duration = Duration::from_secs(5);
 const MOST: Duration = Duration::from_secs(60);
 
-/// How often to check the journals.
+/// How often to check the journal.
 const LOOK: Duration = Duration::from_millis(2);
 
-/// Waits until each volume has the entry with the number requested for it. Later reads of the current snapshot include these
-/// entries. If a snapshot is pinned, the wait ends when it has to be unpinned. It also ends when the client's connection is closed.
+/// Waits until the journal has the requested number of entries. Later reads of the current snapshot include them. If a snapshot is pinned,
+/// the wait ends when it has to be unpinned. It also ends when the client's connection is closed.
 pub fn reach(
     view: &mut View<'_, '_>,
     pressure: &Pressure,
     client: &Client,
     reach: &wire::Reach,
 ) -> Result<wire::Commit, Failure> {
-    let wanted = numbers(&reach.commit, view.volumes())?;
+    let wanted = reach.commit;
     let until = Instant::now() + within(reach.within)?;
     let since = view.since();
     let is_over = || Instant::now() >= until || since.map_or(false, |since| pressure.is_over(since));
     loop {
-        let found: Vec<u64> = view.status()?.iter().map(|status| status.entries).collect();
-        if wanted.iter().zip(&found).all(|(wanted, found)| wanted <= found) {
-            return Ok(wire::Commit {
-                commit: found.iter().sum(),
-                commits: wire::several(&found),
-            });
+        let found = view.pass().status()?.entries;
+        if wanted <= found {
+            return Ok(wire::Commit { commit: found });
         }
         if is_over() || client.is_gone_within(LOOK) {
-            return Err(not_reached(&wanted, &found));
+            let failure = Failure::named(ErrorName::NotReached);
+            return Err(failure.with("expected", wanted).with("found", found));
         }
         view.follow(client);
     }
@@ -50,22 +48,5 @@ pub fn within(milliseconds: Option<u64>) -> Result<Duration, Failure> {
             time.as_millis(),
             MOST.as_millis()
         ))),
-    }
-}
-
-/// Returns the requested commit number for each volume.
-fn numbers(commit: &Numbers, volumes: usize) -> Result<Vec<u64>, Failure> {
-    match commit {
-        Numbers::One(number) if volumes == 1 => Ok(vec![*number]),
-        Numbers::Each(numbers) if numbers.len() == volumes => Ok(numbers.clone()),
-        _ => Err(Failure::numbers(volumes)),
-    }
-}
-
-fn not_reached(wanted: &[u64], found: &[u64]) -> Failure {
-    let failure = Failure::named(ErrorName::NotReached);
-    match (wanted, found) {
-        ([wanted], [found]) => failure.with("expected", *wanted).with("found", *found),
-        _ => failure.with("expected", wanted.to_vec()).with("found", found.to_vec()),
     }
 }

@@ -19,7 +19,7 @@ use crate::pressure::{self, Pressure};
 use crate::socket::Socket;
 use crate::tokens::Tokens;
 use crate::watcher::Watcher;
-use bestore::{Error, ShelfPass};
+use bestore::{Error, Pass};
 use bestore_client::socket::{peer_process, peer_user, user};
 use bestore_client::wire::{Command, ErrorName, Greeting, Request};
 use std::fs::File;
@@ -88,7 +88,7 @@ pub struct Shared {
     pub is_foreign: Seldom,
     pub no_thread: Seldom,
     /// The pass for clients that can't get another. Each of them may use it for a short time.
-    pub visits: Mutex<ShelfPass>,
+    pub visits: Mutex<Pass>,
     /// A string that is different for each run.
     pub run: String,
 }
@@ -100,7 +100,7 @@ pub fn run(
     notifier: &mut Notifier,
     signals: &File,
     shared: Shared,
-    own: ShelfPass,
+    own: Pass,
 ) -> Result<Option<Socket>, Box<dyn std::error::Error>> {
     let shared = Arc::new(shared);
     kept::start(&shared)?;
@@ -287,7 +287,7 @@ fn serve(shared: &Shared, client: &Client, stream: Arc<UnixStream>) {
     }
 }
 
-fn talk(shared: &Shared, client: &Client, stream: Arc<UnixStream>, pass: &mut ShelfPass, is_visit: bool) {
+fn talk(shared: &Shared, client: &Client, stream: Arc<UnixStream>, pass: &mut Pass, is_visit: bool) {
     // An error ends the connection, so there is no one left to report it to.
     let _ = Connection::new(shared, client, stream, is_visit).run(pass);
 }
@@ -304,10 +304,10 @@ fn is_visit(stream: &UnixStream) -> bool {
     )
 }
 
-fn take_pass(shared: &Shared) -> bestore::Result<ShelfPass> {
+fn take_pass(shared: &Shared) -> bestore::Result<Pass> {
     let until = Instant::now() + FOR_PASS;
     loop {
-        match shared.kept.pass().map_err(Error::without_volume) {
+        match shared.kept.pass() {
             Err(Error::NoPass) if Instant::now() < until => thread::sleep(AGAIN),
             answer => {
                 let mut pass = answer?;
@@ -319,7 +319,7 @@ fn take_pass(shared: &Shared) -> bestore::Result<ShelfPass> {
 }
 
 /// Takes the visitors' pass once it is free. Returns `None` if that takes too long.
-fn take_visit(shared: &Shared) -> Option<MutexGuard<'_, ShelfPass>> {
+fn take_visit(shared: &Shared) -> Option<MutexGuard<'_, Pass>> {
     let until = Instant::now() + FOR_VISIT;
     loop {
         match shared.visits.try_lock() {

@@ -3,7 +3,7 @@
 
 use bestore::saved::TOKENS;
 use bestore_client::wire::Written;
-use std::collections::{BTreeMap, HashMap, VecDeque};
+use std::collections::{HashMap, VecDeque};
 use std::sync::{Arc, Condvar, Mutex, MutexGuard, PoisonError};
 
 /// What the server knows about the write that has a token.
@@ -18,11 +18,11 @@ enum Known {
 #[derive(Debug, Default)]
 struct Table {
     known: HashMap<Arc<str>, Known>,
-    /// For each volume, the tokens of the writes that were made there, oldest first.
-    made: BTreeMap<Option<u32>, VecDeque<Arc<str>>>,
+    /// The tokens of the writes that were made, oldest first.
+    made: VecDeque<Arc<str>>,
 }
 
-/// The tokens of the most recent writes that had one: 65,536 in each volume.
+/// The tokens of the last 65,536 writes that had one.
 #[derive(Debug, Default)]
 pub struct Tokens {
     table: Mutex<Table>,
@@ -77,7 +77,6 @@ impl Tokens {
     pub fn add(&self, token: Arc<str>, written: Written) {
         let mut table = self.lock();
         let Table { known, made } = &mut *table;
-        let made = made.entry(written.volume).or_default();
         if let Some(Known::Made(_)) = known.insert(token.clone(), Known::Made(written)) {
             return;
         }
@@ -160,20 +159,6 @@ mod tests {
         assert_eq!(commit_of(&tokens, "0"), None);
         assert_eq!(commit_of(&tokens, "1"), Some(1));
         assert_eq!(commit_of(&tokens, "65536"), Some(65_536));
-    }
-
-    #[test]
-    fn writes_to_one_volume_are_known_however_many_others_have() {
-        let tokens = Tokens::default();
-        let in_volume = |volume| Written {
-            volume: Some(volume),
-            ..Written::default()
-        };
-        tokens.add("a".into(), in_volume(1));
-        for number in 0..3 * TOKENS {
-            tokens.add(number.to_string().into(), in_volume(0));
-        }
-        assert_eq!(tokens.made("a"), Some(in_volume(1)));
     }
 
     #[test]

@@ -10,7 +10,7 @@ use crate::memory;
 use crate::outbox::{Outbox, Pusher};
 use crate::pressure::Pressure;
 use crate::server::Seldom;
-use bestore::{Error, ShelfLive, ShelfPass, ShelfSnapshot, Updates};
+use bestore::{Error, Live, Pass, Snapshot, Updates};
 use bestore_client::wire::{self, Push, Refusal};
 use std::sync::atomic::{fence, AtomicUsize, Ordering};
 use std::sync::{Arc, Condvar, Mutex, MutexGuard, PoisonError};
@@ -35,9 +35,9 @@ fn lock<T>(mutex: &Mutex<T>) -> MutexGuard<'_, T> {
 pub struct Watch {
     pub number: u64,
     /// The query, or `None` if the watch pushes every commit.
-    pub live: Option<ShelfLive>,
-    /// For each volume, the number of the snapshot that the changes found so far lead to.
-    pub numbers: Vec<u64>,
+    pub live: Option<Live>,
+    /// The number of the snapshot that the changes found so far lead to.
+    pub commit: u64,
     /// The changes that haven't been pushed yet.
     pub rest: Updates,
     /// Whether all changes that were found have been pushed.
@@ -47,12 +47,12 @@ pub struct Watch {
 }
 
 impl Watch {
-    /// Creates a watch. The client already has the query's answer in the snapshot with these numbers, except for `rest`.
-    pub fn new(number: u64, live: Option<ShelfLive>, numbers: Vec<u64>, rest: Updates) -> Self {
+    /// Creates a watch. The client already has the query's answer in the snapshot with this number, except for `rest`.
+    pub fn new(number: u64, live: Option<Live>, commit: u64, rest: Updates) -> Self {
         Self {
             number,
             live,
-            numbers,
+            commit,
             is_pushed: rest.created.is_empty(),
             rest,
             failed: None,
@@ -60,20 +60,10 @@ impl Watch {
         }
     }
 
-    /// Returns whether the snapshot is newer than the changes found so far. If it is older in some volume, it was pinned before
-    /// the watch began, and adding the watch has already started another round.
-    fn is_behind(&self, snapshot: &ShelfSnapshot<'_>) -> bool {
-        let mut both = self.numbers.iter().copied().zip(snapshot.numbers());
-        both.all(|(own, now)| own <= now) && snapshot.number() > self.commit()
-    }
-
-    /// Returns the sum of the volumes' numbers.
-    fn commit(&self) -> u64 {
-        self.numbers.iter().sum()
-    }
-
-    fn ask(&mut self, snapshot: &ShelfSnapshot<'_>) {
-        if !self.is_pushed || self.is_over || !self.is_behind(snapshot) {
+    /// Runs the query, if the snapshot is newer than the changes found so far. If it is older, it was pinned before the watch began, and
+    /// adding the watch has already started another round.
+    fn ask(&mut self, snapshot: &Snapshot<'_>) {
+        if !self.is_pushed || self.is_over || snapshot.number() <= self.commit {
             return;
         }
         match self.live.as_mut().map(|live| live.refresh_changed(snapshot)) {
@@ -86,7 +76,7 @@ impl Watch {
             Some(Err(Error::OutOfMemory)) => return,
             Some(Err(error)) => self.failed = Some(Failure::from(error).0),
         }
-        self.numbers = snapshot.numbers().collect();
+        self.commit = snapshot.number();
     }
 
     /// Returns whether there is anything to push.
@@ -96,20 +86,19 @@ impl Watch {
 
     /// Runs the query in this snapshot, even if the snapshot is an older one, and returns the changes. If earlier changes haven't
     /// been pushed yet, returns those first, with `more` set. An error leaves the watch unchanged.
-    pub fn refresh(&mut self, snapshot: &ShelfSnapshot<'_>) -> Result<Push, Failure> {
+    pub fn refresh(&mut self, snapshot: &Snapshot<'_>) -> Result<Push, Failure> {
         let is_left = !self.is_pushed;
         if !is_left {
             if let Some(live) = &mut self.live {
                 self.rest = live.refresh_changed(snapshot)?;
             }
             self.is_pushed = self.rest == Updates::default();
-            self.numbers = snapshot.numbers().collect();
+            self.commit = snapshot.number();
             self.failed = None;
         }
         let mut push = self.next_push().unwrap_or_else(|| Push {
             watch: self.number,
-            commit: self.commit(),
-            commits: wire::several(&self.numbers),
+            commit: self.commit,
             ..Push::default()
         });
         push.more |= is_left;
@@ -129,8 +118,7 @@ impl Watch {
         self.is_pushed = !more;
         Some(Push {
             watch: self.number,
-            commit: self.commit(),
-            commits: wire::several(&self.numbers),
+            commit: self.commit,
             created,
             removed,
             more,
@@ -172,7 +160,7 @@ impl Watches {
 
     /// Runs the queries in the current snapshot, switching to a newer one whenever a write is waiting for pages. Returns whether
     /// there is anything to push.
-    fn ask(&self, pass: &mut ShelfPass, pressure: &Pressure) -> bestore::Result<bool> {
+    fn ask(&self, pass: &mut Pass, pressure: &Pressure) -> bestore::Result<bool> {
         let mut list = lock(&self.list);
         let mut left = list.iter_mut().peekable();
         while left.peek().is_some() {
@@ -286,7 +274,7 @@ impl Watcher {
     }
 
     /// Serves the watches until [`end`](Self::end) is called.
-    pub fn run(&self, mut pass: ShelfPass, pressure: &Pressure, kept: &Kept) {
+    pub fn run(&self, mut pass: Pass, pressure: &Pressure, kept: &Kept) {
         self.repeat(|clients| {
             // If this fails, the next round tries again.
             let _ = pass.follow();
@@ -328,7 +316,7 @@ impl Watcher {
 }
 
 /// Serves each client once. Holds no snapshot while it waits for the file or a client. Returns whether anything is left to push.
-fn round(clients: &[Arc<Watches>], pass: &mut ShelfPass, pressure: &Pressure, kept: &Kept, is_stuck: &Seldom) -> bool {
+fn round(clients: &[Arc<Watches>], pass: &mut Pass, pressure: &Pressure, kept: &Kept, is_stuck: &Seldom) -> bool {
     let mut is_left = false;
     for client in clients {
         match client.ask(pass, pressure) {
@@ -362,7 +350,7 @@ mod tests {
     fn watches(watcher: &Watcher) -> Arc<Watches> {
         let (_client, server) = UnixStream::pair().unwrap();
         let watches = Arc::new(Watches::new(Arc::new(Outbox::new(Arc::new(server), PATIENCE))));
-        watcher.add(&watches, Watch::new(1, None, vec![0], Updates::default()));
+        watcher.add(&watches, Watch::new(1, None, 0, Updates::default()));
         watches
     }
 

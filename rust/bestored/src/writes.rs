@@ -4,18 +4,14 @@ use crate::answer::View;
 use crate::failure::Failure;
 use crate::server::Shared;
 use crate::tokens::Begun;
-use crate::volumes;
-use bestore::Error;
-use bestore_client::wire::{self, ErrorName, Numbers, Token};
+use bestore::{Error, Written};
+use bestore_client::wire::{self, ErrorName, Token};
 
 /// Writes a batch, unless a batch with the same token has already been written.
 pub fn write(shared: &Shared, mut write: wire::Write, view: &mut View<'_, '_>) -> Result<wire::Written, Failure> {
     let wire::Operations { batch, count } = &write.operations;
     if *count > batch.len() {
         return Err(Error::BadCount { count: *count }.into());
-    }
-    if write.is_for_all(view.volumes()) {
-        check_for_all(&write)?;
     }
     let mut written = match write.token.take() {
         None => write_now(shared, &write, view, |_| ())?,
@@ -26,18 +22,6 @@ pub fn write(shared: &Shared, mut write: wire::Write, view: &mut View<'_, '_>) -
     };
     written.entry = shared.kept.entry(written.commit);
     Ok(written)
-}
-
-/// Returns an error if a batch that is written to every volume has a parameter that only a batch for one volume can have.
-fn check_for_all(write: &wire::Write) -> Result<(), Failure> {
-    let why = if write.token.is_some() {
-        "a batch that is written to every volume takes no token; it can be sent again without one"
-    } else if write.expected.is_some() {
-        "a batch that is written to every volume takes no `expected`; leave it out, or name a `volume`"
-    } else {
-        return Ok(());
-    };
-    Err(Failure::bad_request(why))
 }
 
 fn write_once(
@@ -71,23 +55,20 @@ fn repeat(shared: &Shared, written: wire::Written) -> Result<wire::Written, Fail
     })
 }
 
-/// Writes a batch. Calls `made` with the reply once the batch is in memory, unless the batch goes to every volume.
+/// Writes a batch. Calls `made` with the reply once the batch is in memory.
 fn write_now(
     shared: &Shared,
     write: &wire::Write,
     view: &mut View<'_, '_>,
-    made: impl FnMut(wire::Written),
+    mut made: impl FnMut(wire::Written),
 ) -> Result<wire::Written, Failure> {
     let measured = shared.meter.begin();
     shared.kept.check_write()?;
     check_run(shared, write, view)?;
-    let written = match write.is_for_all(view.volumes()) {
-        true => {
-            view.on_snapshot(|snapshot| volumes::write_indices(&shared.pressure, snapshot, &write.operations.batch))
-        }
-        false => volumes::write(&shared.pressure, view, write, made),
-    };
-    // Even if a volume refused the batch, others may already have written it.
+    let batch = &write.operations.batch;
+    let made = |written: &Written| made(shown(written));
+    let written = shared.pressure.write(view.pass(), write.expected, batch, made);
+    // A write that couldn't be saved is in memory.
     shared.watcher.written();
     match &written {
         Ok(_) => {
@@ -97,7 +78,29 @@ fn write_now(
         }
         Err(_) => shared.kept.end_if_failed(),
     }
-    written
+    Ok(shown(&written?))
+}
+
+/// Returns the reply for a write.
+pub fn shown(written: &Written) -> wire::Written {
+    wire::Written {
+        commit: written.number,
+        nodes: written.nodes.clone(),
+        ..wire::Written::default()
+    }
+}
+
+/// Gives the contents of a state to the store, if nobody has ever written to it.
+pub fn restore(shared: &Shared, batches: &[Vec<u8>], next: u64) -> Result<wire::Restored, Failure> {
+    shared.kept.check_write()?;
+    let restored = shared.kept.restore(batches, next);
+    shared.watcher.written();
+    let commit = restored.map_err(|failure| {
+        shared.kept.end_if_failed();
+        failure.of_listing()
+    })?;
+    let entry = shared.kept.entry(commit);
+    Ok(wire::Restored { commit, entry })
 }
 
 /// Returns an error if the batch was meant for another run of the server.
@@ -106,12 +109,8 @@ fn check_run(shared: &Shared, write: &wire::Write, view: &View<'_, '_>) -> Resul
         Some(run) if *run != shared.run => {}
         _ => return Ok(()),
     }
-    let expected = match &write.expected {
-        Some(Numbers::One(number)) => *number,
-        Some(Numbers::Each(numbers)) => numbers.iter().fold(0, |sum: u64, number| sum.saturating_add(*number)),
-        None => 0,
-    };
-    let found: u64 = view.status()?.iter().map(|status| status.entries).sum();
+    let expected = write.expected.unwrap_or_default();
+    let found = view.pass().status()?.entries;
     let failure = Failure::new(
         ErrorName::Conflict,
         "the server has been restarted, so commit numbers have started again",

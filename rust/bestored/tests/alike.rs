@@ -3,7 +3,7 @@
 //! `SEED=NUMBER cargo test` repeats that run.
 
 use crate::common::{Folder, Server};
-use bestore::{attribute, Batch, Cursor, Kind, Node, Order, Page, Value};
+use bestore::{attribute, Batch, Cursor, Kind, Order, Page, Value};
 use bestore_client::wire::kind_name;
 use bestore_client::{Client, Error, ErrorName};
 use std::time::SystemTime;
@@ -118,31 +118,20 @@ struct Shop {
     folder: Folder,
     options: Vec<String>,
     server: Server,
-    volumes: u32,
     nodes: Vec<u64>,
 }
 
 impl Shop {
-    fn open(volumes: u32, random: &mut Random) -> Self {
+    fn open(random: &mut Random) -> Self {
         let folder = Folder::in_memory();
         let kept = folder.join("kept").to_str().unwrap().to_owned();
-        let options = [
-            "--pages",
-            "2048",
-            "--volumes",
-            &volumes.to_string(),
-            "--keep",
-            &kept,
-            "--every",
-            "60000",
-        ];
+        let options = ["--pages", "2048", "--keep", &kept, "--every", "60000"];
         let options: Vec<String> = options.iter().map(ToString::to_string).collect();
         let server = Self::serve(&folder, &options);
         let mut shop = Self {
             folder,
             options,
             server,
-            volumes,
             nodes: Vec::new(),
         };
         let mut client = shop.server.client();
@@ -184,8 +173,7 @@ impl Shop {
                 drop(client.apply(&batch));
             }
             _ => {
-                let volume = random.below(self.volumes.into()) as u32;
-                let made = client.apply_in(volume, batch.new_node()).unwrap().nodes[0];
+                let made = client.apply(batch.new_node()).unwrap().nodes[0];
                 let mut batch = Batch::new();
                 set_some(&mut batch, made, random);
                 client.apply(&batch).unwrap();
@@ -271,15 +259,7 @@ fn check_parts(client: &mut Client, text: &str, random: &mut Random) {
 #[test]
 fn pages_are_those_of_the_plain_way() {
     let mut random = Random::begin();
-    let mut shop = Shop::open(1, &mut random);
-    (0..60).for_each(|_| compare(&mut shop, &mut random));
-}
-
-#[test]
-fn pages_of_several_volumes_are_too() {
-    let mut random = Random::begin();
-    let mut shop = Shop::open(3, &mut random);
-    assert!(shop.nodes.iter().any(|node| Node::from(*node).volume == 2));
+    let mut shop = Shop::open(&mut random);
     (0..60).for_each(|_| compare(&mut shop, &mut random));
 }
 
@@ -305,7 +285,7 @@ fn changed(text: &str, random: &mut Random) -> String {
 #[test]
 fn a_changed_cursor_is_refused() {
     let mut random = Random::begin();
-    let shop = Shop::open(1, &mut random);
+    let shop = Shop::open(&mut random);
     let mut client = shop.server.client();
     for (name, _) in indices() {
         let page = client.page("text==*", &Order::by(name), None, 3).unwrap();

@@ -1,12 +1,12 @@
 //! Tests that a server that receives writes for a long time frees its journal's memory while clients keep working.
 
-use crate::common::writers::{state_of, Writers};
+use crate::common::writers::{state_of, Contents, Writers};
 use crate::common::{wait_until, Folder, Random, Server, PATIENCE};
 #[cfg(feature = "log")]
 use crate::log::{database, Member, SOON};
 use crate::repeats::make;
 use bestore::{Batch, Kind};
-use bestore_client::wire::{self, Command, Numbers, Write, Written};
+use bestore_client::wire::{self, Command, Write, Written};
 use bestore_client::{Client, Error, ErrorName};
 use std::process;
 use std::time::{Duration, Instant};
@@ -61,7 +61,7 @@ fn write_on(client: &mut Client) -> u64 {
 fn write_expecting(client: &mut Client, run: &str, expected: u64, batch: &Batch) -> Result<Written, Error> {
     client.call(Command::Batch(Write {
         operations: batch.clone().into(),
-        expected: Some(Numbers::One(expected)),
+        expected: Some(expected),
         run: Some(run.into()),
         ..Write::default()
     }))
@@ -70,7 +70,7 @@ fn write_expecting(client: &mut Client, run: &str, expected: u64, batch: &Batch)
 /// Pins a snapshot with one client, and writes with another until the store has been carried on. The snapshot is pinned anew after
 /// every few writes, since it would otherwise hold too many pages. Returns the pinned state and its number, and the number of the
 /// last write.
-fn pin_and_write_on(reading: &mut Client, writing: &mut Client) -> ((u64, Vec<Batch>), u64, u64) {
+fn pin_and_write_on(reading: &mut Client, writing: &mut Client) -> (Contents, u64, u64) {
     let before = begin(writing);
     loop {
         let pinned = reading.pin().unwrap().commit;
@@ -189,7 +189,9 @@ fn who_rests_keeps_no_memory() {
     let mut writing = server.client();
     writing.apply(Batch::new().new_node()).unwrap();
     let mut resting: Vec<Client> = (0..8).map(|_| server.client()).collect();
-    resting.iter_mut().for_each(|client| drop(client.next_node().unwrap()));
+    for client in &mut resting {
+        client.next_node().unwrap();
+    }
     let mut watching = server.client();
     watching.watch(None).unwrap();
     // The store can be carried on again only after every pass has released the earlier memory, including those of the server's own

@@ -35,9 +35,9 @@ fn entries(client: &mut Client) -> u64 {
 
 #[test]
 fn a_change_refuses_each_kind_that_the_index_of_its_name_does_not_take() {
-    for options in [&["--pages=64"][..], &["--pages=64", "--volumes=2"]] {
+    {
         let folder = Folder::new();
-        let server = Server::start(&folder, options);
+        let server = Server::start(&folder, &["--pages=64"]);
         let mut client = server.client();
         for index in INDEXED {
             let name = index.to_string();

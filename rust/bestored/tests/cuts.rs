@@ -2,7 +2,7 @@
 
 use crate::common::postgres::Database;
 use crate::common::proxy::Proxy;
-use crate::common::writers::{check_history, Writers};
+use crate::common::writers::{check_history, nothing, Writers};
 use crate::common::{wait_until, Folder};
 use crate::log::{check_all_alike, count_of, database, leader_of, set_count, status, Member};
 use bestore::Batch;
@@ -96,7 +96,7 @@ fn no_cut_connection_ends_a_server() {
     let leader = leader_of(&pair.members);
     writers.go_on(&mut pair.members[leader].client());
     check_all_alike(&pair.members, leader);
-    check_history(&mut pair.members[leader].client());
+    check_history(&mut pair.members[leader].client(), &nothing());
 }
 
 /// How often a leader loses a write, and how many reads each reader makes before each time, at least.

@@ -1,19 +1,22 @@
 //! Tests that no answered write is lost when the disk fills up at any moment while clients are writing.
 
 use crate::common::disk::Disk;
-use crate::common::writers::{check_history, Writers};
+use crate::common::writers::{check_history, Contents, Writers};
 use crate::common::{command, wait_until, Folder, Server};
 use bestore::saved::{About, Backup};
 use bestore::Batch;
 use bestore_client::wire::{Command, Nothing};
 use bestore_client::{Client, Error, ErrorName};
+use bestore_types::listing::Writer;
+use bestore_types::saved;
 use std::process::Stdio;
 use std::sync::atomic::{AtomicU64, AtomicUsize, Ordering::Relaxed};
 use std::thread;
 
-/// For each run, how many KiB are free on the disk when the writers start.
+/// For each run, how many KiB are free on the disk when the writers start. With much more, the server would rewrite the state before the
+/// disk is full, which makes room again.
 const LEFT: [u64; 20] = [
-    0, 4, 8, 12, 16, 24, 32, 40, 48, 64, 80, 96, 128, 160, 192, 256, 320, 384, 512, 768,
+    0, 4, 8, 12, 16, 24, 32, 40, 48, 56, 64, 80, 96, 128, 160, 192, 224, 256, 320, 384,
 ];
 
 /// The number of nodes of 200 bytes that the store has, so that its state takes several of the file's pages.
@@ -73,8 +76,8 @@ impl<'a> Kept<'a> {
         start(self.disk, &self.folder, &["--spare", "0"])
     }
 
-    /// Lets the clients write until saving fails, in some runs while the state is being rewritten. Even on a full disk, the file
-    /// can be opened.
+    /// Lets the clients write until saving fails, in some runs while the state is being rewritten at first. Even on a full disk, the
+    /// file can be opened.
     fn fill(&self, number: usize) {
         let server = self.start();
         let server = server.unwrap_or_else(|| panic!("run {number}: the file can't be opened on a full disk"));
@@ -99,13 +102,25 @@ impl<'a> Kept<'a> {
         }
     }
 
+    /// Returns the state in the file, with which the journal of the next server begins.
+    fn state(&self) -> Contents {
+        let copy = Folder::new();
+        let mut find = self.disk.run("find");
+        find.arg(self.disk.join(""))
+            .args(["-name", "file*", "-exec", "cp", "-t"]);
+        assert!(find.arg(copy.path()).args(["{}", "+"]).status().unwrap().success());
+        let read = saved::read(copy.join("file")).unwrap();
+        (read.about.next, read.state)
+    }
+
     /// Enlarges the disk, and checks the file's contents.
     fn end(&self) {
         self.disk.resize(LARGE);
+        let begin = self.state();
         let server = self.start().expect("there is room");
         let mut client = server.client();
         self.writers.go_on(&mut client);
-        check_history(&mut client);
+        check_history(&mut client, &begin);
         self.tally.writes.fetch_add(self.writers.answered(), Relaxed);
         self.writers.write(server.socket(), || {
             self.writers.wait_for(8);
@@ -120,19 +135,23 @@ fn is_of_saving(error: &Error) -> bool {
     error.is(ErrorName::NotSaved) || error.is(ErrorName::Stopped)
 }
 
+/// How many times to rewrite the state at most: as long as there is space for it, the disk doesn't fill up.
+const COMPACTIONS: usize = 50;
+
 /// Rewrites the state again and again until saving fails. Returns how many times there was no space for the state.
 fn compact(client: &mut Client) -> u64 {
     let mut failed = 0;
-    loop {
+    for _ in 0..COMPACTIONS {
         match client.call::<Nothing>(Command::Compact(Nothing {})) {
             Ok(_) => {}
-            Err(error) if error.is(ErrorName::Stopped) || error.refusal().is_none() => return failed,
+            Err(error) if error.is(ErrorName::Stopped) || error.refusal().is_none() => break,
             Err(error) => {
                 assert!(error.is(ErrorName::NotSaved), "{error}");
                 failed += 1;
             }
         }
     }
+    failed
 }
 
 /// Runs one case: the disk fills up, and then fills up again after a restart that may have had space for the state.
@@ -206,9 +225,12 @@ fn a_backup_on_a_full_disk_can_be_read() {
     let disk = present!(disk_of("a backup on a full disk"));
     let folder = Folder::new();
     let backup = folder.join("backup");
-    let mut made = Backup::create(&backup, 1).unwrap();
-    made.add(0, Batch::new().new_node().set(1, "count", 1_u64)).unwrap();
-    made.finish(&[About { entries: 1, next: 2 }]).unwrap();
+    let mut made = Backup::create(&backup).unwrap();
+    let mut listing = Writer::new();
+    listing.node(1);
+    listing.attribute("count", 1_u64.into(), false).unwrap();
+    made.add(&listing.take()).unwrap();
+    made.finish(About { entries: 1, next: 2 }).unwrap();
     let copied = disk.run("cp").arg(&backup).arg(disk.join("file")).status();
     assert!(copied.unwrap().success());
     disk.resize(disk.used());

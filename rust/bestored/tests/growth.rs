@@ -67,7 +67,7 @@ fn file_and_memory_stay_small_and_have_everything() {
     assert!(fs::metadata(folder.join("file")).unwrap().len() < MOST_BYTES);
     let server = start(&folder);
     let mut client = server.client();
-    // The journal consists of the state's batches and of fewer entries than were written.
+    // The journal consists of the entries after the state, which are fewer than were written.
     assert!(client.status().unwrap().entries < ROUNDS / 4);
     for node in [1, NODES] {
         let round = client.get(node, "round").unwrap();

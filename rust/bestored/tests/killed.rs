@@ -1,7 +1,8 @@
 //! Kills servers at random moments while clients write to stores that are kept in files.
 
-use crate::common::writers::{check_history, Writers};
+use crate::common::writers::{check_history, nothing, Contents, Writers};
 use crate::common::{Folder, Random, Server};
+use bestore_types::saved;
 use std::sync::atomic::{AtomicU64, Ordering::Relaxed};
 use std::thread;
 use std::time::{Duration, Instant};
@@ -76,12 +77,23 @@ impl Kept {
         server
     }
 
-    fn start_checked(&self) -> Server {
+    /// Returns the state in the file, with which the journal of the next server begins.
+    fn state(&self) -> Contents {
+        let path = self.folder.join("file");
+        match path.exists() {
+            true => saved::read(path).map(|read| (read.about.next, read.state)).unwrap(),
+            false => nothing(),
+        }
+    }
+
+    /// Starts a server, and returns it with what its journal begins with.
+    fn start_checked(&self) -> (Server, Contents) {
+        let begin = self.state();
         let server = self.start();
         let mut client = server.client();
         self.writers.go_on(&mut client);
-        check_history(&mut client);
-        server
+        check_history(&mut client, &begin);
+        (server, begin)
     }
 
     /// Starts a server and kills it. Returns whether clients were writing.
@@ -93,12 +105,13 @@ impl Kept {
             server.kill();
             return false;
         }
-        let server = self.start();
-        let mut client = server.client();
-        self.writers.go_on(&mut client);
-        if self.random.below(REPEATED) == 0 {
-            check_history(&mut client);
-        }
+        let server = if self.random.below(REPEATED) == 0 {
+            self.start_checked().0
+        } else {
+            let server = self.start();
+            self.writers.go_on(&mut server.client());
+            server
+        };
         let mut is_writing = false;
         self.writers.write(server.socket(), || {
             self.writers.wait_for(1);
@@ -111,10 +124,10 @@ impl Kept {
 
     /// Checks the last server while clients write, and then checks the file after the server has ended normally.
     fn end(&self) {
-        let server = self.start_checked();
+        let (server, begin) = self.start_checked();
         self.writers.write(server.socket(), || {
             self.writers.wait_for(8);
-            check_history(&mut server.client());
+            check_history(&mut server.client(), &begin);
             assert!(server.end_by("TERM").success());
         });
         self.start_checked();

@@ -20,6 +20,8 @@ mod common;
 mod crowd;
 #[cfg(feature = "log")]
 mod cuts;
+mod filled;
+mod folders;
 mod full;
 mod growth;
 #[cfg(feature = "log")]
@@ -30,6 +32,8 @@ mod limits;
 mod live;
 #[cfg(feature = "log")]
 mod log;
+#[cfg(feature = "log")]
+mod log_state;
 mod manual;
 mod memory;
 mod moved;
@@ -44,4 +48,3 @@ mod slow;
 mod socket;
 #[cfg(feature = "log")]
 mod successors;
-mod volumes;

@@ -14,8 +14,8 @@ const VALGRIND: [&str; 6] = [
 ];
 
 /// Requests, each with a part of the expected reply.
-const REQUESTS: [(&str, &str); 20] = [
-    (r#""hello":{"protocol":1}"#, r#""kept":"each""#),
+const REQUESTS: [(&str, &str); 21] = [
+    (r#""hello":{"protocol":2}"#, r#""kept":"each""#),
     (
         r#""batch":{"operations":[["index","size","int64"],["new"],["set",1,"size",5],["new"]]}"#,
         r#""nodes":[1,2]"#,
@@ -29,6 +29,7 @@ const REQUESTS: [(&str, &str); 20] = [
     (r#""indices":{}"#, r#"{"size":"int64"}"#),
     (r#""nodes":{}"#, r#""nodes":[1,2]"#),
     (r#""explain":{"query":"size>1"}"#, "score"),
+    (r#""ways":{"query":"size>1"}"#, "walked"),
     (r#""pin":{}"#, r#""next":3"#),
     (r#""state":{}"#, r#""batches":["#),
     (r#""unpin":{}"#, r#""ok":{}"#),

@@ -195,16 +195,6 @@ fn a_cursor_of_an_index_that_was_made_anew() {
     talk.check_parts(&again, &["BadCursor", "begin without a cursor"]);
 }
 
-#[test]
-fn the_server_says_that_it_orders() {
-    let (_folder, server) = start(&[]);
-    let mut client = server.client();
-    let has_all = |client: &Client| wire::QUERY_FEATURES.iter().all(|name| client.has(name));
-    assert!(!has_all(&client));
-    client.hello().unwrap();
-    assert!(has_all(&client) && !client.has("none"));
-}
-
 /// Pages are read from the pinned snapshot for as long as it is pinned, and from the current one after that.
 #[test]
 fn pages_are_of_the_pinned_snapshot() {

@@ -2,7 +2,9 @@
 
 use crate::common::{Folder, Server, PATIENCE};
 use bestore::{Batch, Kind};
-use bestore_client::wire::{Columns, ColumnsOf, Command, From, Journal, JournalFrom, Nodes, NodesFrom, Rows, State};
+use bestore_client::wire::{
+    Columns, ColumnsOf, Command, From, Journal, JournalFrom, Nodes, NodesFrom, Nothing, Restore, Restored, Rows, State,
+};
 use bestore_client::{Client, ErrorName, Query};
 use std::borrow::Cow;
 
@@ -128,22 +130,23 @@ fn long_rows_come_in_pages() {
     assert!((3..10).contains(&pages), "{pages} pages");
 }
 
-/// Copies the pinned snapshot to an empty store. Returns the index of the first batch on the last page.
+/// Restores the pinned snapshot to an empty server, one batch a request. Returns the index of the first batch on the last page.
 fn carry_state(from: &mut Client, to: &mut Client) -> u64 {
     let mut index = 0;
     loop {
-        let page: State = from
-            .call(Command::State(From {
-                from: index,
-                volume: None,
-            }))
-            .unwrap();
+        let page: State = from.call(Command::State(From { from: index })).unwrap();
         for batch in page.batches {
-            to.apply(&batch.batch).unwrap();
+            let batches = vec![batch];
+            let _: Nothing = to.call(Command::Restore(Restore { batches, next: None })).unwrap();
         }
         match page.more {
             Some(more) => index = more,
-            None => return index,
+            None => {
+                let (batches, next) = (Vec::new(), Some(page.next));
+                let restored: Restored = to.call(Command::Restore(Restore { batches, next })).unwrap();
+                assert_eq!(restored.commit, 1);
+                return index;
+            }
         }
     }
 }
@@ -153,7 +156,6 @@ fn carry_journal(from: &mut Client, to: &mut Client) {
     let mut index = 0;
     loop {
         let journal = JournalFrom {
-            volume: None,
             from: index,
             limit: None,
         };
@@ -175,25 +177,20 @@ fn carry_journal(from: &mut Client, to: &mut Client) {
 fn the_state_and_the_journal_make_the_store_again() {
     let (_folder, server) = start();
     let mut client = server.client();
-    fill(&mut client, 20_000);
+    fill(&mut client, 40_000);
     client.apply(Batch::new().remove_node(7)).unwrap();
     let (_folder, by_state) = start();
     client.pin().unwrap();
     let last = carry_state(&mut client, &mut by_state.client());
     assert!(last > 0);
-    let again: State = client
-        .call(Command::State(From {
-            from: last,
-            volume: None,
-        }))
-        .unwrap();
-    assert_eq!((again.more, again.next), (None, 20_001));
+    let again: State = client.call(Command::State(From { from: last })).unwrap();
+    assert_eq!((again.more, again.next), (None, 40_001));
     client.unpin().unwrap();
     let (_folder, by_journal) = start();
     carry_journal(&mut client, &mut by_journal.client());
     for other in [&by_state, &by_journal] {
         let mut other = other.client();
         assert!(other.query("size>0").unwrap() == client.query("size>0").unwrap());
-        assert_eq!(other.pin().unwrap().next, 20_001);
+        assert_eq!(other.pin().unwrap().next, 40_001);
     }
 }

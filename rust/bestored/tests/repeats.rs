@@ -2,7 +2,7 @@
 
 use crate::common::{wait_until, Folder, Random, Server};
 use bestore::Batch;
-use bestore_client::wire::{self, Command, Token, Write, Written};
+use bestore_client::wire::{Command, Token, Write, Written};
 use bestore_client::{Client, Error, ErrorName, Options};
 use std::collections::BTreeSet;
 use std::path::Path;
@@ -47,7 +47,7 @@ fn the_longest_times_are_no_fault() {
     options.wait(Duration::MAX).timeout(Some(Duration::MAX));
     let mut client = options.repeat(Duration::MAX).connect(server.socket()).unwrap();
     assert_eq!(client.apply(Batch::new().new_node()).unwrap().number, 1);
-    assert_eq!(client.reach(&[1], Duration::MAX).unwrap().commit, 1);
+    assert_eq!(client.reach(1, Duration::MAX).unwrap().commit, 1);
     client.watch(None).unwrap();
     server.client().apply(Batch::new().new_node()).unwrap();
     assert_eq!(client.next_push(Duration::MAX).unwrap().unwrap().commit, 2);
@@ -110,9 +110,8 @@ fn numbers_of_another_run_are_refused() {
 #[test]
 fn tokens_are_of_the_whole_server_and_outlive_it() {
     let folder = Folder::new();
-    let options = ["--volumes", "2"];
     let first = {
-        let server = Server::start_kept(&folder, &options);
+        let server = Server::start_kept(&folder, &[]);
         let mut client = server.client();
         let first = make(&mut client, "a").unwrap();
         let again = make(&mut client, "a").unwrap();
@@ -124,44 +123,17 @@ fn tokens_are_of_the_whole_server_and_outlive_it() {
                 ..first.clone()
             }
         );
-        server.talk().check(
-            r#""batch":{"operations":[["index","a","text"]],"token":"b"}"#,
-            concat!(
-                r#""error":{"name":"BadRequest","message":"a batch that is written to every volume takes no token; "#,
-                r#"it can be sent again without one","class":"mine"}"#
-            ),
-        );
         first
     };
     // The second time, the entry has become part of the file's state.
     for _ in 0..2 {
-        let server = Server::start_kept(&folder, &options);
+        let server = Server::start_kept(&folder, &[]);
         let mut client = server.client();
         let again = make(&mut client, "a").unwrap();
-        assert_eq!(
-            (again.volume, again.nodes, again.repeated),
-            (first.volume, first.nodes.clone(), true)
-        );
-        assert!(client.status().unwrap().volumes[0].entries >= again.commit);
+        assert_eq!((again.nodes, again.repeated), (first.nodes.clone(), true));
+        assert!(client.status().unwrap().entries >= again.commit);
         server.kill();
     }
-}
-
-#[test]
-fn a_client_that_repeats_makes_indices_in_all_volumes() {
-    let folder = Folder::new();
-    let server = Server::start(&folder, &["--volumes", "2"]);
-    let mut client = Options::new().repeat(PATIENCE).connect(server.socket()).unwrap();
-    client.apply(Batch::new().make_index("a", bestore::Kind::Text)).unwrap();
-    client
-        .apply_in(1, Batch::new().make_index("b", bestore::Kind::Text))
-        .unwrap();
-    let indices = client
-        .call::<wire::Indices>(Command::Indices(wire::Nothing {}))
-        .unwrap();
-    assert_eq!(indices.indices.keys().collect::<Vec<_>>(), ["a"]);
-    assert_eq!(indices.partial["b"], [1]);
-    client.apply(Batch::new().remove_index("a")).unwrap();
 }
 
 /// Writes batches, and sends each one again until it gets a reply. Each batch creates a node with the writer's number and its own.

@@ -318,8 +318,8 @@ fn a_visitor_is_answered_for_a_moment() {
     let (server, _idle) = full_server(&folder);
     let visiting = || {
         let mut visitor = server.talk();
-        let said = visitor.ask(r#"{"id":1,"hello":{"protocol":1,"visit":true}}"#);
-        assert!(said.starts_with(r#"{"id":1,"ok":{"protocol":1,"#), "{said}");
+        let said = visitor.ask(r#"{"id":1,"hello":{"protocol":2,"visit":true}}"#);
+        assert!(said.starts_with(r#"{"id":1,"ok":{"protocol":2,"#), "{said}");
         visitor
     };
     let mut visitor = visiting();

@@ -5,7 +5,7 @@ use crate::common::{wait_until, wait_within};
 use crate::log::{database, database_of, signal, status, Member, OF_LEADER, SOON};
 use crate::repeats::make;
 use bestore::Batch;
-use bestore_client::wire::{Command, Nothing, Numbers, Token, Write, Written};
+use bestore_client::wire::{Command, Nothing, Token, Write, Written};
 use bestore_client::ErrorName;
 use std::thread;
 use std::time::Duration;
@@ -168,10 +168,9 @@ fn conditional(run: &str, expected: u64) -> Command<'static> {
     batch.new_node();
     Command::Batch(Write {
         operations: batch.into(),
-        expected: Some(Numbers::One(expected)),
+        expected: Some(expected),
         run: Some(run.into()),
         token: Token::new("conditional"),
-        ..Write::default()
     })
 }
 

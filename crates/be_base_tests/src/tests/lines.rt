@@ -1,7 +1,7 @@
 //! Requests and replies of tests as text, in lines `COMMAND TEXT => REPLY`. The reply to a refused
 //! request is the printed error.
 
-use super::{byte_pattern, journal, machine, pattern, query, stored_words, tree, value};
+use super::{building, byte_pattern, journal, machine, pattern, query, stored_words, tree, value};
 use be_test_tools::{Answers, check_lines};
 use be_value::{Refusal, word_of};
 use std::alloc::Global;
@@ -17,6 +17,7 @@ fn answer(alloc: Global, command: &str, text: &str) -> Result<String, Refusal> {
         "free" => tree::free_with(alloc, text),
         "emptied" => tree::free_without(alloc, text),
         "stored" => stored_words::stored_by(alloc, text),
+        "built" => building::pages_of(alloc, text),
         _ => answer_query(alloc, command, text),
     }
 }

@@ -282,8 +282,9 @@ fn row_of(alloc: Global, request: &str) -> Result<String, Fail> {
 /// range begins at the end of the previous leaf, so it does take that second descent.
 ///
 /// A range and a front: by a descent for each key instead of a step along the leaves. The filter
-/// walks over the range of sizes. Its cost would grow by a descent of the catalog's tree, about 63
-/// words, for each of the front's hundred nodes.
+/// estimates both ranges, by two descents each of about 25 words, and then walks over both. Its
+/// cost would grow by a descent of the catalog's tree, about 63 words, for each of the front's
+/// hundred nodes.
 #[test]
 fn read_costs(rt: HostRuntime) -> Result<(), Fail> {
     let rows = r#"get 150 size => 1 found, 44 words read
@@ -292,7 +293,7 @@ query size==1430 => 1 found, 34 words read
 query size==1420 => 1 found, 83 words read
 query size>=1000 && size<2000 => 100 found, 460 words read
 query name=="101*" => 100 found, 456 words read
-query name=="101*" && size>=1500 => 50 found, 1090 words read"#;
+query name=="101*" && size>=1500 => 50 found, 1190 words read"#;
     check_rows(rt.alloc(), rows, row_of)
 }
 

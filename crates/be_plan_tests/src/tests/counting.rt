@@ -58,9 +58,13 @@ pub(crate) struct Counts {
     pub asked: ArrayString<64>,
     pub kinds: u64,
     pub ranges: u64,
+    /// How many keys these ranges have, at most 64 for each.
+    pub listed: u64,
     pub values: u64,
     /// How many keys were searched for.
     pub searches: u64,
+    /// How many ranges were estimated.
+    pub estimates: u64,
 }
 
 /// Records a step for each of the keys, and one for the end.
@@ -70,6 +74,15 @@ fn write_steps(counts: &mut Counts, name: &Name, keys: usize) {
     }
 }
 
+/// How a source estimates the number of keys in a range: 2^32 for each, their number up to 64, or
+/// an arbitrary number below 100, by a linear congruential generator in this state.
+#[derive(Clone, Copy)]
+enum Estimates {
+    Same,
+    Counted,
+    Arbitrary(u64),
+}
+
 /// A volume's source that records and counts what it is asked.
 #[derive(Drop)]
 struct Counting<'a> {
@@ -77,6 +90,7 @@ struct Counting<'a> {
     volume: &'a Volume,
     /// The number of keys that it estimates for each index.
     keys: u64,
+    estimates: Estimates,
     counts: Counts,
 }
 
@@ -88,14 +102,24 @@ fn start_counting(volume: &Volume, keys: u64) -> Counting<'_>
         source: volume_source(volume),
         volume,
         keys,
+        estimates: Estimates::Same,
         counts: Counts {
             asked: ArrayString::new(),
             kinds: 0,
             ranges: 0,
+            listed: 0,
             values: 0,
             searches: 0,
+            estimates: 0,
         },
     }
+}
+
+/// The next state of the generator.
+fn next_state(state: u64) -> u64 {
+    state
+        .wrapping_mul(6_364_136_223_846_793_005)
+        .wrapping_add(1_442_695_040_888_963_407)
 }
 
 impl Source for Counting<'_> {
@@ -123,6 +147,7 @@ impl Source for Counting<'_> {
     fn nodes_within(&mut self, keys: KeyRange<'_>, found: &mut Vec<u64>) -> Result<(), Refusal> {
         self.counts.ranges = self.counts.ranges.wrapping_add(1);
         let count = keys_within(self.volume, keys.name, keys.low, keys.high);
+        self.counts.listed = self.counts.listed.wrapping_add(count as u64);
         write_steps(&mut self.counts, keys.name, count);
         self.source.nodes_within(keys, found)
     }
@@ -139,6 +164,22 @@ impl Source for Counting<'_> {
 
     fn estimate(&mut self, _name: &Name) -> u64 {
         self.keys
+    }
+
+    /// Counts the call, and estimates as `estimates` says.
+    fn about(&mut self, keys: KeyRange<'_>) -> u64 {
+        self.counts.estimates = self.counts.estimates.wrapping_add(1);
+        match self.estimates {
+            Estimates::Same => 1 << 32,
+            Estimates::Counted => {
+                keys_within(self.volume, keys.name, keys.low, keys.high) as u64
+            }
+            Estimates::Arbitrary(state) => {
+                let state = next_state(state);
+                self.estimates = Estimates::Arbitrary(state);
+                (state >> 33) % 100
+            }
+        }
     }
 }
 
@@ -182,4 +223,31 @@ pub(crate) fn nodes_estimated(
     let mut source = start_counting(volume, keys);
     let nodes = answer(alloc, query, &mut source)?;
     Ok((nodes, source.counts))
+}
+
+/// The nodes that match the query, and what was asked for to find them, if the source estimates how
+/// many keys each range has, up to 64.
+pub(crate) fn nodes_fewest(
+    alloc: Global,
+    volume: &Volume,
+    query: &Query,
+) -> Result<(Vec<u64>, Counts), Refusal> {
+    let mut source = start_counting(volume, u64::MAX);
+    source.estimates = Estimates::Counted;
+    let nodes = answer(alloc, query, &mut source)?;
+    Ok((nodes, source.counts))
+}
+
+/// The nodes that match the query, if the source estimates an arbitrary number of keys for each
+/// range, and `keys` for each index.
+pub(crate) fn nodes_arbitrary(
+    alloc: Global,
+    volume: &Volume,
+    query: &Query,
+    keys: u64,
+    seed: u64,
+) -> Result<Vec<u64>, Refusal> {
+    let mut source = start_counting(volume, keys);
+    source.estimates = Estimates::Arbitrary(seed);
+    answer(alloc, query, &mut source)
 }

@@ -28,11 +28,13 @@ pub(crate) struct Room {
 
 impl Model for Room {
     ghost use Rattle.std.specs.Prelude.{◌≡◌, true, IfSome};
-    ghost use Rattle.be_store.specs.Live.{IsLiveOf};
+    ghost use Rattle.be_store.specs.Live.{coded_opened, IsLiveOf};
     ghost use Rattle.be_store.specs.Passes.{IsPassOf};
     ghost use Rattle.be_table.specs.Place.{Opened};
 
     ghost Value = { Opened };
+
+    ghost coded = { coded_opened };
 
     ghost view = { λ r. r.store };
 

@@ -1,7 +1,7 @@
 //! A table with its seats, which replies to requests. Its invariant says what is known about them,
 //! so no method needs a clause.
 ghost use Rattle.std.specs.Prelude.{◌≡◌, length, IfOk};
-ghost use Rattle.be_table_tests.specs.Imports.{AreNew};
+ghost use Rattle.be_table_tests.specs.Imports.{AreNew, begins_empty};
 ghost use Rattle.be_table_tests.specs.Resting.{IsResting};
 
 use crate::tests::calls::{Text, answer, answers, both_texts, number_text, write_text};
@@ -25,10 +25,13 @@ pub(crate) struct Room {
 }
 
 impl Model for Room {
-    ghost use Rattle.be_table_tests.specs.Imports.{Opened};
+    ghost use Rattle.std.specs.Coded.{codes};
+    ghost use Rattle.be_table_tests.specs.Imports.{coded_setting, Opened};
     ghost use Rattle.be_table_tests.specs.Resting.{IsResting};
 
     ghost Value = { Opened };
+
+    ghost coded = { Prim.hlevel (codes, coded_setting) };
 
     ghost view = { λ r. r.table };
 
@@ -38,7 +41,8 @@ impl Model for Room {
 
 /// A table with these limits, and its seats. Version 0 encodes the empty volume.
 pub(crate) fn open(alloc: Global, limits: Limits) -> Result<(VersionTable, Vec<Seat>), Refusal>
-    ensures { IfOk result (λ r. (r.0.limits ≡ limits) × (length r.1.items ≡ limits.passes)
+    ensures { IfOk result (λ r. (r.0.limits ≡ begins_empty limits)
+        × (length r.1.items ≡ limits.passes)
         × AreNew r.0 0 r.1.items) }
 {
     VersionTable::open(alloc, limits, &first_page())

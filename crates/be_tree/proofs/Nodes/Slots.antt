@@ -135,3 +135,7 @@ branch_same v w page same = ap (λ u. branch_of u page) same
   where
     branch_of : (ℕ → ℕ) → ℕ → Pair
     branch_of u from = record { key = (item_at u 2).key; payload = to_be_bytes w64 from }
+
+pub apart_branch : (pages : List ℕ) (page : ℕ) → times page pages ≡ 0 → IsApart pages (Branch page)
+unfolding IsApart
+apart_branch pages page none = none

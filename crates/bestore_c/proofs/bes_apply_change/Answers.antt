@@ -41,3 +41,17 @@ returns c =
             ),
           ));
     }
+
+pub returns-in-Ok-apply_change : goal.returns-in-Ok-apply_change
+returns-in-Ok-apply_change c =
+    let was : c.args.pass.now.owned.value ≡ Some c.lent-session.result.now = c.typed.ensures.value ∙ c.lent-session.ensures.value in
+    record {
+      pass = called c.args.pass.now.owned.value _ c.lent-session.result.now c.apply_change.new.self (IsClosed c.in-Ok-apply_change.commit 0) _
+          was refl c.apply_change.ensures.store.0 c.apply_change.ensures.store.1
+          (inr (
+            c.in-Ok.ensures.count,
+            c.as_slice.result.now,
+            subst (AreMeant c.args.encoded.now c.args.bytes.now) (sym c.as_slice.ensures.value) c.in-Ok.ensures.ok,
+            inl (refl, c.in-Ok-apply_change.ensures.ok),
+          ));
+    }

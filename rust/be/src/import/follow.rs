@@ -317,8 +317,6 @@ impl Import<'_> {
     /// Waits until the server is back, for this long at first, and loads what it knows about the folder.
     fn connect_again(&mut self, failure: &Failure, mut pause: Duration) -> Result<(), Failure> {
         complain(&format!("{failure}; waiting for the server"));
-        // If only one connection was lost, the server may have no places for new ones beside the others.
-        self.volumes.clear();
         loop {
             thread::sleep(pause);
             self.look_for_folder(false)?;

@@ -9,12 +9,12 @@ mod known;
 mod magic;
 pub mod mail;
 mod matching;
+mod new_files;
 pub mod stat;
 mod summary;
 mod types;
 mod unmounted;
 mod update;
-mod volume;
 mod walk;
 
 use crate::command_line::Import as Line;
@@ -29,6 +29,7 @@ use content::{Reader, INDICES};
 use follow::Watches;
 use indicatif::{ProgressBar, ProgressStyle};
 use known::{Known, Tree};
+use new_files::NewFiles;
 use std::collections::{BTreeMap, BTreeSet, HashSet};
 use std::fs;
 use std::os::unix::ffi::OsStrExt;
@@ -36,7 +37,6 @@ use std::os::unix::fs::MetadataExt;
 use std::path::{Path, PathBuf};
 use summary::Summary;
 use types::Types;
-use volume::Volume;
 use walk::Walk;
 
 /// The maximum number of bytes in an imported folder's path, because the path must fit into a value.
@@ -56,7 +56,7 @@ pub struct Import<'a> {
     device: Option<u64>,
     line: &'a Line,
     client: Client,
-    volumes: Vec<Volume>,
+    new_files: NewFiles,
     reader: Reader,
     tree: Tree,
     /// Files that weren't at their paths when the paths were last read.
@@ -105,7 +105,7 @@ impl<'a> Import<'a> {
         Ok(Self {
             device: line.one_file_system.then(|| device_of(&folder)).transpose()?,
             tree: Tree::read(&mut client, &folder, &HashSet::new())?,
-            volumes: Volume::all(connect)?,
+            new_files: NewFiles::begin(&mut client)?,
             reader: Reader {
                 types: Types::of_machine(),
                 indices,
@@ -217,13 +217,7 @@ fn make_indices(client: &mut Client) -> Result<BTreeMap<String, Kind>, Failure> 
             Some(_) => {}
         }
     }
-    let all = kinds(server::indices(client)?);
-    for (name, _) in INDICES.iter().filter(|(name, _)| !all.contains_key(*name)) {
-        complain(&format!(
-            "warning: the index {name} has different types in different volumes, or some lack it"
-        ));
-    }
-    Ok(all)
+    Ok(kinds(server::indices(client)?))
 }
 
 /// Adds the attributes of existing nodes to a new index. Unchanged files aren't written again, so queries wouldn't find them if the index

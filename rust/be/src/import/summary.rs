@@ -55,7 +55,6 @@ pub struct Summary {
     /// The number of pages in the store, and how many of them are used.
     pub pages: u64,
     pub used: u64,
-    pub volumes: u64,
     #[serde(serialize_with = "count")]
     pub unread: Vec<Unread>,
     /// The files for which the store refused a change, or to which an attribute couldn't be written, with the reasons.
@@ -165,7 +164,7 @@ impl Summary {
             ));
         }
         if self.left > 0 {
-            let help = what_helps(self.files, self.left, self.pages, self.used, self.volumes);
+            let help = what_helps(self.files, self.left, self.pages, self.used);
             complain(&format!(
                 "the store is full: {} files are in it, and {} are not\n  {help}",
                 self.files, self.left
@@ -175,18 +174,13 @@ impl Summary {
 }
 
 /// Returns a message with limits that would be enough for all files, estimated from the files in the store.
-fn what_helps(files: usize, left: usize, pages: u64, used: u64, volumes: u64) -> String {
-    let (files, left, volumes) = (files.max(1) as u64, left as u64, volumes.max(1));
+fn what_helps(files: usize, left: usize, pages: u64, used: u64) -> String {
+    let (files, left) = (files.max(1) as u64, left as u64);
     // Add a tenth, because files differ.
     let needed = (used * (files + left) / files * 11 / 10).max(pages + 1);
-    let each = (needed + volumes - 1) / volumes;
-    if each > MOST_PAGES {
-        return format!("even the largest store, bestored --pages {MOST_PAGES}, doesn't have room for all");
-    }
-    let pages = each.next_power_of_two();
-    match volumes {
-        1 => format!("bestored --pages {pages} has room for all"),
-        _ => format!("bestored --volumes {volumes} --pages {pages} has room for all"),
+    match needed.next_power_of_two() {
+        pages if needed <= MOST_PAGES => format!("bestored --pages {pages} has room for all"),
+        _ => format!("even the largest store, bestored --pages {MOST_PAGES}, doesn't have room for all"),
     }
 }
 
@@ -206,17 +200,16 @@ mod tests {
 
     #[test]
     fn what_helps_has_room_for_all() {
-        let check = |files, left, pages, used, volumes, options: &str| {
-            let said = what_helps(files, left, pages, used, volumes);
-            assert_eq!(said, format!("bestored {options} has room for all"));
+        let check = |files, left, pages, used, enough: u64| {
+            let said = what_helps(files, left, pages, used);
+            assert_eq!(said, format!("bestored --pages {enough} has room for all"));
         };
-        check(100, 100, 1024, 1000, 1, "--pages 4096");
-        check(100, 10, 1024, 1000, 1, "--pages 2048");
-        check(100, 100, 1024, 1000, 4, "--volumes 4 --pages 1024");
-        check(14_000, 46_000, 16_384, 16_000, 1, "--pages 131072");
-        check(0, 5, 8, 8, 1, "--pages 64");
-        check(13_000, 12_000_000, 16_384, 16_384, 1, "--pages 16777216");
-        let said = what_helps(13_000, 13_000_000, 16_384, 16_384, 1);
+        check(100, 100, 1024, 1000, 4096);
+        check(100, 10, 1024, 1000, 2048);
+        check(14_000, 46_000, 16_384, 16_000, 131_072);
+        check(0, 5, 8, 8, 64);
+        check(13_000, 12_000_000, 16_384, 16_384, 16_777_216);
+        let said = what_helps(13_000, 13_000_000, 16_384, 16_384);
         assert_eq!(
             said,
             "even the largest store, bestored --pages 16777216, doesn't have room for all"

@@ -4,14 +4,14 @@ use super::content::{Content, Reader};
 use super::edit::{between, keep_extended, place, Edit, Edits, More, OPERATIONS};
 use super::known::Known;
 use super::matching::{matched, Matched, Matching};
+use super::new_files::New;
 use super::stat::Form;
 use super::summary::{Fate, Summary};
-use super::volume::{Made, New, Volume};
 use super::walk::{Found, Unread, Walked};
 use super::{bar, Import};
 use crate::failure::Failure;
 use bestore_client::{Error, ErrorName};
-use bestore_types::{Batch, Node};
+use bestore_types::Batch;
 use std::collections::{BTreeMap, HashMap, HashSet};
 use std::path::{Path, PathBuf};
 use std::thread;
@@ -21,9 +21,6 @@ const SLICE: usize = 8_192;
 
 /// Why a file isn't written if its folder isn't either.
 const NO_FOLDER: &str = "the folder that contains it has no node";
-
-/// Approximately how many entries of the store's trees fit on a page.
-const ENTRIES: u64 = 8;
 
 impl Import<'_> {
     /// Writes what was found. If a known file wasn't found, its node is removed only if that happens twice in a row, because a file that is
@@ -252,10 +249,7 @@ impl Import<'_> {
             }
             let mut batch = Batch::new();
             let first = at;
-            while at < edits.len()
-                && volume_of(&edits[at]) == volume_of(&edits[first])
-                && (at == first || batch.len() + edits[at].edits.len() <= OPERATIONS)
-            {
+            while at < edits.len() && (at == first || batch.len() + edits[at].edits.len() <= OPERATIONS) {
                 edits[at].add_to(&mut batch);
                 at += 1;
             }
@@ -293,7 +287,7 @@ impl Import<'_> {
         }
     }
 
-    /// Writes a batch to one volume, split into several if it has too many operations.
+    /// Writes a batch, split into several if it has too many operations.
     fn write_batch(&mut self, batch: Batch) -> Result<(), Error> {
         crate::server::apply(&mut self.client, &batch)
     }
@@ -316,13 +310,15 @@ impl Import<'_> {
                         let (path, values) = (found.path.clone(), content.values);
                         new.push(New { path, values });
                     }
-                    false if self.volumes.iter().all(|volume| volume.is_full) => summary.left += 1,
+                    false if self.new_files.is_full => summary.left += 1,
                     // The folder's node was refused, or another program has removed it.
                     false => summary.refused.push((found.path.clone(), NO_FOLDER.into())),
                 }
             }
             let stats: HashMap<&Path, String> = files.iter().map(|it| (it.path.as_path(), it.stat.text())).collect();
-            let made = make_in(&mut self.volumes, new, &|count| progress.inc(count))?;
+            let made = self
+                .new_files
+                .make(&mut self.client, new, &|count| progress.inc(count))?;
             summary.left += made.left.len();
             for (path, error) in made.refused {
                 summary.refuse(path, &error);
@@ -341,11 +337,10 @@ impl Import<'_> {
 
     /// Asks the server how full the store is.
     fn look(&mut self, summary: &mut Summary) -> Result<(), Failure> {
-        self.volumes.iter_mut().try_for_each(Volume::look)?;
+        self.new_files.look(&mut self.client)?;
         summary.files = self.tree.files.len();
-        summary.volumes = self.volumes.len() as u64;
-        summary.pages = self.volumes.iter().map(|volume| volume.pages).sum();
-        summary.used = self.volumes.iter().map(|volume| volume.pages - volume.free).sum();
+        summary.pages = self.new_files.pages;
+        summary.used = self.new_files.pages - self.new_files.free;
         Ok(())
     }
 }
@@ -364,10 +359,6 @@ fn move_unread(gone: &mut [(PathBuf, Known)], files: &[Matched], unread: &[Unrea
             }
         }
     }
-}
-
-fn volume_of(edits: &Edits) -> u32 {
-    Node::from(edits.node).volume
 }
 
 /// Groups folders by depth, the shallowest first.
@@ -402,51 +393,4 @@ fn read(reader: &Reader, files: &[&Found]) -> Vec<Content> {
             .flat_map(|part| part.join().expect("a reader ends"))
             .collect()
     })
-}
-
-/// Creates nodes for these files in all volumes in parallel. Files that don't fit into one volume go to the others.
-fn make_in(volumes: &mut [Volume], files: Vec<New>, done: &(dyn Fn(u64) + Sync)) -> Result<Made, Failure> {
-    let mut all = Made {
-        left: files,
-        ..Made::default()
-    };
-    while !all.left.is_empty() && volumes.iter().any(|volume| !volume.is_full) {
-        let shares = share(volumes, std::mem::take(&mut all.left));
-        let made: Vec<Result<Made, Failure>> = thread::scope(|scope| {
-            let parts: Vec<_> = volumes
-                .iter_mut()
-                .zip(shares)
-                .map(|(volume, files)| scope.spawn(move || volume.make(files, done)))
-                .collect();
-            parts
-                .into_iter()
-                .map(|part| part.join().expect("a writer ends"))
-                .collect()
-        });
-        for made in made {
-            let made = made?;
-            all.nodes.extend(made.nodes);
-            all.left.extend(made.left);
-            all.refused.extend(made.refused);
-        }
-    }
-    Ok(all)
-}
-
-/// Decides which files go to which volume. Each file goes to the volume with the most free space at that point.
-fn share(volumes: &[Volume], files: Vec<New>) -> Vec<Vec<New>> {
-    let mut rooms: Vec<i64> = volumes
-        .iter()
-        .map(|volume| match volume.is_full {
-            true => i64::MIN,
-            false => i64::try_from(volume.free * ENTRIES).unwrap_or(i64::MAX),
-        })
-        .collect();
-    let mut shares: Vec<Vec<New>> = volumes.iter().map(|_| Vec::new()).collect();
-    for file in files {
-        let roomiest = (0..rooms.len()).max_by_key(|at| rooms[*at]).unwrap_or(0);
-        rooms[roomiest] -= file.values.len() as i64 + 4;
-        shares[roomiest].push(file);
-    }
-    shares
 }

@@ -163,16 +163,6 @@ impl Server {
         said.out
     }
 
-    /// Returns how many nodes each volume has, according to the printed node numbers.
-    pub fn spread(&self, volumes: usize) -> Vec<usize> {
-        let mut spread = vec![0; volumes];
-        for line in self.done(&["query", "name==*"]).lines() {
-            let node: u64 = line.parse().unwrap();
-            spread[bestore::Node::from(node).volume as usize] += 1;
-        }
-        spread
-    }
-
     /// Returns how many entries the journal has.
     pub fn entries(&self) -> u64 {
         let status: serde_json::Value = serde_json::from_str(&self.done(&["status", "--json"])).unwrap();

@@ -25,7 +25,7 @@ replies! {
         pub latency?: Latency,
         /// How old the oldest write is that isn't in the file yet, in milliseconds. Missing if all writes are in the file.
         pub unsaved?: u64,
-        /// How long the last 64 commits to each file took. Missing if there were none.
+        /// How long the last 64 commits to the file took. Missing if there were none.
         pub commits?: Latency,
         /// How many writes are in progress, or waiting for other writes or the disk.
         pub writing: u64,
@@ -37,7 +37,7 @@ replies! {
         pub retired: u64,
         /// The oldest snapshot that is being read, and its reader.
         pub oldest?: OldestReader,
-        /// The sizes of the files, if the server keeps any.
+        /// The sizes of the files, if the server keeps its writes in one.
         pub files?: Files,
         /// The server's role in the log that machines share, if it uses one.
         pub log?: Role,
@@ -57,26 +57,24 @@ replies! {
 
     /// The reader of the oldest snapshot.
     OldestReader {
-        /// The snapshot's commit number in its volume.
+        /// The snapshot's commit number.
         pub commit: u64,
-        /// The snapshot's volume, if there are several volumes.
-        pub volume?: u32,
         /// The number of the client, unless the reader is the server itself.
         pub client?: u64,
         /// The process ID of the client.
         pub process?: u32,
         /// How long ago the snapshot was pinned, in milliseconds.
         pub milliseconds?: u64,
-        /// Whether the reader holds the memory that the volume used before the server freed its journal.
+        /// Whether the reader holds the memory that the store used before the server freed its journal.
         #[serde(default, skip_serializing_if = "std::ops::Not::not")]
         pub earlier: bool,
     }
 
-    /// The total sizes of all volumes' files, in bytes.
+    /// The sizes of the file and of the `-wal` file beside it, in bytes.
     Files {
-        /// The size of the files, without the `-wal` files.
+        /// The size of the file.
         pub bytes: u64,
-        /// The size of the `-wal` files.
+        /// The size of the `-wal` file.
         pub wal_bytes: u64,
     }
 

@@ -145,12 +145,8 @@ names! {
     BadRequest = None, Mine, "the request isn't valid";
     /// The snapshot expired, because it was kept too long; pin again.
     Expired = None, Gone, "the snapshot expired, because it was kept too long; pin again";
-    /// There is no such volume.
-    NoVolume = None, Mine, "there is no such volume";
-    /// A node isn't in the volume that the batch is for.
-    OtherVolume = None, Mine, "a node isn't in the volume that the batch is for";
-    /// An index has to be made or removed in all volumes, in a batch of its own.
-    PartialIndex = None, Mine, "an index has to be made or removed in all volumes, in a batch of its own";
+    /// The store isn't empty, or has been written to; restore into a new one.
+    NotEmpty = None, Mine, "the store isn't empty, or has been written to; restore into a new one";
     /// The journal isn't that long yet; ask again.
     NotReached = None, Retry, "the journal isn't that long yet; ask again";
     /// The connection has no such live query; start it with watch.

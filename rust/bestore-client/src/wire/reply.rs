@@ -22,12 +22,6 @@ replies! {
         pub kept: String,
         /// The limits of the store and of the connection.
         pub limits: Limits,
-        /// How many volumes the server has.
-        #[serde(default = "one", skip_serializing_if = "is_one")]
-        pub volumes: u32,
-        /// The server's features, listing those that the first servers with this protocol lacked.
-        #[serde(default, skip_serializing_if = "Vec::is_empty")]
-        pub features: Vec<String>,
     }
 
     /// The limits of the store, and of the requests on a connection.
@@ -48,13 +42,8 @@ replies! {
 
     /// The reply to `batch`.
     Written {
-        /// The volume that was written to, if there are several volumes.
-        pub volume?: u32,
-        /// The commit number in that volume.
+        /// The commit number.
         pub commit: u64,
-        /// The commit number in each volume, if all volumes were written to.
-        #[serde(default, skip_serializing_if = "Vec::is_empty")]
-        pub commits: Vec<u64>,
         /// The nodes that were created.
         pub nodes: Vec<u64>,
         /// The number of the write's log entry, if the server uses a log.
@@ -83,19 +72,15 @@ replies! {
     /// The reply to `pin` and `next`: a snapshot, and the number that the next new node will have.
     Next {
         /// The snapshot.
-        pub commit and commits,
+        pub commit: u64,
         /// The next node number.
         pub next: u64,
-        /// The next node number in each volume, if there are several volumes; `next` is then the one in the volume with the most free
-        /// pages.
-        #[serde(default, skip_serializing_if = "Vec::is_empty")]
-        pub nexts: Vec<u64>,
     }
 
     /// The reply to `query`.
     Hits {
         /// The snapshot.
-        pub commit and commits,
+        pub commit: u64,
         /// How many nodes the query finds, starting at node number `from`. Missing if the request was uncounted.
         pub count?: u64,
         /// The nodes in this page. Missing if the request was only for the count.
@@ -109,7 +94,7 @@ replies! {
     /// The reply to a `query` with `by` or `any`.
     Page {
         /// The snapshot.
-        pub commit and commits,
+        pub commit: u64,
         /// The nodes, sorted if the request gave an order.
         pub nodes: Vec<u64>,
         /// Each node's values in the columns.
@@ -125,7 +110,7 @@ replies! {
     /// The reply to `get`.
     Value {
         /// The snapshot.
-        pub commit and commits,
+        pub commit: u64,
         /// The value, if there is one.
         pub value: Option<Json>,
     }
@@ -133,7 +118,7 @@ replies! {
     /// The reply to `columns`.
     Rows {
         /// The snapshot.
-        pub commit and commits,
+        pub commit: u64,
         /// Each node's values, in the order of the names. If not all of them fit on the line, this has the rows of the first nodes only.
         pub rows: Vec<Vec<Option<Json>>>,
     }
@@ -141,7 +126,7 @@ replies! {
     /// The reply to `attributes`.
     Attributes {
         /// The snapshot.
-        pub commit and commits,
+        pub commit: u64,
         /// The attributes' values, by name.
         pub attributes: BTreeMap<String, Json>,
     }
@@ -149,29 +134,26 @@ replies! {
     /// The reply to `indices`.
     Indices {
         /// The snapshot.
-        pub commit and commits,
+        pub commit: u64,
         /// The name of each index, with the name of its kind.
         pub indices: BTreeMap<String, String>,
-        /// The indices that some volumes lack or have with another kind, each with the volumes that have it.
-        #[serde(default, skip_serializing_if = "BTreeMap::is_empty")]
-        pub partial: BTreeMap<String, Vec<u32>>,
     }
 
     /// The reply to `nodes`.
     Nodes {
         /// The snapshot.
-        pub commit and commits,
+        pub commit: u64,
         /// The nodes in this page.
         pub nodes: Vec<u64>,
         /// The beginning of the next page, if there is one.
         pub more?: u64,
     }
 
-    /// The reply to `explain`.
+    /// The reply to `explain` and `ways`.
     Explained {
         /// The snapshot.
-        pub commit and commits,
-        /// The indices chosen for the query, and its cost.
+        pub commit: u64,
+        /// The indices chosen for the query, and its cost; or the ranges that its answer walked.
         pub text: String,
     }
 
@@ -180,7 +162,7 @@ replies! {
         /// The number of the watch.
         pub watch: u64,
         /// The snapshot.
-        pub commit and commits,
+        pub commit: u64,
         /// The nodes that the query finds now.
         pub nodes?: Vec<u64>,
         /// Whether the reply continues in the next push.
@@ -190,21 +172,24 @@ replies! {
 
     /// The reply to `status`.
     Status {
-        pub pages to oldest,
+        /// The total number of pages.
+        pub pages: u64,
+        /// The number of pages that a write can use.
+        pub free: u64,
+        /// The number of pages that only older snapshots use.
+        pub retired: u64,
+        /// How many entries the journal has.
+        pub entries: u64,
+        /// How many entries the journal can have.
+        pub commits: u64,
+        /// The oldest active reader.
+        pub oldest: Option<HeldBy>,
         /// How many clients are connected.
         pub clients: u64,
         /// The total number of live queries.
         pub watches: u64,
         /// Why writes can't be saved at the moment, if that is the case.
         pub trouble?: String,
-        /// The status of each volume, if there are several. The numbers above are then sums over all volumes.
-        #[serde(default, skip_serializing_if = "Vec::is_empty")]
-        pub volumes: Vec<VolumeStatus>,
-    }
-
-    /// How full a volume is.
-    VolumeStatus {
-        pub pages to oldest,
     }
 
     /// The oldest active reader of a store.
@@ -213,8 +198,6 @@ replies! {
         pub snapshot: u64,
         /// The number of the reader's pass.
         pub pass: u64,
-        /// The volume of the snapshot, if there are several volumes.
-        pub volume?: u32,
     }
 
     /// The reply to `journal`.
@@ -243,16 +226,25 @@ replies! {
         pub commit: u64,
         /// The number that the next node will have.
         pub next: u64,
-        /// The batches in this page.
-        pub batches: Vec<Operations>,
+        /// The batches in this page, which list the snapshot's contents, as bestore-types' `listing` reads them.
+        #[serde(with = "super::value::blobs")]
+        pub batches: Vec<Vec<u8>>,
         /// The beginning of the next page, if there is one.
         pub more?: u64,
+    }
+
+    /// The reply to the last `restore` of a state.
+    Restored {
+        /// The commit number.
+        pub commit: u64,
+        /// The number of the log's entry for it, if the server uses a log.
+        pub entry?: u64,
     }
 
     /// A snapshot.
     Commit {
         /// Its number.
-        pub commit and commits,
+        pub commit: u64,
     }
 
     /// A line that the server pushes for a watch, and the reply to `refresh`.
@@ -260,7 +252,7 @@ replies! {
         /// The number of the watch.
         pub watch: u64,
         /// The snapshot that these changes lead to.
-        pub commit and commits,
+        pub commit: u64,
         /// The nodes that entered the answer.
         #[serde(default)]
         pub created: Vec<u64>,
@@ -297,14 +289,6 @@ replies! {
 
 fn is_false(value: &bool) -> bool {
     !value
-}
-
-fn one() -> u32 {
-    1
-}
-
-fn is_one(value: &u32) -> bool {
-    *value == 1
 }
 
 impl Refusal {

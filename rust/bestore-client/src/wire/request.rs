@@ -2,7 +2,6 @@
 
 use super::operation::asked_operations;
 use super::{Operations, Token};
-use bestore_types::Operation;
 use serde::de::value::MapAccessDeserializer;
 use serde::de::{self, Deserialize, Deserializer, IgnoredAny, MapAccess, Visitor};
 use serde::ser::{Serialize, SerializeMap, Serializer};
@@ -57,10 +56,7 @@ parameters! {
         pub operations: Operations,
         /// How many entries the journal must have.
         #[serde(default, deserialize_with = "given", skip_serializing_if = "Option::is_none")]
-        pub expected: Option<Numbers>,
-        /// The volume to write to.
-        #[serde(default, deserialize_with = "given", skip_serializing_if = "Option::is_none")]
-        pub volume: Option<u32>,
+        pub expected: Option<u64>,
         /// Identifies the batch, which makes it safe to resend: it is written only once.
         #[serde(default, deserialize_with = "given", skip_serializing_if = "Option::is_none")]
         pub token: Option<Token>,
@@ -99,9 +95,6 @@ parameters! {
         /// The maximum number of entries.
         #[serde(default, deserialize_with = "given", skip_serializing_if = "Option::is_none")]
         pub limit: Option<u64>,
-        /// The volume, if there are several.
-        #[serde(default, deserialize_with = "given", skip_serializing_if = "Option::is_none")]
-        pub volume: Option<u32>,
     }
 
     /// The parameters of `log`.
@@ -119,9 +112,16 @@ parameters! {
         /// The index of the first batch.
         #[serde(default)]
         pub from: u64,
-        /// The volume, if there are several.
+    }
+
+    /// The parameters of `restore`.
+    Restore {
+        /// The next batches of a state.
+        #[serde(with = "super::value::blobs")]
+        pub batches: Vec<Vec<u8>>,
+        /// In the last request, the number that the next node will have.
         #[serde(default, deserialize_with = "given", skip_serializing_if = "Option::is_none")]
-        pub volume: Option<u32>,
+        pub next: Option<u64>,
     }
 
     /// The parameters of `kick`.
@@ -133,71 +133,10 @@ parameters! {
     /// The parameters of `reach`.
     Reach {
         /// How many entries the journal must have.
-        pub commit: Numbers,
+        pub commit: u64,
         /// How long to wait, in milliseconds, up to 60,000.
         #[serde(default, deserialize_with = "given", skip_serializing_if = "Option::is_none")]
         pub within: Option<u64>,
-    }
-}
-
-impl Write {
-    /// Returns whether a server with this many volumes writes the batch to all of them. It does so if the batch only creates and removes
-    /// indices and names no volume.
-    #[must_use]
-    pub fn is_for_all(&self, volumes: usize) -> bool {
-        let is_of_index = |operation| matches!(operation, Operation::MakeIndex { .. } | Operation::RemoveIndex { .. });
-        let mut operations = self.operations.batch.operations();
-        volumes > 1 && self.volume.is_none() && operations.len() > 0 && operations.all(is_of_index)
-    }
-}
-
-/// The maximum length of a list of numbers.
-const NUMBERS: usize = 64;
-
-/// One commit number, or one for each volume.
-#[derive(Clone, Debug, PartialEq, Eq, serde::Serialize)]
-#[serde(untagged)]
-pub enum Numbers {
-    /// The commit number of a store or of one volume.
-    One(u64),
-    /// The commit number of each volume.
-    Each(Vec<u64>),
-}
-
-impl Default for Numbers {
-    fn default() -> Self {
-        Numbers::One(0)
-    }
-}
-
-impl<'de> Deserialize<'de> for Numbers {
-    fn deserialize<D: Deserializer<'de>>(from: D) -> Result<Self, D::Error> {
-        from.deserialize_any(NumbersVisitor)
-    }
-}
-
-struct NumbersVisitor;
-
-impl<'de> Visitor<'de> for NumbersVisitor {
-    type Value = Numbers;
-
-    fn expecting(&self, f: &mut fmt::Formatter<'_>) -> fmt::Result {
-        f.write_str("a commit number, or a list with one for each volume")
-    }
-
-    fn visit_u64<E: de::Error>(self, number: u64) -> Result<Numbers, E> {
-        Ok(Numbers::One(number))
-    }
-
-    fn visit_seq<A: de::SeqAccess<'de>>(self, mut list: A) -> Result<Numbers, A::Error> {
-        let mut numbers = Vec::new();
-        while let Some(number) = list.next_element()? {
-            if numbers.len() == NUMBERS {
-                return Err(de::Error::custom("the list has more than 64 numbers"));
-            }
-            numbers.push(number);
-        }
-        Ok(Numbers::Each(numbers))
     }
 }
 
@@ -236,7 +175,7 @@ parameters_with_texts! {
         pub any: Option<u64>,
     }
 
-    /// The parameters of `explain` and `text`.
+    /// The parameters of `explain`, `ways` and `text`.
     QueryText {
         /// The query.
         #[serde(borrow)]
@@ -332,8 +271,8 @@ fn read_object<'de, T: FromObject<'de>, D: Deserializer<'de>>(from: D) -> Result
     from.deserialize_map(ObjectVisitor(PhantomData))
 }
 
-/// Parameters that must be given as an object. Without this type, a list of their values in order would be accepted too.
-struct Object<T>(T);
+/// Parameters or a reply, which must be given as an object. Without this type, a list of the values in order would be accepted too.
+pub(crate) struct Object<T>(pub(crate) T);
 
 impl<'de, T: Deserialize<'de>> FromObject<'de> for Object<T> {
     const EXPECTED: &'static str = "an object with parameters";
@@ -408,6 +347,8 @@ commands! {
     Next(Nothing) = "next";
     /// Returns which indices a query uses.
     Explain(QueryText<'a>) = "explain";
+    /// Returns which ranges of index keys the answer to a query walks.
+    Ways(QueryText<'a>) = "ways";
     /// Returns the comparisons in a query.
     Text(QueryText<'a>) = "text";
     /// Begins a live query.
@@ -420,10 +361,12 @@ commands! {
     Status(Nothing) = "status";
     /// Returns entries of the journal.
     Journal(JournalFrom) = "journal";
-    /// Returns batches that recreate the snapshot's contents.
+    /// Returns batches that list the snapshot's contents.
     State(From) = "state";
     /// Copies the snapshot, so that `state` can read it without a pin.
     Collect(Nothing) = "collect";
+    /// Gives an empty store the contents of a state.
+    Restore(Restore) = "restore";
     /// Waits until the journal has enough entries.
     Reach(Reach) = "reach";
     /// Waits until all writes are saved in the file.
@@ -534,9 +477,9 @@ mod tests {
             r#"{"id":3,"watch":{}}"#,
             r#"{"id":3,"text":{"query":"size>1.5"}}"#,
             r#"{"id":3,"log":{"entry":7,"within":0}}"#,
-            r#"{"id":3,"hello":{"protocol":1,"visit":true}}"#,
-            r#"{"id":4,"batch":{"operations":[["new"]],"expected":[3,0],"volume":1}}"#,
-            r#"{"id":5,"reach":{"commit":[3,0],"within":5}}"#,
+            r#"{"id":3,"hello":{"protocol":2,"visit":true}}"#,
+            r#"{"id":5,"reach":{"commit":3,"within":5}}"#,
+            r#"{"id":5,"restore":{"batches":["QkVWAQ==",""],"next":7}}"#,
             r#"{"id":6,"batch":{"operations":[["new"]],"expected":3,"token":"ä","run":"1-2"}}"#,
             r#"{"id":3,"get":{"node":1,"name":"a\"b"}}"#,
             r#"{"id":3,"columns":{"nodes":[2,1],"names":["a","b"]}}"#,
@@ -567,8 +510,10 @@ mod tests {
             (r#"{"id":"a","pin":{}}"#, None),
             (r#"{"get":{"node":1},"id":4}"#, Some(4)),
             (r#"{"id":5,"reach":{"commit":-1}}"#, Some(5)),
-            (r#"{"id":5,"reach":{"commit":["a"]}}"#, Some(5)),
-            (r#"{"id":5,"batch":{"operations":[],"volume":-1}}"#, Some(5)),
+            (r#"{"id":5,"reach":{"commit":[3]}}"#, Some(5)),
+            (r#"{"id":5,"batch":{"operations":[],"volume":0}}"#, Some(5)),
+            (r#"{"id":5,"restore":{"batches":["QkVWAQ"]}}"#, Some(5)),
+            (r#"{"id":5,"restore":{"batches":[7]}}"#, Some(5)),
             (r#"{"id":5,"batch":{"operations":[["new"]],"expected":null}}"#, Some(5)),
             (r#"{"id":5,"batch":{"operations":[["new",7]]}}"#, Some(5)),
             (r#"{"id":5,"journal":{"limit":null}}"#, Some(5)),

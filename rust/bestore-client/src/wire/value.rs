@@ -29,6 +29,40 @@ pub const fn kind_name(kind: Kind) -> &'static str {
 pub(super) const NO_KIND: &str = "no kind has this name; the kinds are text, int32, int64, mime, raw, uint32, uint64";
 // surface.toml: end
 
+/// Lists of bytes, as base64 with padding.
+pub(super) mod blobs {
+    use super::{raw, Text};
+    use serde::de::{Deserializer, SeqAccess, Visitor};
+    use serde::Serializer;
+    use std::fmt;
+
+    pub(in crate::wire) fn serialize<S: Serializer>(list: &[Vec<u8>], to: S) -> Result<S::Ok, S::Error> {
+        to.collect_seq(list.iter().map(base64::encode))
+    }
+
+    pub(in crate::wire) fn deserialize<'de, D: Deserializer<'de>>(from: D) -> Result<Vec<Vec<u8>>, D::Error> {
+        from.deserialize_seq(List)
+    }
+
+    struct List;
+
+    impl<'de> Visitor<'de> for List {
+        type Value = Vec<Vec<u8>>;
+
+        fn expecting(&self, f: &mut fmt::Formatter<'_>) -> fmt::Result {
+            f.write_str("a list of batches in base64")
+        }
+
+        fn visit_seq<A: SeqAccess<'de>>(self, mut list: A) -> Result<Self::Value, A::Error> {
+            let mut read = Vec::new();
+            while let Some(text) = list.next_element::<Text<'de>>()? {
+                read.push(raw(text)?);
+            }
+            Ok(read)
+        }
+    }
+}
+
 /// Returns the kind with this name.
 #[must_use]
 pub fn kind_named(name: &str) -> Option<Kind> {

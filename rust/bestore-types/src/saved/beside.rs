@@ -70,3 +70,17 @@ fn id_without_wal(path: &Path) -> Option<u64> {
     });
     found.ok().flatten()
 }
+
+/// Waits until the contents of the file or folder are on disk.
+pub(super) fn synchronise(path: &Path) -> Result<()> {
+    let synchronised = fs::File::open(path).and_then(|file| file.sync_all());
+    synchronised.map_err(|error| Error::folder(path, error))
+}
+
+/// Returns the folder that contains the path.
+pub(super) fn parent(path: &Path) -> &Path {
+    match path.parent() {
+        Some(parent) if !parent.as_os_str().is_empty() => parent,
+        _ => Path::new("."),
+    }
+}

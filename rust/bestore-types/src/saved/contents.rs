@@ -1,18 +1,20 @@
 //! The contents of a file, read without a store.
 
 use super::file::File;
-use super::{check_volumes, count, files_of, About, Error, Place, Result};
+use super::joining;
+use super::reading::batch;
+use super::{About, Error, Place, Result};
+use crate::listing::records;
 use crate::Batch;
-use std::collections::BTreeMap;
-use std::path::{Path, PathBuf};
+use std::path::Path;
 
-/// The contents of a volume's file: the batches that rebuild its store when applied to an empty one, in order.
+/// The contents of a file: a listing from which its state is built, and the entries that are applied to it, in order.
 #[derive(Clone, Debug, PartialEq, Eq)]
 pub struct Contents {
     /// The numbers that the file records about its state.
     pub about: About,
-    /// The batches that make up the state. Their new nodes get the next numbers.
-    pub state: Vec<Batch>,
+    /// The batches of the state's [listing](crate::listing).
+    pub state: Vec<Vec<u8>>,
     /// The entries after the state. Each new node has the number that it had in the store.
     pub entries: Vec<Batch>,
 }
@@ -22,8 +24,9 @@ impl Contents {
         let file = File::open_to_read(path)?;
         let about = file.state()?;
         let (mut state, mut entries, mut last) = (Vec::new(), Vec::new(), about.entries);
-        file.each_state(|index, bytes| {
-            state.push(batch(Place::State(index), bytes)?);
+        file.each_batch(|index, bytes| {
+            check(bytes).map_err(|error| Error::differs(Place::State(index), error))?;
+            state.push(bytes.to_vec());
             Ok(())
         })?;
         file.each_entry(last, until.unwrap_or(u64::MAX), |number, bytes| {
@@ -34,49 +37,33 @@ impl Contents {
         file.check_end(until, last)?;
         Ok(Self { about, state, entries })
     }
-
-    /// Returns the batches in order, with their positions in the file.
-    pub fn batches(&self) -> impl Iterator<Item = (Place, &Batch)> {
-        let state = (0..).map(Place::State).zip(&self.state);
-        state.chain((self.about.entries + 1..).map(Place::Entry).zip(&self.entries))
-    }
 }
 
-fn batch(place: Place, bytes: &[u8]) -> Result<Batch> {
-    Batch::from_bytes(bytes).map_err(|error| Error::differs(place, error))
+/// Checks that each record of the batch can be read.
+fn check(batch: &[u8]) -> crate::Result<()> {
+    records(batch)?.try_for_each(|record| record.map(drop))
 }
 
-/// Reads a file, or the files of all volumes in a folder, without changing them. All batches are read into memory.
+/// Reads a file without changing it. Everything is read into memory. A folder of volumes of 0.4.0 is read like the file that opening it
+/// would make of it.
 ///
 /// # Errors
 /// [`Error::Foreign`], [`Error::Newer`], [`Error::Held`], [`Error::Damaged`], [`Error::CutOff`], [`Error::Differs`], [`Error::Sqlite`]; for
-/// a folder, these are wrapped in [`Error::OfVolume`]. [`Error::Folder`], [`Error::NoFile`].
-pub fn read(path: impl AsRef<Path>) -> Result<Vec<Contents>> {
-    read_until(path, &BTreeMap::new())
+/// a folder, these are wrapped in [`Error::OfVolume`]. [`Error::Folder`], [`Error::NoFile`], [`Error::OtherKind`].
+pub fn read(path: impl AsRef<Path>) -> Result<Contents> {
+    read_until(path, None)
 }
 
-/// Like [`read`], but reads each of these volumes only up to an entry in its file, such as the last one before a damaged entry. For a
-/// single file, the volume is 0.
+/// Like [`read`], but if `until` is given, reads only up to this entry of the file, such as the last one before a damaged entry.
 ///
 /// # Errors
-/// The same errors as [`read`]. [`Error::NotWithin`] if the file doesn't have the entry. [`Error::NoVolume`] if there is no such volume.
-pub fn read_until(path: impl AsRef<Path>, until: &BTreeMap<u32, u64>) -> Result<Vec<Contents>> {
+/// The same errors as [`read`]. [`Error::NotWithin`] if the file doesn't have the entry. [`Error::NotOneFile`] if `until` is given for a
+/// folder.
+pub fn read_until(path: impl AsRef<Path>, until: Option<u64>) -> Result<Contents> {
     let path = path.as_ref();
-    let is_folder = path.is_dir();
-    let volumes = if is_folder { count(path)? } else { 1 };
-    if volumes > 0 {
-        check_volumes(path, until, volumes)?;
-    }
-    let read = |(volume, file): (u32, PathBuf)| {
-        let read = Contents::read(&file, until.get(&volume).copied());
-        read.map_err(|error| if is_folder { error.of_volume(volume) } else { error })
-    };
-    let contents = (0..)
-        .zip(files_of(path, volumes))
-        .map(read)
-        .collect::<Result<Vec<_>>>()?;
-    match contents.is_empty() {
-        false => Ok(contents),
-        true => Err(Error::Foreign { path: path.to_owned() }),
+    match joining::is_shelf(path)? {
+        true if until.is_some() => Err(Error::NotOneFile { path: path.to_owned() }),
+        true => joining::read(path),
+        false => Contents::read(path, until),
     }
 }

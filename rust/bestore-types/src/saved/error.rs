@@ -1,5 +1,6 @@
 //! Why a file can't be opened, or a write can't be saved.
 
+use crate::Kind;
 use rusqlite::{ffi, ErrorCode};
 use std::fmt;
 use std::path::{Path, PathBuf};
@@ -131,14 +132,10 @@ pub enum Error {
         /// The last entry that was read.
         last: u64,
     },
-    /// The entry at which to stop reading was given for a volume that doesn't exist.
-    NoVolume {
-        /// The file or folder.
+    /// The entry at which to stop reading was given for a folder with several volumes.
+    NotOneFile {
+        /// The folder.
         path: PathBuf,
-        /// The volume that was requested.
-        volume: u32,
-        /// The number of volumes, which are numbered from 0.
-        volumes: u32,
     },
     /// The file's contents are incomplete, or replaying them has a different outcome.
     Differs {
@@ -153,7 +150,7 @@ pub enum Error {
         place: Place,
         /// The store's error.
         error: crate::Error,
-        /// A number of pages that is enough for the file, if the store had too few and such a number is known.
+        /// If the store had too few pages, a number that is enough.
         pages: Option<u64>,
     },
     /// An SQLite error.
@@ -165,28 +162,28 @@ pub enum Error {
     },
     /// The saving thread couldn't be started.
     Thread(std::io::Error),
-    /// A shelf's folder can't be read or created, or a backup's file or folder can't be created.
+    /// A folder of volumes can't be read or renamed, or a backup's file can't be created.
     Folder {
         /// The folder or file.
         path: PathBuf,
         /// The error.
         error: std::io::Error,
     },
-    /// A shelf's folder has the file of a later volume, but not this one.
+    /// A folder of volumes has the file of a later volume, but not this one.
     NoFile {
         /// The file.
         path: PathBuf,
     },
-    /// A shelf can't be opened with fewer volumes than its folder has, or with none.
-    Fewer {
-        /// The folder.
-        folder: PathBuf,
-        /// The number of volumes in the folder.
-        found: u32,
-        /// The number of volumes requested, or `found` if no number was given.
-        wanted: u32,
+    /// An index has different kinds in two volumes of a folder, which therefore can't become one store.
+    OtherKind {
+        /// The index's name.
+        name: String,
+        /// The first volume that has it, and its kind there.
+        first: (u32, Kind),
+        /// The first volume in which it has another kind, and that kind.
+        second: (u32, Kind),
     },
-    /// An error from one volume of a shelf.
+    /// An error from one volume of a folder.
     OfVolume {
         /// The volume.
         volume: u32,
@@ -377,16 +374,11 @@ impl fmt::Display for Error {
                 "{}: entry {until} can't be the last one: the file ends with entry {last}",
                 path.display()
             ),
-            Error::NoVolume { path, volume, volumes: 1 } => write!(
+            Error::NotOneFile { path } => write!(
                 f,
-                "{}: there is no volume {volume}; the only one is 0",
+                "{}: this folder has several volumes, and an entry to stop at can only be given for one file; name the file of a volume, such \
+                 as 0.bestore",
                 path.display()
-            ),
-            Error::NoVolume { path, volume, volumes } => write!(
-                f,
-                "{}: there is no volume {volume}; the volumes are 0 to {}",
-                path.display(),
-                volumes.saturating_sub(1)
             ),
             Error::Differs { place, why } => {
                 write!(f, "{place}: the file contains something that no store wrote: {why}")
@@ -398,22 +390,16 @@ impl fmt::Display for Error {
                     None => Ok(()),
                 }
             }
+            Error::OtherKind { name, first, second } => write!(
+                f,
+                "the index {name:?} holds {} in volume {} and {} in volume {}, so the volumes can't become one store; remove it in one of \
+                 them with bestore 0.4.0, and open the folder again",
+                first.1, first.0, second.1, second.0
+            ),
             Error::Sqlite { path, error } => write!(f, "{}: {error}", path.display()),
             Error::Thread(error) => write!(f, "the thread that saves can't be started: {error}"),
             Error::Folder { path, error } => write!(f, "{}: {error}", path.display()),
             Error::NoFile { path } => write!(f, "{}: the file of this volume is missing, and a later volume has one; put it back", path.display()),
-            Error::Fewer { folder, found: 0, .. } => {
-                write!(
-                    f,
-                    "{}: the folder has no volumes; say how many to make",
-                    folder.display()
-                )
-            }
-            Error::Fewer { folder, found, wanted } => write!(
-                f,
-                "{}: the folder has {found} volumes, and can't be opened with {wanted}",
-                folder.display()
-            ),
             Error::OfVolume { volume, error } => write!(f, "volume {volume}: {error}"),
             Error::Store(error) => error.fmt(f),
             Error::Stopped(error) => write!(f, "saving has failed: {error}"),

@@ -3,9 +3,9 @@
 use super::beside;
 use super::last::LastEntry;
 use super::presence::Presence;
-use super::tables::{self, APPLICATION, FORMAT, WITHOUT_CHECKSUMS};
+use super::tables::{self, APPLICATION, FORMAT, WITHOUT_CHECKSUMS, WITH_OPERATIONS};
 use super::{Error, Place, Result};
-use crate::{Batch, Limits};
+use crate::Batch;
 use rusqlite::config::DbConfig;
 use rusqlite::{ffi, Connection, OpenFlags, Transaction};
 use std::collections::hash_map::RandomState;
@@ -34,7 +34,7 @@ const TRIES: u32 = 6;
 const PAUSE: u64 = 40_000;
 
 /// The highest number that an entry can have: SQLite's largest integer.
-const LAST_NUMBER: u64 = i64::MAX as u64;
+pub const LAST_NUMBER: u64 = i64::MAX as u64;
 
 /// The numbers that a file records about its state.
 #[derive(Clone, Copy, Debug, PartialEq, Eq)]
@@ -49,9 +49,8 @@ pub struct About {
 const MOST_TOKENS: usize = super::TOKENS;
 const TOKENS_AT_ONCE: usize = 1_024;
 
-/// The state is rewritten once the entries are half its size, so that replaying them takes about a fifth of the time to open the file.
-/// It isn't rewritten until they take at least this many bytes, which is about 4,000 small writes. With the WAL, the entries of a small
-/// state then take less than 1 MiB.
+/// The state is rewritten once the entries are half its size, but not before they take this many bytes, which is about 4,000 small writes.
+/// With the WAL, the entries of a small state then take less than 1 MiB.
 const LEAST_DUE: u64 = 256 << 10;
 
 /// The approximate size of a row in bytes, without its batch.
@@ -154,7 +153,9 @@ fn any_number() -> u64 {
 pub struct File {
     connection: Connection,
     path: PathBuf,
-    /// Whether the rows have checksums, which they lack in the earlier format.
+    /// The version of the format.
+    format: i64,
+    /// Whether the rows have checksums, which they lack in the first format.
     has_checksums: bool,
     /// Whether nothing has been written to the file since it was created.
     is_unused: bool,
@@ -203,6 +204,7 @@ impl File {
         Ok(Self {
             connection: opened.map_err(|error| Error::of_sqlite(path, error))?,
             path: path.to_owned(),
+            format: FORMAT,
             has_checksums: true,
             is_unused: false,
             was_alone: false,
@@ -245,6 +247,11 @@ impl File {
         let sum = tables::of_state(place, batch);
         let added = insert.and_then(|mut insert| insert.execute((place as i64, batch, sum)));
         self.sqlite(added.map(drop))
+    }
+
+    /// Adds the token of an entry that the state contains.
+    pub(super) fn add_token(&self, number: u64, token: &Token) -> Result<()> {
+        self.sqlite(self.write_token(number, token))
     }
 
     /// Completes the state and closes the file.
@@ -327,8 +334,9 @@ impl File {
         let path = self.path.clone();
         match (self.pragma("application_id")?, self.pragma("user_version")?) {
             (0, 0) if !has_tables => Ok(true),
-            (APPLICATION, version @ (WITHOUT_CHECKSUMS | FORMAT)) => {
-                self.has_checksums = version == FORMAT;
+            (APPLICATION, version @ (WITHOUT_CHECKSUMS | WITH_OPERATIONS | FORMAT)) => {
+                self.format = version;
+                self.has_checksums = version != WITHOUT_CHECKSUMS;
                 Ok(false)
             }
             (APPLICATION, version) if version > FORMAT => Err(Error::Newer {
@@ -340,9 +348,9 @@ impl File {
         }
     }
 
-    /// Returns `true` if the file is in the earlier format, without checksums.
-    pub fn lacks_checksums(&self) -> bool {
-        !self.has_checksums
+    /// Returns `true` if the file is in an earlier format, whose state consists of operations.
+    pub fn is_of_earlier_format(&self) -> bool {
+        self.format != FORMAT
     }
 
     /// Returns the name of the checksum column, for a statement that reads rows.
@@ -466,30 +474,8 @@ impl File {
             .set_db_config(DbConfig::SQLITE_DBCONFIG_NO_CKPT_ON_CLOSE, true);
     }
 
-    /// Returns the limits for this file's store, which must not commit more transactions than there are entry numbers left.
-    ///
-    /// # Errors
-    /// [`Error::TooLarge`] if no number is left and the state is empty.
-    pub fn limits_within(&self, limits: Limits) -> Result<Limits> {
-        let entries = self.state()?.entries;
-        let left = LAST_NUMBER - entries;
-        if left >= limits.commits {
-            return Ok(limits);
-        }
-        let batches = self
-            .connection
-            .query_row("SELECT count(*) FROM state", [], |row| row.get::<_, u64>(0));
-        match self.sqlite(batches)? + left {
-            0 => Err(Error::refused(Place::Entry(entries), crate::Error::CommitsSpent)),
-            most => Ok(Limits {
-                commits: limits.commits.min(most),
-                ..limits
-            }),
-        }
-    }
-
-    /// Passes each batch of the state to the closure, in order, with its index.
-    pub fn each_state(&self, take: impl FnMut(u64, &[u8]) -> Result<()>) -> Result<()> {
+    /// Passes each batch of the state to the closure, in order, with its index. In an earlier format, these have operations.
+    pub(super) fn each_state(&self, take: impl FnMut(u64, &[u8]) -> Result<()>) -> Result<()> {
         let sql = format!(
             "SELECT place, NULL, batch, {} FROM state ORDER BY place",
             self.checksum()
@@ -623,17 +609,7 @@ impl File {
 
     /// Adds an entry's token. Once there are too many tokens, the oldest ones are removed.
     fn insert_token(&mut self, number: u64, token: &Token) -> rusqlite::Result<()> {
-        let nodes = token.node_bytes();
-        if self.has_checksums {
-            let mut insert = self
-                .connection
-                .prepare_cached("INSERT INTO token VALUES (?, ?, ?, ?)")?;
-            let sum = tables::of_token(number, &token.text, &nodes);
-            insert.execute((number as i64, &*token.text, nodes, sum))?;
-        } else {
-            let mut insert = self.connection.prepare_cached("INSERT INTO token VALUES (?, ?, ?)")?;
-            insert.execute((number as i64, &*token.text, nodes))?;
-        }
+        self.write_token(number, token)?;
         self.with_token.push_back(number);
         if self.with_token.len() < MOST_TOKENS + TOKENS_AT_ONCE {
             return Ok(());
@@ -641,6 +617,20 @@ impl File {
         let last = self.with_token.drain(..TOKENS_AT_ONCE).next_back().unwrap_or(0);
         let mut delete = self.connection.prepare_cached("DELETE FROM token WHERE number <= ?")?;
         delete.execute([last as i64]).map(drop)
+    }
+
+    fn write_token(&self, number: u64, token: &Token) -> rusqlite::Result<()> {
+        let nodes = token.node_bytes();
+        if self.has_checksums {
+            let mut insert = self
+                .connection
+                .prepare_cached("INSERT INTO token VALUES (?, ?, ?, ?)")?;
+            let sum = tables::of_token(number, &token.text, &nodes);
+            insert.execute((number as i64, &*token.text, nodes, sum)).map(drop)
+        } else {
+            let mut insert = self.connection.prepare_cached("INSERT INTO token VALUES (?, ?, ?)")?;
+            insert.execute((number as i64, &*token.text, nodes)).map(drop)
+        }
     }
 
     fn insert_all(&mut self, rows: &[Row]) -> rusqlite::Result<()> {
@@ -659,12 +649,12 @@ impl File {
     }
 
     /// Replaces the old state and the entries up to `number` with this state, which contains them, and empties the WAL. If the file is
-    /// in the earlier format, adds checksums. If the old state contains later entries, the file isn't changed.
+    /// in an earlier format, the same transaction converts it. If the old state contains later entries, the file isn't changed.
     pub fn write_state(
         &mut self,
         number: u64,
         next: u64,
-        batches: impl Iterator<Item = crate::Result<Batch>>,
+        batches: impl Iterator<Item = crate::Result<Vec<u8>>>,
     ) -> Result<()> {
         // Another thread may have written a newer state since this one was copied. The entries between the two are only in that state.
         if number < self.state()?.entries {
@@ -675,16 +665,16 @@ impl File {
         // The new state then overwrites the WAL's earlier contents instead of following them.
         self.checkpoint("PASSIVE");
         let mut failed = None;
-        let batches = batches.map(|batch| batch.and_then(|batch| batch.to_bytes()));
         let batches = batches.map_while(|bytes| bytes.map_err(|error| failed = Some(error)).ok());
         let about = About { entries: number, next };
-        let written = replace_state(&mut self.connection, self.has_checksums, about, batches);
+        let written = replace_state(&mut self.connection, self.format, about, batches);
         let transaction = written.map_err(|error| Error::of_sqlite(&self.path, error))?;
         if let Some(error) = failed {
             return Err(error.into());
         }
         let committed = transaction.commit();
         committed.map_err(|error| Error::of_sqlite(&self.path, error))?;
+        self.format = FORMAT;
         self.has_checksums = true;
         self.is_unused = false;
         self.checkpoint("TRUNCATE");
@@ -701,15 +691,18 @@ impl File {
 /// Replaces the state, and the entries that the new one contains, within a transaction, and returns the transaction.
 fn replace_state(
     connection: &mut Connection,
-    has_checksums: bool,
+    format: i64,
     about: About,
     batches: impl Iterator<Item = Vec<u8>>,
 ) -> rusqlite::Result<Transaction<'_>> {
     let transaction = connection.transaction()?;
     transaction.execute("DELETE FROM state", [])?;
     transaction.execute("DELETE FROM entry WHERE number <= ?", [about.entries as i64])?;
-    if !has_checksums {
+    if format == WITHOUT_CHECKSUMS {
         tables::add_checksums(&transaction)?;
+    }
+    if format != FORMAT {
+        tables::set_format(&transaction)?;
     }
     let mut insert = transaction.prepare("INSERT INTO state VALUES (?, ?, ?)")?;
     for (place, bytes) in (0_u64..).zip(batches) {

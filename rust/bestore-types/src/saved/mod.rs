@@ -10,18 +10,24 @@ mod error;
 #[allow(missing_docs)]
 #[doc(hidden)]
 pub mod file;
+#[allow(missing_docs)]
+#[doc(hidden)]
+pub mod joining;
 mod last;
 #[allow(missing_docs)]
 #[doc(hidden)]
 pub mod presence;
+mod reading;
 mod tables;
+#[allow(missing_docs)]
+#[doc(hidden)]
+pub mod volume;
 mod volumes;
 
 pub use backup::Backup;
 pub use contents::{read, read_until, Contents};
 pub use error::{Error, Place};
 pub use file::About;
-pub use volumes::{check_volumes, count, files_of, path_of};
 
 /// The result of a call in this module.
 pub type Result<T> = std::result::Result<T, Error>;

@@ -7,8 +7,10 @@ use rusqlite::{Connection, Row};
 /// "best" in ASCII: the application ID in the SQLite header, which identifies the file.
 pub(super) const APPLICATION: i64 = 0x6265_7374;
 
-/// The format's version, and the one before it, whose rows have no checksums.
-pub(super) const FORMAT: i64 = 2;
+/// The format's version, and the ones before it. The state of an earlier format consists of operations, and the rows of the first one have
+/// no checksums.
+pub(super) const FORMAT: i64 = 3;
+pub(super) const WITH_OPERATIONS: i64 = 2;
 pub(super) const WITHOUT_CHECKSUMS: i64 = 1;
 
 const TABLES: &str = "
@@ -62,10 +64,15 @@ pub(super) fn make_tokens(connection: &Connection, has_checksums: bool) -> rusql
     connection.execute_batch(&format!("{TOKENS}{column})"))
 }
 
-/// Adds checksums to the rows of a file in the earlier format, within a transaction. The state is empty by then, and [`set_about`] sets the
+/// Sets the format's version, within a transaction in which the state is replaced too.
+pub(super) fn set_format(connection: &Connection) -> rusqlite::Result<()> {
+    connection.execute_batch(&format!("PRAGMA user_version = {FORMAT}"))
+}
+
+/// Adds checksums to the rows of a file in the first format, within a transaction. The state is empty by then, and [`set_about`] sets the
 /// checksums of `about`.
 pub(super) fn add_checksums(connection: &Connection) -> rusqlite::Result<()> {
-    connection.execute_batch(&format!("{COLUMNS} PRAGMA user_version = {FORMAT}"))?;
+    connection.execute_batch(COLUMNS)?;
     set_id(connection)?;
     let mut entries = connection.prepare("SELECT number, pass, batch FROM entry")?;
     let mut set = connection.prepare("UPDATE entry SET checksum = ? WHERE number = ?")?;

@@ -1,7 +1,7 @@
 //! Handles that close themselves and are dead in a forked child.
 
 use super::{Answer, Refused, FORKED};
-use bestore_sys::{self as sys, bes_draft, bes_pass, bes_place, bes_prepared, bes_witness};
+use bestore_sys::{self as sys, bes_builder, bes_draft, bes_pass, bes_prepared, bes_witness};
 use std::marker::PhantomData;
 use std::ptr::NonNull;
 use std::sync::atomic::{AtomicU64, Ordering};
@@ -68,7 +68,8 @@ macro_rules! close_by {
 }
 
 close_by!(
-    bes_pass by bes_close, bes_prepared by bes_release, bes_place by bes_leave, bes_witness by bes_dismiss
+    bes_pass by bes_close, bes_prepared by bes_release, bes_witness by bes_dismiss,
+    bes_builder by bes_build_close
 );
 
 impl CloseHandle for bes_draft {

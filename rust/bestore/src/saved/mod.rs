@@ -1,7 +1,7 @@
 //! Stores whose writes are kept in a file.
 //!
-//! The store is in memory, and each transaction is also written to an SQLite file before its call returns. Opening the file rebuilds the
-//! store.
+//! The store is in memory, and each transaction is also written to an SQLite file before its call returns. Opening the file builds the
+//! store again.
 //!
 //! ```
 //! use bestore::{saved, Kind};
@@ -30,21 +30,19 @@
 //!
 //! Opening the file and calling [`Saved::compact`] rewrite its state, so that the file doesn't grow forever.
 
+mod loading;
 mod progress;
 mod queue;
-mod room;
-mod shelf;
 
-pub use bestore_types::saved::{files_of, About, Backup, Error, Place, Result, TOKENS};
+pub use bestore_types::saved::{About, Backup, Error, Place, Result, TOKENS};
 pub use progress::Progress;
-pub use shelf::SavedShelf;
 
-use crate::{Batch, Limits, Pass, Shelf, Snapshot, Store};
+use crate::{Limits, Pass, Snapshot, Store};
 use bestore_types::saved::file::{self, File};
-use bestore_types::saved::{check_volumes, count};
+use bestore_types::saved::joining;
+use loading::{load, Loaded};
 use queue::Queue;
-use std::collections::BTreeMap;
-use std::path::{Path, PathBuf};
+use std::path::Path;
 use std::sync::Arc;
 use std::time::Duration;
 
@@ -56,7 +54,7 @@ pub fn open(path: impl AsRef<Path>) -> Result<Saved> {
     Options::new().open(path)
 }
 
-/// A write's token in the file; see [`Batch::set_token`].
+/// A write's token in the file; see [`Batch::set_token`](crate::Batch::set_token).
 #[derive(Clone, Debug, PartialEq, Eq)]
 pub struct Token {
     /// The token.
@@ -75,7 +73,7 @@ const YEAR: Duration = Duration::from_secs(365 * 24 * 3600);
 pub struct Options {
     limits: Limits,
     every: Option<Duration>,
-    until: BTreeMap<u32, u64>,
+    until: Option<u64>,
 }
 
 impl Options {
@@ -97,22 +95,29 @@ impl Options {
         self
     }
 
-    /// Makes [`load`](Self::load) read a volume's file only up to this entry, such as the last one before a damaged entry. For a single
-    /// file, the volume is 0. All other methods read every entry.
-    pub fn until(&mut self, volume: u32, entry: u64) -> &mut Self {
-        self.until.insert(volume, entry);
+    /// Makes [`load`](Self::load) read the file only up to this entry, such as the last one before a damaged entry. All other methods read
+    /// every entry.
+    pub fn until(&mut self, entry: u64) -> &mut Self {
+        self.until = Some(entry);
         self
     }
 
-    /// Opens or creates the file, and rebuilds the store. If the file is refused, it isn't changed.
+    /// Opens or creates the file, and builds the store: from its state, to which its entries are applied. If the file is refused, it isn't
+    /// changed. A file in an earlier format is converted by a single transaction.
+    ///
+    /// If there is a folder of volumes at the path, as a shelf of version 0.4.0 has it (`0.bestore`, `1.bestore` and so on), a file is written
+    /// that has the nodes and indices of all volumes, and takes the folder's place. The folder is kept, with `-0.4` after its name. Nodes get
+    /// the numbers that they had in the shelf: 10^14 times the volume, plus the number in the volume.
     ///
     /// # Errors
     /// [`Error::NotAFile`], [`Error::NotPrivate`], [`Error::OtherWal`], [`Error::Foreign`], [`Error::Newer`], [`Error::Held`],
     /// [`Error::Damaged`], [`Error::CutOff`], [`Error::Differs`], [`Error::Moved`], [`Error::TooLarge`], [`Error::DiskFull`],
-    /// [`Error::Sqlite`], [`Error::Store`].
+    /// [`Error::Sqlite`], [`Error::Store`]; for a folder of volumes [`Error::OtherKind`], [`Error::NoFile`], [`Error::Exists`],
+    /// [`Error::Folder`], and the errors of a volume's file in [`Error::OfVolume`].
     pub fn open(&self, path: impl AsRef<Path>) -> Result<Saved> {
+        joining::join(path.as_ref())?;
         let mut file = File::open(path.as_ref())?;
-        let Loaded { store, number, tokens } = self.open_store(&mut file).map_err(|error| {
+        let (Loaded { store, number }, tokens) = self.open_store(&mut file).map_err(|error| {
             file.leave();
             error
         })?;
@@ -128,7 +133,7 @@ impl Options {
         let lacks_wal = file.lacks_wal() && number == 0;
         let token = |(entry, token): (u64, file::Token)| Token {
             text: token.text.into(),
-            // The state's batches come before the entries and aren't entries themselves.
+            // The state's entries aren't in memory.
             commit: in_memory.saturating_sub(number.saturating_sub(entry.max(of_state))),
             nodes: token.nodes,
         };
@@ -142,99 +147,42 @@ impl Options {
         })
     }
 
-    /// Creates the store for a file.
-    fn open_store(&self, file: &mut File) -> Result<Loaded> {
-        let limits = file.limits_within(self.limits)?;
-        let (store, number) = room::load_within(file, limits, u64::MAX)?;
-        let tokens = file.tokens(number)?;
-        file.check_end(None, number)?;
-        Ok(Loaded { store, number, tokens })
+    /// Creates the store for a file, and reads its tokens.
+    fn open_store(&self, file: &mut File) -> Result<(Loaded, Vec<(u64, file::Token)>)> {
+        let loaded = load(file, self.limits, u64::MAX)?;
+        let tokens = file.tokens(loaded.number)?;
+        file.check_end(None, loaded.number)?;
+        Ok((loaded, tokens))
     }
 
-    /// Rebuilds a file's store, or a folder's volumes, without changing the files. Writes to the result aren't kept anywhere. The limits
-    /// apply to each volume.
+    /// Builds a file's store without changing the file. Writes to the result aren't kept anywhere. A folder of volumes of version 0.4.0 is
+    /// read as [`open`](Self::open) would.
     ///
     /// # Errors
-    /// The same errors as [`open`](Self::open) and [`open_shelf`](Self::open_shelf), except for a full disk. [`Error::NotWithin`] if the
-    /// file doesn't have the entry that was given to [`until`](Self::until). [`Error::NoVolume`] if there is no such volume.
-    pub fn load(&self, path: impl AsRef<Path>) -> Result<Shelf> {
+    /// The same errors as [`open`](Self::open), except for a full disk. [`Error::NotWithin`] if the file doesn't have the entry that was
+    /// given to [`until`](Self::until). [`Error::NotOneFile`] if an entry was given for a folder.
+    pub fn load(&self, path: impl AsRef<Path>) -> Result<Store> {
         let path = path.as_ref();
-        let is_folder = path.is_dir();
-        let count = if is_folder { count(path)? } else { 1 };
-        if count > 0 {
-            check_volumes(path, &self.until, count)?;
+        if joining::is_shelf(path)? {
+            return match self.until {
+                Some(_) => Err(Error::NotOneFile { path: path.to_owned() }),
+                None => loading::build(&joining::read_volume(path)?, self.limits),
+            };
         }
-        let load = |(volume, file): (u32, PathBuf)| {
-            let loaded = self.load_file(&file, self.until.get(&volume).copied());
-            loaded.map_err(|error| if is_folder { error.of_volume(volume) } else { error })
-        };
-        let volumes = (0..).zip(files_of(path, count)).map(load).collect::<Result<Vec<_>>>()?;
-        match volumes.is_empty() {
-            false => Ok(Shelf::of_volumes(volumes)?),
-            true => Err(Error::Foreign { path: path.to_owned() }),
-        }
-    }
-
-    fn load_file(&self, path: &Path, until: Option<u64>) -> Result<Store> {
         let file = File::open_to_read(path)?;
-        let (store, last) = room::load_within(&file, self.limits, until.unwrap_or(u64::MAX))?;
-        file.check_end(until, last)?;
+        let Loaded { store, number } = load(&file, self.limits, self.until.unwrap_or(u64::MAX))?;
+        file.check_end(self.until, number)?;
         Ok(store)
     }
 }
 
-/// A store that has been rebuilt from a file, with the number of the file's last entry and the file's tokens.
-struct Loaded {
-    store: Store,
-    number: u64,
-    tokens: Vec<(u64, file::Token)>,
-}
-
-/// Applies the file's contents to the empty store, up to the entry `until`. Returns the number of the last entry applied.
-fn load(file: &File, store: &Store, until: u64) -> Result<u64> {
-    let mut own = store.own()?;
-    let state = file.state()?;
-    file.each_state(|index, batch| {
-        let applied = own.apply(&read(Place::State(index), batch)?);
-        applied
-            .map(drop)
-            .map_err(|error| Error::refused(Place::State(index), error))
-    })?;
-    if own.pin()?.next_node()? != state.next {
-        return Err(Error::differs(
-            Place::State(0),
-            "the state's next node number differs from the recorded one",
-        ));
-    }
-    let mut last = state.entries;
-    file.each_entry(last, until, |number, batch| {
-        last = number;
-        repeat(&own, number, &read(Place::Entry(number), batch)?)
-    })?;
-    Ok(last)
-}
-
-/// Applies an entry, and compares its outcome with the one in the file.
-fn repeat(pass: &Pass, number: u64, batch: &Batch) -> Result<()> {
-    let place = Place::Entry(number);
-    match pass.repeat(batch) {
-        Ok(true) => Ok(()),
-        Ok(false) => Err(Error::differs(place, "it makes different nodes now")),
-        Err(error) => Err(Error::refused(place, error)),
-    }
-}
-
-fn read(place: Place, bytes: &[u8]) -> Result<Batch> {
-    Batch::from_bytes(bytes).map_err(|error| Error::differs(place, error))
-}
-
-/// Rewrites the state if entries follow it, or if the file has no checksums. If nothing can be written, for example because the disk is
-/// full, the file isn't changed, and the next write reports the error.
+/// Rewrites the state if entries follow it, or if the file is in an earlier format. If nothing can be written, for example because the disk
+/// is full, the file isn't changed, and the next write reports the error.
 fn renew(file: &mut File, snapshot: &Snapshot<'_>, number: u64) -> Result<()> {
-    if number == file.state()?.entries && !file.lacks_checksums() {
+    if number == file.state()?.entries && !file.is_of_earlier_format() {
         return Ok(());
     }
-    match file.write_state(number, snapshot.next_node()?, snapshot.state()) {
+    match file.write_state(number, snapshot.next_node()?, snapshot.listing()) {
         Err(error) if error.is_of_writing() => Ok(()),
         answer => answer,
     }
@@ -310,7 +258,7 @@ impl Saved {
     }
 
     /// Writes a [copy](Store::copy_state) of the current snapshot to the file, where it replaces the state and the entries that the copy
-    /// includes. Other writes can continue in the meantime, and are saved after it. This takes memory for the state's batches.
+    /// includes. Other writes can continue in the meantime, and are saved after it. This takes memory for the listing.
     ///
     /// # Errors
     /// The same errors as [`flush`](Self::flush); [`Error::DiskFull`] or [`Error::Sqlite`], which leave the file unchanged.
@@ -337,6 +285,19 @@ impl Saved {
         self.queue.number_in_file(commit)
     }
 
+    /// Replaces the volume of an empty store, as [`Store::begin_with`] does. The file has the new volume before this returns.
+    ///
+    /// # Errors
+    /// The same errors as `begin_with`, in [`Error::Store`], and [`Error::Moved`], which leave the store and the file unchanged. If the volume
+    /// can't be written to the file, [`Error::Stopped`]: the store has the volume, and takes no more writes.
+    pub fn begin_with<B: AsRef<[u8]>>(&self, batches: &[B], next: u64) -> Result<u64> {
+        let begin = || self.store.begin_with(batches, next).map_err(Error::Store);
+        self.queue.begin_with(begin, |file, number| {
+            let batches = batches.iter().map(|batch| Ok(batch.as_ref().to_vec()));
+            file.write_state(number, next, batches)
+        })
+    }
+
     /// Saves everything that has been written, and closes the file. Passes that are still open can only read.
     ///
     /// # Errors
@@ -345,7 +306,11 @@ impl Saved {
         self.end()
     }
 
-    fn end(&self) -> Result<()> {
+    /// Does the same as [`close`](Self::close), even if other threads share the store.
+    ///
+    /// # Errors
+    /// The same errors as `close`.
+    pub fn end(&self) -> Result<()> {
         self.store.check()?;
         self.queue.close()
     }

@@ -6,7 +6,7 @@ use super::{Error, Result};
 use crate::pass::{Keeper, MakeWrite};
 use crate::raw::Birthplace;
 use crate::{Batch, Written};
-use bestore_types::saved::file::{File, Row};
+use bestore_types::saved::file::{File, Row, LAST_NUMBER};
 use bestore_types::saved::presence::Presence;
 use std::mem;
 use std::sync::atomic::{AtomicBool, Ordering};
@@ -72,7 +72,7 @@ impl Line {
 /// Returns the error for writes to the store that weren't made through this queue. The file could have no entries after the gap.
 fn unsaved() -> Error {
     Error::Store(crate::Error::other(
-        "a write was made through a pass that doesn't save; open the file again, and take passes only from Saved or SavedShelf",
+        "a write was made through a pass that doesn't save; open the file again, and take passes only from Saved",
     ))
 }
 
@@ -208,6 +208,9 @@ impl Keeper for Shared {
             line = self.advance(line);
         }
         line.check().map_err(crate::Error::Stopped)?;
+        if line.written == LAST_NUMBER {
+            return Err(crate::Error::CommitsSpent);
+        }
         let written = write()?;
         let number = self.number_in_file(written.number);
         let row = line
@@ -326,6 +329,29 @@ impl Queue {
         }
         self.shared.wait_for(line, number).map_err(Error::Stopped)?;
         self.shared.presence.check()
+    }
+
+    /// Begins with another volume: `begin` replaces that of the empty store and returns its commit number, and `write` writes it to the file,
+    /// as the state after the entry with this number. Meanwhile, nothing else is written.
+    pub(super) fn begin_with(
+        &self,
+        begin: impl FnOnce() -> Result<u64>,
+        write: impl FnOnce(&mut File, u64) -> Result<()>,
+    ) -> Result<u64> {
+        self.shared.presence.check_file()?;
+        let mut line = lock(&self.shared.line);
+        line.check().map_err(Error::Stopped)?;
+        let commit = begin()?;
+        let number = self.number_in_file(commit);
+        line.written = number;
+        let written = self.with_file(|file| write(file, number));
+        match written.and_then(|()| self.shared.presence.check()) {
+            Ok(()) => {
+                line.saved = number;
+                Ok(commit)
+            }
+            Err(error) => Err(Error::Stopped(line.failed.insert(Arc::new(error)).clone())),
+        }
     }
 
     /// Returns an error if the file isn't at its path any more.

@@ -2,11 +2,14 @@
 #![allow(dead_code)]
 
 #[cfg(feature = "saved")]
+pub mod earlier;
+pub mod filling;
+#[cfg(feature = "saved")]
 pub mod preload;
 
 #[cfg(feature = "saved")]
 use bestore::saved::{Options, Saved};
-use bestore::{Kind, Limits, Pass, Retry, ShelfPass, Store};
+use bestore::{Kind, Limits, Pass, Retry, Store};
 use std::fs;
 use std::path::{Path, PathBuf};
 use std::time::Duration;
@@ -74,6 +77,13 @@ impl Drop for Folder {
     }
 }
 
+/// Returns how many bytes of this process are in memory, assuming pages of 4 KiB or more.
+pub fn resident() -> u64 {
+    let read = std::fs::read_to_string("/proc/self/statm").unwrap();
+    let pages: u64 = read.split(' ').nth(1).unwrap().parse().unwrap();
+    pages * 4096
+}
+
 /// A small store.
 pub fn store() -> Store {
     sized(256)
@@ -103,16 +113,6 @@ pub fn shared(passes: u64) -> Store {
         ..Limits::default()
     };
     Store::open(limits).unwrap()
-}
-
-/// Creates a node with this size in a volume of a shelf.
-pub fn make_sized(pass: &mut ShelfPass, volume: u32, size: i64) -> u64 {
-    let made = pass.change_in(volume, |change| {
-        let node = change.new_node()?;
-        change.set(node, "size", size)?;
-        Ok(node)
-    });
-    made.unwrap()
 }
 
 /// A pass of a small store with an index `size` of kind `Int64`, and nodes 1 to 10 with sizes 1 to

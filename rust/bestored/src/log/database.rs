@@ -14,8 +14,9 @@ use tokio::task::JoinHandle;
 use tokio_postgres::types::ToSql;
 use tokio_postgres::{AsyncMessage, Client, Config, NoTls, Row as SqlRow, Socket, Statement};
 
-/// The version of the tables' format.
-const FORMAT: i32 = 1;
+/// The version of the tables' format. In version 1, which 0.4.0 writes, the state consists of ordinary batches.
+const FORMAT: i32 = 2;
+const OLDEST: i32 = 1;
 
 /// The encodings of databases that can store every token. With the second, PostgreSQL stores bytes as they are.
 const ENCODINGS: [&str; 2] = ["UTF8", "SQL_ASCII"];
@@ -34,8 +35,8 @@ const STATE_LIMIT: Duration = Duration::from_secs(60);
 const ROWS: usize = 500;
 const BYTES: usize = 256 << 10;
 
-/// The maximum number of the state's batches to write at a time.
-const BATCHES: usize = 500;
+/// How many bytes of the state's batches to write at a time.
+const WRITTEN: usize = 4 << 20;
 
 /// How many entries from before the state to leave in the log, for followers that lag slightly.
 const SPARE: u64 = 10_000;
@@ -320,7 +321,7 @@ impl Database {
             Err(error) => return Err(error),
         };
         match format {
-            FORMAT => Ok(()),
+            OLDEST..=FORMAT => Ok(()),
             format if format > FORMAT => Err(Error::Newer { format, known: FORMAT }),
             _ => Err(Error::Foreign),
         }
@@ -465,22 +466,57 @@ impl Database {
     /// Replaces the log's state with this one, which contains the entries up to `number`, and removes much older entries. Returns
     /// `false` and changes nothing if the term is no longer the last one.
     pub async fn write_state(&self, term: u64, number: u64, next: u64, batches: &[Vec<u8>]) -> Result<bool> {
+        self.begin_state(batches).await?;
+        let spared = number.saturating_sub(SPARE) as i64;
+        limited_to(STATE_LIMIT, self.client.execute(REMOVE, &[&spared, &(TOKENS as i64)])).await?;
+        let parameters: [&(dyn ToSql + Sync); 4] = [&(next as i64), &(term as i64), &FORMAT, &(number as i64)];
+        self.end_state("SET entries = $4", "entries <= $4 AND last >= $4", &parameters)
+            .await
+    }
+
+    /// Writes a state that takes the place of the first entry. Returns `false` and changes nothing if the log has an entry, or if the
+    /// term is no longer the last one.
+    pub async fn write_first_state(&self, term: u64, next: u64, batches: &[Vec<u8>]) -> Result<bool> {
+        self.begin_state(batches).await?;
+        let parameters: [&(dyn ToSql + Sync); 3] = [&(next as i64), &(term as i64), &FORMAT];
+        self.end_state("SET entries = 1, last = 1", "last = 0", &parameters)
+            .await
+    }
+
+    /// Begins a transaction that replaces the batches of the state.
+    async fn begin_state(&self, batches: &[Vec<u8>]) -> Result<()> {
         limited(self.client.batch_execute("BEGIN; LOCK bestore_state IN EXCLUSIVE MODE")).await?;
         let begin = "SET LOCAL statement_timeout = '55s'; DELETE FROM bestore_state";
         limited_to(STATE_LIMIT, self.client.batch_execute(begin)).await?;
         let insert = "INSERT INTO bestore_state SELECT $1 + place, batch FROM unnest($2::bytea[]) WITH ORDINALITY AS row (batch, place)";
         let insert = limited(self.client.prepare(insert)).await?;
-        for (place, part) in (0_i64..).step_by(BATCHES).zip(batches.chunks(BATCHES)) {
-            limited_to(STATE_LIMIT, self.client.execute(&insert, &[&place, &part])).await?;
+        let (mut place, mut rest) = (0, batches);
+        while !rest.is_empty() {
+            let (part, others) = rest.split_at(part_of(rest));
+            limited_to(STATE_LIMIT, self.client.execute(&insert, &[&(place as i64), &part])).await?;
+            (place, rest) = (place + part.len(), others);
         }
-        let spared = number.saturating_sub(SPARE) as i64;
-        limited_to(STATE_LIMIT, self.client.execute(REMOVE, &[&spared, &(TOKENS as i64)])).await?;
+        Ok(())
+    }
+
+    /// Ends the transaction, with what the log records about the state. Nothing is changed unless the condition holds and the term is the
+    /// last one; returns whether that is so.
+    async fn end_state(&self, set: &str, condition: &str, parameters: &[&(dyn ToSql + Sync)]) -> Result<bool> {
         // This statement comes last, because from here to the commit no entry can be added.
-        let update = "UPDATE bestore_log SET entries = $1, next = $2 WHERE term = $3 AND entries <= $1 AND last >= $1";
-        let parameters: [&(dyn ToSql + Sync); 3] = [&(number as i64), &(next as i64), &(term as i64)];
-        let is_leading = limited(self.client.execute(update, &parameters)).await? == 1;
+        let update = format!("UPDATE bestore_log {set}, next = $1, format = $3 WHERE term = $2 AND {condition}");
+        let is_leading = limited(self.client.execute(&*update, parameters)).await? == 1;
         let end = if is_leading { "COMMIT" } else { "ROLLBACK" };
         limited_to(STATE_LIMIT, self.client.batch_execute(end)).await?;
         Ok(is_leading)
     }
+}
+
+/// Returns how many of these batches to write at a time.
+fn part_of(batches: &[Vec<u8>]) -> usize {
+    let mut bytes = 0;
+    let fits = batches.iter().take_while(|batch| {
+        bytes += batch.len();
+        bytes <= WRITTEN
+    });
+    fits.count().max(1)
 }

@@ -55,6 +55,9 @@ pub enum Error {
     /// An earlier session of this server still holds the lock.
     #[error("an earlier session of this server still has the leader's lock")]
     OldSession,
+    /// A backup can't be the log's beginning, because the log has entries or another leader.
+    #[error("the log has got entries or another leader, so the restored state isn't in it")]
+    NotFirst,
     /// Another server has taken over from this one as leader.
     #[error(
         "{leader} leads the log now; {unsaved} writes of this server, none of them confirmed, may be missing there"

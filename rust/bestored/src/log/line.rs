@@ -64,6 +64,8 @@ pub struct State {
     pub trouble: Option<Trouble>,
     waiting: Vec<Row>,
     waiting_bytes: usize,
+    /// Whether a state is being written in the place of the first entry. Until it is in the log, writes wait.
+    is_beginning: bool,
     /// Whether the server is shutting down.
     is_closing: bool,
     /// How many times someone has asked whether this server still leads, and the number of the last question that was answered
@@ -122,6 +124,7 @@ impl Line {
             trouble: None,
             waiting: Vec::new(),
             waiting_bytes: 0,
+            is_beginning: false,
             is_closing: false,
             asked: 0,
             confirmed: 0,
@@ -182,6 +185,34 @@ impl Line {
             state.written = state.written.max(number);
             state.trouble = None;
         });
+    }
+
+    /// Gives the store the contents of a state, which take the place of the log's first entry. Writes then wait for
+    /// [`begun`](Self::begun). Returns the commit number.
+    pub fn begin(&self, begin: impl FnOnce() -> bestore::Result<u64>) -> bestore::Result<u64> {
+        self.change(|state| {
+            if let Some(refused) = state.refused() {
+                return Err(refused.into());
+            }
+            if state.written > 0 {
+                return Err(bestore::Error::NotEmpty);
+            }
+            state.is_beginning = true;
+            Ok(())
+        })?;
+        // The log's thread must not wait for this.
+        let begun = begin();
+        self.change(|state| match &begun {
+            Ok(commit) => state.written = self.entry(*commit),
+            Err(_) => state.is_beginning = false,
+        });
+        begun
+    }
+
+    /// Records that the log has these contents.
+    pub fn begun(&self, commit: u64) {
+        self.lock().is_beginning = false;
+        self.saved(self.entry(commit));
     }
 
     /// Records that the log hasn't been readable or writable since this time. Returns whether this was unknown until now.
@@ -291,9 +322,9 @@ impl Line {
         state.written > state.saved
     }
 
-    /// Records that the log can no longer be read or written.
-    pub fn fail(&self, error: Error) {
-        self.change(|state| state.failed = Some(Arc::new(error)));
+    /// Records that the log can no longer be read or written, and why.
+    pub fn fail(&self, error: Error) -> Arc<Error> {
+        self.change(|state| state.failed.insert(Arc::new(error)).clone())
     }
 
     /// Lets the log's thread end once it has added the waiting writes.
@@ -336,7 +367,7 @@ impl Line {
 impl Keeper for Line {
     fn keep(&self, pass: u64, batch: &Batch, write: MakeWrite<'_>) -> bestore::Result<(Written, u64)> {
         let mut state = self.lock();
-        while state.waiting_bytes > WAITING && state.refused().is_none() {
+        while (state.waiting_bytes > WAITING || state.is_beginning) && state.refused().is_none() {
             state = self.wait(state, Duration::from_secs(1));
         }
         if let Some(refused) = state.refused() {

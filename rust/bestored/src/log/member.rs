@@ -7,9 +7,9 @@ use super::{state, Access, FOR_LOCK, REST};
 use crate::pressure::Pressure;
 use crate::server::{Seldom, Shared};
 use crate::tokens::Tokens;
-use crate::volumes;
+use crate::writes::shown;
 use bestore::saved::Place;
-use bestore::{Batch, Pass, Written};
+use bestore::{Batch, Limits, Pass, Store, Written};
 use bestore_types::saved::file::Row;
 use std::future::Future;
 use std::pin::Pin;
@@ -82,8 +82,8 @@ pub struct Member {
 }
 
 impl Member {
-    /// Connects to the database and rebuilds the store. Fails if this server is to lead but another server already leads.
-    pub async fn begin(access: Access, mut pass: Pass, tokens: Arc<Tokens>, leads: bool) -> Result<(Self, Arc<Line>)> {
+    /// Connects to the database and builds the store. Fails if this server is to lead but another server already leads.
+    pub async fn begin(access: Access, limits: Limits, tokens: Arc<Tokens>, leads: bool) -> Result<(Self, Store)> {
         let mut database = Database::connect(&access.configs).await?;
         if leads {
             database.make().await?;
@@ -94,14 +94,15 @@ impl Member {
             true => lead_first(&database, &access).await?,
             false => Role::Follower,
         };
-        let state = state::load(&mut database, &mut pass).await?;
+        let (store, state) = state::load(&mut database, limits).await?;
+        let mut pass = store.pass()?;
         let head = database.head().await?;
         let commit = pass.pin()?.number();
         state::load_tokens(&database, state, commit, &tokens).await?;
         let line = Arc::new(Line::new(role, head.leader, state, commit));
         let mut member = Self {
             access,
-            line: line.clone(),
+            line,
             tokens,
             database,
             pass,
@@ -114,7 +115,11 @@ impl Member {
             is_silent: Seldom::default(),
         };
         member.apply_to(head.last, None).await?;
-        Ok((member, line))
+        Ok((member, store))
+    }
+
+    pub fn line(&self) -> &Arc<Line> {
+        &self.line
     }
 
     /// Follows and leads until the server shuts down or can no longer use the log.
@@ -228,6 +233,7 @@ impl Member {
                 looked = Some(Instant::now());
                 let head = self.database.head().await?;
                 self.check(&head)?;
+                self.check_next(head.entries).await?;
                 self.line.change(|state| {
                     state.leader = head.leader.clone();
                     state.last = head.last;
@@ -298,9 +304,26 @@ impl Member {
     async fn apply_to(&mut self, last: u64, shared: Option<&Shared>) -> Result<()> {
         self.apply_new(shared).await?;
         let known = self.line.lock().saved;
-        match known >= last {
-            true => Ok(()),
-            false => Err(Error::differs(Place::Entry(known + 1), "the entry is missing")),
+        if known >= last {
+            return Ok(());
+        }
+        self.check_next(self.database.head().await?.entries).await?;
+        Err(Error::differs(Place::Entry(known + 1), "the entry is missing"))
+    }
+
+    /// Returns an error if the log has no next entry, but a state instead, with the entries up to `state`.
+    async fn check_next(&self, state: u64) -> Result<()> {
+        let known = self.line.lock().saved;
+        if state <= known {
+            return Ok(());
+        }
+        let (entries, _) = self.database.entries(known).await?;
+        match entries.first() {
+            Some(entry) if entry.number == known + 1 => Ok(()),
+            _ => Err(Error::Removed {
+                entry: known + 1,
+                state,
+            }),
         }
     }
 
@@ -315,11 +338,7 @@ impl Member {
         let known = self.line.lock().saved;
         let (entries, is_more) = self.database.entries(known).await?;
         if entries.first().map_or(false, |entry| entry.number > known + 1) {
-            let state = self.database.head().await?.entries;
-            if state > known {
-                let entry = known + 1;
-                return Err(Error::Removed { entry, state });
-            }
+            self.check_next(self.database.head().await?.entries).await?;
         }
         for (number, entry) in (known + 1..).zip(&entries) {
             self.apply(number, entry, shared.map(|shared| &shared.pressure))?;
@@ -358,7 +377,7 @@ impl Member {
     /// Remembers an entry's token, in case a client sends the batch again to this server.
     fn add_token(&self, entry: &Entry, written: &Written) {
         if let Some(token) = &entry.token {
-            self.tokens.add(token.as_str().into(), volumes::shown(None, written));
+            self.tokens.add(token.as_str().into(), shown(written));
         }
     }
 

@@ -21,7 +21,7 @@ use crate::reach;
 use crate::server::Shared;
 use crate::tokens::Tokens;
 use access::Access;
-use bestore::{Batch, Shelf, ShelfPass, StateCopy, Store};
+use bestore::{Pass, StateCopy, Store};
 use bestore_client::wire;
 use error::Result;
 use line::{Line, Role};
@@ -70,8 +70,6 @@ async fn until_signal<T>(signals: &File, call: impl Future<Output = Result<T>>) 
 #[derive(Debug)]
 pub struct Log {
     store: Store,
-    /// The store, as the server's only volume.
-    shelf: Shelf,
     line: Arc<Line>,
     access: Access,
     /// Locked while the state is being written.
@@ -113,11 +111,9 @@ impl Log {
         leads: bool,
         signals: &File,
     ) -> Result<Option<Self>> {
-        let store = Store::open(options.limits())?;
-        let pass = store.pass()?;
         let runtime = runtime()?;
-        let begin = Member::begin(access.clone(), pass, tokens.clone(), leads);
-        let (member, line) = match runtime.block_on(until_signal(signals, begin)) {
+        let begin = Member::begin(access.clone(), options.limits(), tokens.clone(), leads);
+        let (member, store) = match runtime.block_on(until_signal(signals, begin)) {
             Ok(Some(begun)) => begun,
             not_begun => {
                 // Dropping the runtime would wait until the database's name has been looked up, however long that takes.
@@ -126,23 +122,21 @@ impl Log {
             }
         };
         Ok(Some(Self {
-            shelf: Shelf::of_volumes(vec![store.clone()])?,
             store,
-            line,
+            line: member.line().clone(),
             access: access.clone(),
             writing_state: Mutex::default(),
             begun: Mutex::new(Some((runtime, member))),
         }))
     }
 
-    /// Returns the store, as the server's only volume.
-    pub fn shelf(&self) -> &Shelf {
-        &self.shelf
+    pub fn store(&self) -> &Store {
+        &self.store
     }
 
     /// Takes a pass. Writes through it are added to the log.
-    pub fn pass(&self) -> bestore::Result<ShelfPass> {
-        Ok(self.shelf.pass()?.kept_by(|_| self.line.clone()))
+    pub fn pass(&self) -> bestore::Result<Pass> {
+        Ok(self.store.pass()?.kept_by(self.line.clone()))
     }
 
     /// Starts the log's thread, which runs until [`finish`](Self::finish) is called. If another server leads and this one has writes
@@ -260,6 +254,36 @@ impl Log {
         }
     }
 
+    /// Gives the contents of a state to the store and to the log, which must be empty. In the log, they take the place of the first entry.
+    /// If it isn't certain that the log has them, the program ends. Returns the commit number.
+    pub fn restore(&self, batches: &[Vec<u8>], next: u64) -> std::result::Result<u64, Failure> {
+        let _one = lock(&self.writing_state);
+        let term = self.term()?;
+        let commit = self.line.begin(|| self.store.begin_with(batches, next))?;
+        let written = runtime().and_then(|runtime| {
+            runtime.block_on(async {
+                self.access
+                    .connect()
+                    .await?
+                    .write_first_state(term, next, batches)
+                    .await
+            })
+        });
+        match written {
+            Ok(true) => {
+                self.line.begun(commit);
+                Ok(commit)
+            }
+            not_written => {
+                let error = not_written.err().unwrap_or(Error::NotFirst);
+                report!("bestored: {error}");
+                let failed = Refused::NotSaved(self.line.fail(error));
+                os::end_program();
+                Err(failed.into())
+            }
+        }
+    }
+
     /// Returns the term in which this server leads. It begins a new one whenever it has had to connect again.
     fn term(&self) -> std::result::Result<u64, Refused> {
         let state = self.line.lock();
@@ -272,12 +296,10 @@ impl Log {
     }
 
     fn write_state(&self, term: u64, state: &StateCopy) -> Result<()> {
-        let batches = state.batches.iter().map(Batch::to_bytes);
-        let batches = batches.collect::<bestore::Result<Vec<_>>>()?;
         let number = self.line.entry(state.number);
         runtime()?.block_on(async {
             let database = self.access.connect().await?;
-            match database.write_state(term, number, state.next, &batches).await? {
+            match database.write_state(term, number, state.next, &state.batches).await? {
                 true => Ok(()),
                 false => Err(Error::Deposed {
                     leader: database.head().await?.leader,

@@ -1,7 +1,7 @@
 //! Clients that write until their server is gone, and that keep track of their writes.
 
 use super::wait_until;
-use bestore::{Batch, Limits, Snapshot, Store};
+use bestore::{Batch, Builder, Limits, Snapshot, Store};
 use bestore_client::wire::{self, Command};
 use bestore_client::{Client, Error, Result};
 use std::convert::Infallible;
@@ -136,15 +136,19 @@ impl Writers {
     }
 }
 
-/// Pins a snapshot, and replays the server's journal up to it in a store in this process. The replay must create the same nodes
-/// and reach the same state.
-pub fn check_history(client: &mut Client) {
+/// What a store contains: the number of its next node, and the batches that list its contents.
+pub type Contents = (u64, Vec<Vec<u8>>);
+
+/// Returns what a new store contains.
+pub fn nothing() -> Contents {
+    (1, Vec::new())
+}
+
+/// Pins a snapshot, and replays the server's journal up to it in a store in this process that begins with these contents. The replay must
+/// create the same nodes and reach the same state.
+pub fn check_history(client: &mut Client, begin: &Contents) {
     let commit = client.pin().unwrap().commit;
-    let limits = Limits {
-        pages: 512,
-        ..Limits::default()
-    };
-    let mut repeated = Store::open(limits).unwrap().pass().unwrap();
+    let mut repeated = open(begin).pass().unwrap();
     let mut index = 0;
     while index < commit {
         let page = client.journal_from(index).unwrap();
@@ -158,28 +162,35 @@ pub fn check_history(client: &mut Client) {
         }
     }
     let snapshot = repeated.pin().unwrap();
-    assert_eq!(state_of(client), batches_of(&snapshot));
+    assert_eq!(state_of(client), contents_of(&snapshot));
     client.unpin().unwrap();
 }
 
-fn batches_of(snapshot: &Snapshot<'_>) -> (u64, Vec<Batch>) {
-    let batches = snapshot.state().collect::<bestore::Result<_>>().unwrap();
+fn open(contents: &Contents) -> Store {
+    let limits = Limits {
+        pages: 512,
+        ..Limits::default()
+    };
+    let mut builder = Builder::new(limits).unwrap();
+    for batch in &contents.1 {
+        builder.batch(batch).unwrap();
+    }
+    builder.finish(contents.0).unwrap()
+}
+
+fn contents_of(snapshot: &Snapshot<'_>) -> Contents {
+    let batches = snapshot.listing().collect::<bestore::Result<_>>().unwrap();
     (snapshot.next_node().unwrap(), batches)
 }
 
-/// Returns the next node number and the batches of the snapshot that the client has pinned.
-pub fn state_of(client: &mut Client) -> (u64, Vec<Batch>) {
+/// Returns the contents of the snapshot that the client has pinned.
+pub fn state_of(client: &mut Client) -> Contents {
     let mut batches = Vec::new();
     let mut from = Some(0);
     let mut next = 0;
     while let Some(index) = from {
-        let page: wire::State = client
-            .call(Command::State(wire::From {
-                from: index,
-                volume: None,
-            }))
-            .unwrap();
-        batches.extend(page.batches.into_iter().map(|operations| operations.batch));
+        let page: wire::State = client.call(Command::State(wire::From { from: index })).unwrap();
+        batches.extend(page.batches);
         (from, next) = (page.more, page.next);
     }
     (next, batches)

@@ -8,3 +8,6 @@ ghost-walk_any g a = g.volume
 
 abbrev pub ghost-answer_into : goal.ghost-answer_into
 ghost-answer_into g a = g.volume
+
+abbrev pub ghost-some_of : goal.ghost-some_of
+ghost-some_of g a = g.volume

@@ -3,9 +3,6 @@ use Rattle.be_order.proofs.prepared.find_page.Given as goal
 abbrev pub ghost-paces_of : goal.ghost-paces_of
 ghost-paces_of g a = g.volume
 
-abbrev pub ghost-rests_on_index : goal.ghost-rests_on_index
-ghost-rests_on_index g a = g.volume
-
 abbrev pub ghost-asking_page : goal.ghost-asking_page
 ghost-asking_page g a = g.volume
 

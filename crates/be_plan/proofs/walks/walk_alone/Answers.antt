@@ -1,22 +1,27 @@
-use Rattle.std.proofs.Common.{◌≡◌, List, ℕ, true, ap, subst, inl, inr}
+use Rattle.std.proofs.Common.{ap, subst}
 use Rattle.std.specs.Option.{option_copied, option_map}
 use Rattle.std.specs.declared.option.Option.{Option}
-use Rattle.std.specs.declared.option.Option.TheVariants.{None}
 use Rattle.be_query.specs.Grammar.{Formula}
 use Rattle.be_query.specs.View.{formula}
-use Rattle.be_volume.specs.Query.{sat}
 use Rattle.be_plan.specs.Narrow.{LeavesRest, high_of}
-use Rattle.be_plan.specs.Walk.{HasNodes, HasOnly}
 use Rattle.be_plan.proofs.Collecting.{collects_on}
-use Rattle.be_plan.proofs.Reaching.{on_ok}
-use Rattle.be_plan.proofs.Seen.{left_key}
 use Rattle.be_plan.proofs.walks.walk_alone.Goals as goal
 
-pub nodes_within-requires : goal.nodes_within-requires
-nodes_within-requires g c = (g.volume, c.requires.1.0)
+pub walk_decided-requires : goal.walk_decided-requires
+walk_decided-requires g c κs within =
+    let R : Option Formula → Type 0 = λ r. LeavesRest (formula c.args.walk.tree.now) c.args.walk.index.name.now c.args.walk.index.kind c.args.walk.range.now.low.items (high_of c.args.walk.range.now) r in (
+      within,
+      (
+        c.requires.1.0,
+        record {
+          kind_is = c.requires.1.1.kind_is;
+          leaves = subst R (ap (λ r. option_map formula (option_copied r)) c.in_default.is) c.requires.1.1.leaves;
+        },
+      ),
+    )
 
-pub pass_texts-requires : goal.pass_texts-requires
-pass_texts-requires g c κs within =
+pub pass_unequal-requires : goal.pass_unequal-requires
+pass_unequal-requires g c κs within =
     let R : Option Formula → Type 0 = λ r. LeavesRest (formula c.args.walk.tree.now) c.args.walk.index.name.now c.args.walk.index.kind c.args.walk.range.now.low.items (high_of c.args.walk.range.now) r in (
       within,
       (
@@ -28,42 +33,32 @@ pass_texts-requires g c κs within =
       ),
     )
 
-pub returns-in_default-clause-collects : goal.returns-in_default-clause-collects
-returns-in_default-clause-collects g c =
-    let f = formula c.args.walk.tree.now in
-    let name = c.args.walk.index.name.now in
-    let low = c.args.walk.range.now.low.items in
-    let high = high_of c.args.walk.range.now in
-    let sound = g.met.S.Source.sound c.args.source.now g.volume c.requires.1.0 in
-    let N : List ℕ → Type 0 = λ m. HasOnly g.volume m c.keys.result.low.now (option_copied c.keys.result.high) c.args.found.now.items c.nodes_within.new.found.items in
-    let L : List ℕ → Type 0 = λ l. HasOnly g.volume name l (option_copied c.keys.result.high) c.args.found.now.items c.nodes_within.new.found.items in
-    let H : Option (List ℕ) → Type 0 = λ b. HasOnly g.volume name low b c.args.found.now.items c.nodes_within.new.found.items in
-    let only : HasOnly g.volume name low high c.args.found.now.items c.nodes_within.new.found.items =
-    subst H c.keys.ensures.high (subst L c.keys.ensures.low (subst N c.keys.ensures.name (c.nodes_within.ensures.only g.volume c.requires.1.0))) in
-    let R : Option Formula → Type 0 = λ r. LeavesRest f name c.args.walk.index.kind low high r in
-    let leaves : LeavesRest f name c.args.walk.index.kind low high None = subst R (ap (λ r. option_map formula (option_copied r)) c.in_default.is) c.requires.1.1.leaves in
-    let P : ℕ → Type 0 = λ m. sat g.volume f m ≡ true in
-    record {
-      keeps = c.nodes_within.ensures.keeps;
-      only = λ n h. elim (only n h) [
-        | inl there ↦ inl there
-        | inr w ↦ inr (subst P w.node_is (left_key g.volume sound name w.key w.is_key c.args.walk.index.kind c.requires.1.1.kind_is f low high None leaves w.within))
-      ];
-    }
-
-pub returns-in_default-clause-has : goal.returns-in_default-clause-has
-returns-in_default-clause-has g c =
-    let name = c.args.walk.index.name.now in
-    let low = c.args.walk.range.now.low.items in
-    let found = c.nodes_within.new.found.items in
-    let N : List ℕ → Type 0 = λ m. HasNodes g.volume m c.keys.result.low.now (option_copied c.keys.result.high) found in
-    let L : List ℕ → Type 0 = λ l. HasNodes g.volume name l (option_copied c.keys.result.high) found in
-    let H : Option (List ℕ) → Type 0 = λ b. HasNodes g.volume name low b found in
-    on_ok c.nodes_within.result (λ has k h w _. subst H c.keys.ensures.high (subst L c.keys.ensures.low (subst N c.keys.ensures.name (has g.volume c.requires.1.0))) k h w) c.nodes_within.ensures.has
+pub pass_texts-requires : goal.pass_texts-requires
+pass_texts-requires g c κs within =
+    let R : Option Formula → Type 0 = λ r. LeavesRest (formula c.args.walk.tree.now) c.args.walk.index.name.now c.args.walk.index.kind c.args.walk.range.now.low.items (high_of c.args.walk.range.now) r in (
+      within,
+      (
+        c.pass_unequal.ensures.answers,
+        record {
+          kind_is = c.requires.1.1.kind_is;
+          leaves = subst R (ap (λ r. option_map formula (option_copied r)) c.in-Some.is) c.requires.1.1.leaves;
+        },
+      ),
+    )
 
 pub visit_all-requires : goal.visit_all-requires
 visit_all-requires g c κs within = (within, (c.pass_texts.ensures.answers, c.requires.1.1.kind_is))
 
+pub returns-in_err-pass_texts-clause-collects : goal.returns-in_err-pass_texts-clause-collects
+returns-in_err-pass_texts-clause-collects g c =
+    collects_on g.volume (formula c.args.walk.tree.now) c.args.found.now.items c.pass_unequal.new.found.items c.pass_texts.new.found.items c.pass_unequal.ensures.collects c.pass_texts.ensures.collects
+
+pub returns-then-branch-2-clause-collects : goal.returns-then-branch-2-clause-collects
+returns-then-branch-2-clause-collects g c =
+    collects_on g.volume (formula c.args.walk.tree.now) c.args.found.now.items c.pass_unequal.new.found.items c.pass_texts.new.found.items c.pass_unequal.ensures.collects c.pass_texts.ensures.collects
+
 pub returns-clause-collects : goal.returns-clause-collects
 returns-clause-collects g c =
-    collects_on g.volume (formula c.args.walk.tree.now) c.args.found.now.items c.pass_texts.new.found.items c.visit_all.new.found.items c.pass_texts.ensures.collects c.visit_all.ensures.collects
+    let f = formula c.args.walk.tree.now in
+    collects_on g.volume f c.args.found.now.items c.pass_unequal.new.found.items c.visit_all.new.found.items c.pass_unequal.ensures.collects
+    (collects_on g.volume f c.pass_unequal.new.found.items c.pass_texts.new.found.items c.visit_all.new.found.items c.pass_texts.ensures.collects c.visit_all.ensures.collects)

@@ -1,5 +1,7 @@
 use Rattle.std.proofs.Common.{refl, sym, ap, ◌∙◌, subst}
+use Rattle.be_journal.specs.Journal.{IsLegalFrom}
 use Rattle.be_table.specs.Place.{Opened}
+use Rattle.be_table.specs.Setting.{Setting}
 use Rattle.be_table.specs.Versions.{CanEncodeEach}
 use Rattle.be_store.specs.Passes.{IsPassOf}
 use Rattle.be_script_runner.specs.Served.{known}
@@ -17,6 +19,9 @@ pub close_alone-requires-clause-one : goal.close_alone-requires-clause-one
 close_alone-requires-clause-one g c =
     ap (λ l. l.passes) (sym c.in-Ok.ensures.opened.0.0.2) ∙ ap (λ (s : Store). s.passes) c.in-Ok.ensures.opened.1
 
+pub put_result-requires : goal.put_result-requires
+put_result-requires g c = subst (λ (s : Setting). IsLegalFrom s.volume c.in_ok-journal.journal.entries) c.in-Ok.ensures.begins c.in_ok-journal.ensures.legal
+
 pub returns-clause-reported : goal.returns-clause-reported
 returns-clause-reported g c =
     let holds = g.W.Write.contents in
@@ -24,8 +29,9 @@ returns-clause-reported g c =
       is.0,
       reported_run c.args.limits c.args.script.now c.new-server.result.knows c.run_lines.new.server.knows c.into_pass-pass.result.knows c.in_ok-journal.journal.entries
           (holds c.args.writer.now) (holds c.run_lines.new.writer) (holds c.put_result.new.writer)
-          (ap (λ k. known k) c.new-server.ensures.1 ∙ c.in-Ok.ensures.opened.1) c.into_pass-pass.ensures.1 c.in_ok-journal.ensures.all c.in_ok-journal.ensures.legal
-          (subst (λ n. CanEncodeEach n c.in_ok-journal.journal.entries) c.in-Ok.ensures.pages c.in_ok-journal.ensures.volumes) c.in_ok-run_lines.ensures.ok is.1,
+          (ap (λ k. known k) c.new-server.ensures.1 ∙ c.in-Ok.ensures.opened.1) c.into_pass-pass.ensures.1 c.in_ok-journal.ensures.all
+          (subst (λ (s : Setting). IsLegalFrom s.volume c.in_ok-journal.journal.entries) c.in-Ok.ensures.begins c.in_ok-journal.ensures.legal)
+          (subst (λ (s : Setting). CanEncodeEach s.pages s.volume c.in_ok-journal.journal.entries) c.in-Ok.ensures.begins c.in_ok-journal.ensures.volumes) c.in_ok-run_lines.ensures.ok is.1,
     ))
 
 pub returns-in_default-clause-err : goal.returns-in_default-clause-err
@@ -49,8 +55,9 @@ returns-clause-err g c =
     on_err c.put_result.result (
     reported_in_part c.args.limits c.args.script.now c.new-server.result.knows c.run_lines.new.server.knows c.into_pass-pass.result.knows c.in_ok-journal.journal.entries
     (holds c.args.writer.now) (holds c.run_lines.new.writer) (holds c.put_result.new.writer)
-    (ap (λ k. known k) c.new-server.ensures.1 ∙ c.in-Ok.ensures.opened.1) c.into_pass-pass.ensures.1 c.in_ok-journal.ensures.all c.in_ok-journal.ensures.legal
-    (subst (λ n. CanEncodeEach n c.in_ok-journal.journal.entries) c.in-Ok.ensures.pages c.in_ok-journal.ensures.volumes) c.in_ok-run_lines.ensures.ok) c.put_result.ensures.err
+    (ap (λ k. known k) c.new-server.ensures.1 ∙ c.in-Ok.ensures.opened.1) c.into_pass-pass.ensures.1 c.in_ok-journal.ensures.all
+    (subst (λ (s : Setting). IsLegalFrom s.volume c.in_ok-journal.journal.entries) c.in-Ok.ensures.begins c.in_ok-journal.ensures.legal)
+    (subst (λ (s : Setting). CanEncodeEach s.pages s.volume c.in_ok-journal.journal.entries) c.in-Ok.ensures.begins c.in_ok-journal.ensures.volumes) c.in_ok-run_lines.ensures.ok) c.put_result.ensures.err
 
 pub returns-in_default-clause-whole : goal.returns-in_default-clause-whole
 returns-in_default-clause-whole g c is = no_line_reported c.args.limits c.args.script.now (g.W.Write.contents c.args.writer.now)

@@ -1,7 +1,12 @@
 use Rattle.std.proofs.Common.{◌≡◌, ◌+◌, ◌<◌, ◌++◌, ◌∷◌, [], true, get_or, length, length-append, ap, sym, ◌∙◌, subst, arith, is_ok, not, if◌then◌else◌, rules}
+use denote.Exit.{no}
+use denote.Param.{param}
+use denote.Param.Send.{IsSync, arg_send, param_send, sendable}
+use Rattle.be_script_runner.proofs.races.start.Lts.{arg-8-2}
 use Rattle.std.proofs.lemmas.List.{get_or_read}
 use Rattle.be_table.specs.Works.{AreNewAt}
 use Rattle.be_script_runner.specs.Gates.{AreReported, line_count}
+use Rattle.be_script_runner.proofs.CrossLemmas.{thread_send}
 use Rattle.be_script_runner.proofs.RaceLemmas.{each_promised, same_end}
 use Rattle.be_script_runner.proofs.races.start.Goals as goal
 
@@ -46,3 +51,8 @@ pub spawn_with-thread-requires-clause-keeps : goal.spawn_with-thread-requires-cl
 spawn_with-thread-requires-clause-keeps g c κs within = λ r reported. same_end (λ v. v.items) (λ gate n script. AreReported (g.G.Gate.begun gate n) (g.G.Gate.ended gate n) (line_count script))
     c.args.store.now c.of.result.value c.in-Some.pass.knows.number c.number-number.result c.index-script.result.now c.of-in-loop-pass.result.value c.args.gate.now c.of-in-loop-pass-2.result.value
     r (sym c.of.ensures) (sym c.number-number.ensures) (sym c.of-in-loop-pass.ensures) (sym c.of-in-loop-pass-2.ensures) (search rules)
+
+pub spawn_with-thread-requires-send-F : goal.spawn_with-thread-requires-send-F
+spawn_with-thread-requires-send-F g c κs within =
+    let gate : IsSync (param 1 g.row.G) = search (sendable, c.type_bounds.sync-G) depth 20 in
+    param_send 2 (arg-8-2 g.row.E g.row.G g.E.laws g.G.laws g.G.Gate g.G.Gate-dict κs) (arg_send _ no _ (thread_send _ _ _ _ _ _ _ g.row.G gate))

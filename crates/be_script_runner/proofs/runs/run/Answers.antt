@@ -1,5 +1,6 @@
 use Rattle.std.proofs.Common.{ap, ◌∙◌, refl, rules, subst}
 use Rattle.std.specs.Prelude.{Err, IfErr}
+use Rattle.be_table.specs.Setting.{begins_empty}
 use Rattle.be_script_runner.specs.Run.{IsNotLimits, RunLeaves}
 use Rattle.be_script_runner.specs.Served.{known}
 use Rattle.be_script_runner.specs.Store.{Store, start}
@@ -23,8 +24,8 @@ returns-clause-output g c =
     on_ok c.serve-ran.result
     (run_output c.args.limits (g.R.ScriptReader.remaining c.args.reader.now) (g.W.Write.contents c.args.writer.now) (g.W.Write.contents c.serve-ran.new.writer)
     (known c.new-server.result.knows) (known c.serve-ran.new.server.knows) (ap known c.new-server.ensures.1 ∙ c.in-Ok.ensures.opened.1)
-    (served_encoded c.args.limits.pages c.in-Ok.store c.serve-ran.new.server.store c.into_pass-pass.result c.serve-ran.new.server.knows
-    (ap (λ s. s.0) c.serve-ran.ensures.stays ∙ c.new-server.ensures.0) c.into_pass-pass.ensures.0 c.in-Ok.ensures.pages c.into_pass-pass.ensures.1 c.is_pass.ensures))
+    (served_encoded (begins_empty (record c.args.limits { passes = 1 })) c.in-Ok.store c.serve-ran.new.server.store c.into_pass-pass.result c.serve-ran.new.server.knows
+    (ap (λ s. s.0) c.serve-ran.ensures.stays ∙ c.new-server.ensures.0) c.into_pass-pass.ensures.0 c.in-Ok.ensures.begins c.into_pass-pass.ensures.1 c.is_pass.ensures))
     c.serve-ran.ensures.output
 
 pub returns-clause-fault : goal.returns-clause-fault

@@ -1,5 +1,7 @@
 use Rattle.std.proofs.Common.{ap, ◌∙◌, subst}
 use Rattle.std.specs.Option.{option_map}
+use Rattle.be_journal.specs.Journal.{IsLegalFrom}
+use Rattle.be_table.specs.Setting.{Setting}
 use Rattle.be_table.specs.Versions.{CanEncodeEach}
 use Rattle.be_script_runner.specs.Served.{known}
 use Rattle.be_script_runner.specs.Store.{start}
@@ -29,4 +31,7 @@ returns-clause-ran g c =
     strict_run c.args.limits c.args.script.now (option_map line_refused c.in_ok-refused.refused) c.new-server.result.knows c.run_lines.new.server.knows c.into_pass-pass.result.knows
     c.in_ok-journal.journal.entries (g.W.Write.contents c.args.writer.now) (g.W.Write.contents c.run_lines.new.writer)
     (ap (λ k. known k) c.new-server.ensures.1 ∙ c.in-Ok.ensures.opened.1) c.into_pass-pass.ensures.1 c.in_ok-journal.ensures.all
-    (subst (λ n. CanEncodeEach n c.in_ok-journal.journal.entries) c.in-Ok.ensures.pages c.in_ok-journal.ensures.volumes) c.in_ok-refused.ensures.ok
+    (subst (λ (s : Setting). CanEncodeEach s.pages s.volume c.in_ok-journal.journal.entries) c.in-Ok.ensures.begins c.in_ok-journal.ensures.volumes) c.in_ok-refused.ensures.ok
+
+pub returns-clause-legal : goal.returns-clause-legal
+returns-clause-legal g c = subst (λ (s : Setting). IsLegalFrom s.volume c.in_ok-journal.journal.entries) c.in-Ok.ensures.begins c.in_ok-journal.ensures.legal

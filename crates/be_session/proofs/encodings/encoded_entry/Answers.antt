@@ -1,7 +1,7 @@
 use Rattle.std.proofs.Common.{◌≡◌, ◌<◌, ℕ, [], ◌∷◌, length, length-append, get_or, refl, subst, sym, ap, ◌∙◌, arith}
 use Rattle.std.specs.Slice.{IsItemAt}
 use Rattle.std.proofs.lemmas.Option.{slice_get_read}
-use Rattle.be_session.specs.Operations.{IsMeantBy}
+use Rattle.be_session.specs.Operations.{HasOnlyParts, IsMeantBy}
 use Rattle.be_session.proofs.GrowingBytes.{encoded_more}
 use Rattle.be_session.proofs.Reported.{nodes_more, reported_by_look}
 use Rattle.be_session.proofs.encodings.encoded_entry.Goals as goal
@@ -20,7 +20,8 @@ loop-op-preserved c =
     let count : c.len.result ≡ length os = omega (arith, c.len.ensures, c.loop-op.operations.ok) in
     let here : op ≡ get_or ops (length os) op = c.op-item.is ∙ ap (λ n. get_or ops n op) (sym was.count) in record {
       encoded = encoded_more ops c.loop-op.op-index _ os c.push.new.self.items o c.loop-op.bytes.items c.encode_done.new.bytes.items c.loop-op-test.true was.encoded
-          next.more next.meant.0 (subst (IsMeantBy o c.encode_done.new.bytes.items) c.op-item.is next.meant.1) c.in_ok-push.ensures.items;
+          next.more next.meant.0 (subst (IsMeantBy o c.encode_done.new.bytes.items) c.op-item.is next.meant.1)
+          (subst (HasOnlyParts o c.encode_done.new.bytes.items) c.op-item.is next.only) c.in_ok-push.ensures.items;
       count = omega (arith, longer, parts, was.count);
       made = nodes_more os c.push.new.self.items o ops c.args.dones.now op was.made c.in_ok-push.ensures.items
           (slice_get_read ops (length ops) (length os) op refl inside here)

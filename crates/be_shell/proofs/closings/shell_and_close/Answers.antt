@@ -1,7 +1,9 @@
 use Rattle.std.proofs.Common.{ap, ◌∙◌, subst, inl, inr, refl, rules, sym}
 use Rattle.std.specs.Prelude.{Err, IfErr}
+use Rattle.be_journal.specs.Journal.{IsLegalFrom}
 use Rattle.be_table.specs.Place.{Opened}
 use Rattle.be_table.specs.Rule.{entries}
+use Rattle.be_table.specs.Setting.{Setting}
 use Rattle.be_table.specs.Versions.{CanEncodeEach}
 use Rattle.be_table.specs.declared.pass.Knowledge.{Knowledge}
 use Rattle.be_store.specs.Passes.{IsPassOf}
@@ -54,3 +56,10 @@ returns-clause-fault g c =
     let t = c.converse_with_both-talked in
     let opened = c.new-client.ensures.opening (known c.new-server.result.knows) ∙ ap opening (ap known c.new-server.ensures.1 ∙ c.in-Ok.ensures.opened.1) in
     each_err t.result (λ e leaves. subst (λ (s : Session). ShellLeaves g.F.Peer.does g.P.Peer.does e s c.args.first.now t.new.first c.args.peer.now t.new.peer) opened leaves) t.ensures.fault
+
+pub returns-in-Ok-close_alone-clause-legal : goal.returns-in-Ok-close_alone-clause-legal
+returns-in-Ok-close_alone-clause-legal g c = subst (λ (s : Setting). IsLegalFrom s.volume c.in-Ok-close_alone.journal.entries) c.in-Ok.ensures.begins c.in-Ok-close_alone.ensures.legal
+
+pub returns-in-Ok-close_alone-clause-volumes : goal.returns-in-Ok-close_alone-clause-volumes
+returns-in-Ok-close_alone-clause-volumes g c =
+    subst (λ (s : Setting). CanEncodeEach s.pages s.volume c.in-Ok-close_alone.journal.entries) c.in-Ok.ensures.begins c.in-Ok-close_alone.ensures.volumes

@@ -1,4 +1,5 @@
 use Rattle.std.proofs.Common.{ap, ◌∙◌, subst, inl, inr, refl}
+use Rattle.be_table.specs.Setting.{begins_empty}
 use Rattle.be_script_runner.specs.Output.{Session, opening}
 use Rattle.be_script_runner.specs.Served.{known}
 use Rattle.be_script_runner.specs.Store.{start}
@@ -24,9 +25,9 @@ returns-clause-talked g c =
       last,
       subst (λ (s : Session). TalkedTo g.F.Peer.does s c.args.first.now mid c.converse.new.peer) opened c.in_ok-converse.ensures.talked,
       c.in_ok-converse-2.ensures.talked,
-      served_encoded c.args.limits.pages c.in-Ok.store c.converse-2.new.server.store c.into_pass-pass.result c.converse-2.new.server.knows
+      served_encoded (begins_empty (record c.args.limits { passes = 1 })) c.in-Ok.store c.converse-2.new.server.store c.into_pass-pass.result c.converse-2.new.server.knows
           (ap (λ s. s.0) c.converse-2.ensures.stays ∙ (ap (λ s. s.0) c.converse.ensures.stays ∙ c.new-server.ensures.0)) c.into_pass-pass.ensures.0
-          c.in-Ok.ensures.pages c.into_pass-pass.ensures.1 c.is_pass.ensures,
+          c.in-Ok.ensures.begins c.into_pass-pass.ensures.1 c.is_pass.ensures,
     )
 
 pub returns-in_err-converse-clause-fault : goal.returns-in_err-converse-clause-fault

@@ -1,4 +1,4 @@
-use Rattle.std.proofs.Common.{◌||◌, ◌==◌, ◌-◌, sym, ap, take, ◌∙◌, arith, get_or}
+use Rattle.std.proofs.Common.{◌||◌, ◌==◌, sym, ap, take, ◌∙◌, arith, get_or}
 use Rattle.std.proofs.lemmas.List.{take_all}
 use Rattle.be_store.specs.Live.{is_among}
 use Rattle.be_store.proofs.Among.{among_more, both_there}

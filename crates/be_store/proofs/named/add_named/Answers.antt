@@ -1,4 +1,3 @@
-use Rattle.std.proofs.Common.{true}
 use Rattle.be_store.proofs.Caught.{step_named}
 use Rattle.be_store.proofs.named.add_named.Goals as goal
 

@@ -1,6 +1,6 @@
 use Rattle.std.proofs.Common.{◌≡◌, ℕ, Ok, sym, ap, ◌∙◌, subst}
 use Rattle.be_core.specs.Machine.{bit}
-use Rattle.be_journal.specs.Journal.{replay}
+use Rattle.be_journal.specs.Journal.{replay_from}
 use Rattle.be_pages.specs.Pages.{is_kept, times}
 use Rattle.be_paged_reading.specs.Page.{reach}
 use Rattle.be_paged_reading.specs.Version.{IsVersion}
@@ -19,15 +19,15 @@ use Rattle.be_store.proofs.writing.write_current.Goals as goal
 pub apply_to-requires : goal.apply_to-requires
 apply_to-requires c =
     let t = c.requires.begins in let k = c.args.writing.now.knows in (
-      begun_version k t.begun c.current-version_page.result.1 (replay (entries k.seen)) (current_encoded k c.current-version_page.result.1 t c.current-version_page.ensures.version.1),
+      begun_version k t.begun c.current-version_page.result.1 (replay_from k.limits.volume (entries k.seen)) (current_encoded k c.current-version_page.result.1 t c.current-version_page.ensures.version.1),
       (c.requires.count, (c.current-version_page.ensures.next, (t.unpublished, c.requires.empty))),
     )
 
 pub publish-number-requires-clause-entry : goal.publish-number-requires-clause-entry
 publish-number-requires-clause-entry c =
     let ok = c.in-Ok.ensures.ok in
-    let same = ap (λ (o : StaysOpen). steps (replay (entries o.seen)) c.args.ops.now) ok.swaps.kept in
-    (ok.made, ap (λ (w : Work). steps (replay (entries w.knows.seen)) c.args.ops.now) c.in_ok-reserve-in-Ok.ensures.0 ∙ same ∙ ok.stepped ∙ ap (λ d. Ok (ok.made, d)) (sym c.as_slice.ensures.value))
+    let same = ap (λ (o : StaysOpen). steps (replay_from o.limits.volume (entries o.seen)) c.args.ops.now) ok.swaps.kept in
+    (ok.made, ap (λ (w : Work). steps (replay_from w.knows.limits.volume (entries w.knows.seen)) c.args.ops.now) c.in_ok-reserve-in-Ok.ensures.0 ∙ same ∙ ok.stepped ∙ ap (λ d. Ok (ok.made, d)) (sym c.as_slice.ensures.value))
 
 pub publish-number-requires-clause-filled : goal.publish-number-requires-clause-filled
 publish-number-requires-clause-filled c =
@@ -38,10 +38,10 @@ publish-number-requires-clause-filled c =
 pub publish-number-requires-clause-volume : goal.publish-number-requires-clause-volume
 publish-number-requires-clause-volume c =
     let ok = c.in-Ok.ensures.ok in let old = c.args.writing.now in let same = ap (λ (w : Work). w.knows) c.in_ok-reserve-in-Ok.ensures.0 in
-    let made : state_after (replay (entries c.reserve.new.self.knows.seen)) c.args.ops.now ≡ ok.made =
-    ap (λ (k : Knowledge). state_after (replay (entries k.seen)) c.args.ops.now) same
-    ∙ ap (λ (o : StaysOpen). state_after (replay (entries o.seen)) c.args.ops.now) ok.swaps.kept
-    ∙ ap (reached (replay (entries old.knows.seen))) ok.stepped in
+    let made : state_after (replay_from c.reserve.new.self.knows.limits.volume (entries c.reserve.new.self.knows.seen)) c.args.ops.now ≡ ok.made =
+    ap (λ (k : Knowledge). state_after (replay_from k.limits.volume (entries k.seen)) c.args.ops.now) same
+    ∙ ap (λ (o : StaysOpen). state_after (replay_from o.limits.volume (entries o.seen)) c.args.ops.now) ok.swaps.kept
+    ∙ ap (reached (replay_from old.knows.limits.volume (entries old.knows.seen))) ok.stepped in
     subst (λ (x : Knowledge × State). IsVersion (page_state_among x.0.places) (word_of_page x.0.words) c.in-Ok.page x.1) (λ i. (sym same i, sym made i)) ok.version
 
 pub publish-number-requires-clause-exact : goal.publish-number-requires-clause-exact

@@ -9,7 +9,7 @@ use Rattle.be_table.proofs.writing.fill_word.Goals as goal
 pub load-found-requires : goal.load-found-requires
 load-found-requires c =
     let r = c.requires in let m = c.args.base.now.me in let i = c.table.invariant in
-    let e : c.table.inside.limits.pages ≡ c.args.table.now.limits.pages = ap (λ l. l.pages) i.2 ∙ ap (λ t. t.limits.pages) c.table.view_is in let few = i.3.few_pages in (
+    let e : c.table.inside.limits.pages ≡ c.args.table.now.limits.pages = ap (λ l. l.pages) i.2 ∙ ap (λ t. t.limits.pages) c.table.view_is in let few = i.3.limits.few_pages in (
       r.seat ∙ sym (ap (λ t. t.id) c.table.view_is),
       omega (arith, i.0, r.page.0, e, few, r.place),
       found_as _ _ _ (pass_of m.0) m.1 m (λ k. (r.pass.0 k, m.1)) c.args.page c.args.i _ r.pass.1 r.pass.2 r.page.1 r.place (omega arith),
@@ -18,7 +18,7 @@ load-found-requires c =
 pub store-requires : goal.store-requires
 store-requires c =
     let r = c.requires in let m = c.args.base.now.me in let i = c.table.invariant in
-    let e : c.table.inside.limits.pages ≡ c.args.table.now.limits.pages = ap (λ l. l.pages) i.2 ∙ ap (λ t. t.limits.pages) c.table.view_is in let few = i.3.few_pages in
+    let e : c.table.inside.limits.pages ≡ c.args.table.now.limits.pages = ap (λ l. l.pages) i.2 ∙ ap (λ t. t.limits.pages) c.table.view_is in let few = i.3.limits.few_pages in
     let l = c.load-found.ensures in let f = l.2.0 c.args.page c.args.i (omega arith) r.place in (
       l.0 ∙ r.seat ∙ sym (ap (λ t. t.id) c.table.view_is),
       omega (arith, i.0, r.page.0, e, few, r.place),

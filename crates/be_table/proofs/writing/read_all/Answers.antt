@@ -10,7 +10,7 @@ use Rattle.be_table.specs.Working.{MakesForReason}
 use Rattle.be_table.proofs.Traces.{makes_more}
 use Rattle.be_table.proofs.Worked.{reasons_more}
 use Rattle.be_table.proofs.Scans.{Me3, scans_history, scans_limits, found_more, found_now, makes_starts, IsOwnPart, me_next, part_none, part_step, lowest_none, lowest_more, own_none, own_step, own_all, found_own}
-use Rattle.be_table.specs.declared.limits.Limits.{Limits}
+use Rattle.be_table.specs.Setting.{Setting as Limits}
 use Rattle.be_table.specs.Statuses.{LieAt}
 use Rattle.be_table.proofs.Statuses.{oldest_none, lies_at, scans_writes}
 use Rattle.be_table.proofs.writing.read_all.Goals as goal

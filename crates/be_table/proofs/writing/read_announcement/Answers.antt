@@ -7,7 +7,7 @@ use Rattle.be_table.proofs.writing.read_announcement.Goals as goal
 pub load-requires : goal.load-requires
 load-requires c =
     let r = c.requires.pass in let m = c.args.base.now.me in let i = c.table.invariant in
-    let e : c.table.inside.limits.passes ≡ c.args.table.now.limits.passes = ap (λ l. l.passes) i.2 ∙ ap (λ t. t.limits.passes) c.table.view_is in let few = i.3.few in (
+    let e : c.table.inside.limits.passes ≡ c.args.table.now.limits.passes = ap (λ l. l.passes) i.2 ∙ ap (λ t. t.limits.passes) c.table.view_is in let few = i.3.limits.few in (
       c.requires.seat ∙ sym (ap (λ t. t.id) c.table.view_is),
       omega (arith, i.0, r.4, e, few),
       scans_as _ _ _ (pass_of m.0) m.1 m (λ k. (r.0 k, m.1)) _ r.1 r.2 (ap (λ n. 16 + 8 * n) (sym r.3)),

@@ -12,4 +12,4 @@ returns-clause-first c =
     c.in_ok-zero_pages.ensures.zero c.in_ok-first_free.ensures.others c.in_ok-empty_set.ensures.empty c.in_ok-none_retired.ensures.none c.in_ok-all_idle.ensures.idle
 
 pub returns-clause-sound : goal.returns-clause-sound
-returns-clause-sound c = (blank, subst Sound (sym (returns-clause-first c)) (first-sound c.args.pages c.args.passes c.args.commits zeros (omega arith)))
+returns-clause-sound c = (blank, subst Sound (sym (returns-clause-first c)) (first-sound c.args.pages 1 c.args.passes c.args.commits zeros (omega arith)))

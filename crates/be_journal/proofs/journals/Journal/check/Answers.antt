@@ -1,5 +1,5 @@
 use Rattle.std.proofs.Common.{◌≡◌, ◌≤◌, ◌+◌, ◌*◌, length, refl, sym, ap, subst, ◌∙◌, Ok, arith}
-use Rattle.be_volume.specs.Volume.{steps}
+use Rattle.be_volume.specs.Volume.{empty, steps}
 use Rattle.be_journal.specs.Journal.{Log, Agrees}
 use Rattle.be_journal.proofs.LegalLemmas.{replay_agreed, agree_more, differs, never, past}
 use Rattle.be_journal.proofs.ReaderLemmas.{pulled}
@@ -9,7 +9,7 @@ pub returns-then-not-agrees-clause-ok : goal.returns-then-not-agrees-clause-ok
 returns-then-not-agrees-clause-ok c =
     let p = pulled c.args.self.now.entries c.loop.counter c.in_ok-entry.entry c.next.new.self (sym c.loop.invariant.left ∙ c.in_ok-entry.ensures.next) in (
       λ h. never h,
-      λ legal. differs c.args.self.now.entries c.loop.counter c.in_ok-entry.entry c.loop.reached c.in_ok-next.agrees p.short p.is c.loop.invariant.volume
+      λ legal. differs empty c.args.self.now.entries c.loop.counter c.in_ok-entry.entry c.loop.reached c.in_ok-next.agrees p.short p.is c.loop.invariant.volume
           c.in_ok-next.ensures.is c.if-not-agrees.true legal,
     )
 
@@ -21,9 +21,9 @@ loop-preserved c =
     let bound : c.loop.reached.next ≤ 1 + 64 * c.loop.counter = c.loop.invariant.bound in
     record {
       left = p.left;
-      volume = replay_agreed _ _ _ _ _ p.short p.is c.loop.invariant.volume reported;
+      volume = replay_agreed empty _ _ _ _ _ p.short p.is c.loop.invariant.volume reported;
       bound = omega arith;
-      agree = agree_more _ _ c.in_ok-entry.entry p.is (subst (λ s. Agrees s c.in_ok-entry.entry) c.loop.invariant.volume (c.in_ok-next.next, reported)) c.loop.invariant.agree p.short;
+      agree = agree_more empty _ _ c.in_ok-entry.entry p.is (subst (λ s. Agrees s c.in_ok-entry.entry) c.loop.invariant.volume (c.in_ok-next.next, reported)) c.loop.invariant.agree p.short;
     }
 
 pub returns-clause-ok : goal.returns-clause-ok

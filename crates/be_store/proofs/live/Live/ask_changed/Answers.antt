@@ -6,7 +6,7 @@ use Rattle.be_volume.specs.Query.{sat}
 use Rattle.be_store.specs.Live.{IsAnswer, LiveQuery, is_among}
 use Rattle.be_store.specs.Passes.{volume_pinned}
 use Rattle.be_store.proofs.Answering.{refreshes}
-use Rattle.be_store.proofs.Caught.{changed_so, mark_at, on_ok, pinned_sound}
+use Rattle.be_store.proofs.Caught.{changed_so, mark_at, on_ok, pinned_sound, same_opened}
 use Rattle.be_store.proofs.live.Live.ask_changed.Goals as goal
 
 pub put_in-requires-clause-room : goal.put_in-requires-clause-room
@@ -33,7 +33,7 @@ invariant_of-self-2 c =
     let seen = c.witness-witness.ensures.witness.1
     ∙ (ap (λ (k : Knowledge). k.seen) c.into_seat.ensures.1 ∙ (ap (λ (x : Opened × Knowledge). x.1.seen) c.ask_each-look.ensures.kept ∙ ap (λ (k : Knowledge). k.seen) c.reader-look.ensures.look.1)) in (
       c.put_in.ensures.rising,
-      mark_at c.self.inside.query c.put_in.new.list.items a c.witness-witness.result c.args.pin c.is_pass.ensures c.requires.pinned c.witness-witness.ensures.witness.0.0 seen
+      mark_at c.self.inside.query c.put_in.new.list.items a (record { witness = c.witness-witness.result; number = c.args.pin; setting = c.setting-setting.result }) (c.setting-setting.ensures ∙ sym c.requires.pass.0.2) c.is_pass.ensures c.requires.pinned c.witness-witness.ensures.witness.0.0 seen
           (subst (λ (l : LiveQuery). IsAnswer v l.query c.put_in.new.list.items) (sym c.self.view_is) so.0),
     )
 
@@ -56,3 +56,6 @@ returns-clause-ok c =
     (ap volume_pinned c.reader-look.ensures.look.1) (c.query.ensures ∙ ap (λ (l : LiveQuery). l.query) c.self.view_is) (c.as_slice-list.ensures.value ∙ ap last_of c.self.view_is) came_is went_is
     (c.in_ok-reserve.ensures.items ∙ ap last_of c.self.view_is) c.as_slice.ensures.value c.as_slice-2.ensures.value c.take_out.ensures.left c.put_in.ensures.both in
     refreshes v old _ c.put_in.new.list.items came went so.1 (ap (λ (l : LiveQuery). l.query) c.self.view_is) refl so.2 so.3
+
+pub returns-clause-own : goal.returns-clause-own
+returns-clause-own c = same_opened c.args.store.now c.witness-witness.result.table c.setting-setting.result.value c.witness-witness.ensures.witness.0.1 c.setting-setting.ensures

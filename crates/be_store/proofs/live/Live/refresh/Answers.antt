@@ -4,7 +4,7 @@ use Rattle.be_volume.specs.Query.{scan}
 use Rattle.be_store.specs.Live.{LiveQuery, without}
 use Rattle.be_store.specs.Passes.{volume_pinned}
 use Rattle.be_store.proofs.Answering.{refreshes}
-use Rattle.be_store.proofs.Caught.{mark_at, pinned_sound, scan_is_answer}
+use Rattle.be_store.proofs.Caught.{mark_at, pinned_sound, same_opened, scan_is_answer}
 use Rattle.be_store.proofs.live.Live.refresh.Goals as goal
 
 pub invariant_of-self-2 : goal.invariant_of-self-2
@@ -17,7 +17,7 @@ invariant_of-self-2 c =
     let pin = c.in_ok-number.ensures.pin in
     let answer = scan_is_answer v q nodes (pinned_sound a number c.is_pass.ensures pin) (ap (scan v) c.query_prepared.ensures.same ∙ c.in_ok-number.ensures.nodes) in (
       c.in_ok-number.ensures.rising,
-      mark_at q nodes a c.witness-witness.result number c.is_pass.ensures pin c.witness-witness.ensures.witness.0.0
+      mark_at q nodes a (record { witness = c.witness-witness.result; number = number; setting = c.setting-setting.result }) (c.setting-setting.ensures ∙ sym c.requires.pass.0.2) c.is_pass.ensures pin c.witness-witness.ensures.witness.0.0
           (c.witness-witness.ensures.witness.1 ∙ ap (λ (k : Knowledge). k.seen) c.query_prepared.ensures.pass.1) answer,
     )
 
@@ -32,3 +32,6 @@ returns-clause-ok c =
     (c.query_prepared.ensures.same ∙ ap (λ (l : LiveQuery). l.query) c.self.view_is) refl
     (reported.0 ∙ ap (λ (x : List ℕ × List ℕ). without x.0 x.1) (λ i. (now i, last i)))
     (reported.1 ∙ ap (λ (x : List ℕ × List ℕ). without x.0 x.1) (λ i. (last i, now i)))
+
+pub returns-clause-own : goal.returns-clause-own
+returns-clause-own c = same_opened c.args.store.now c.witness-witness.result.table c.setting-setting.result.value c.witness-witness.ensures.witness.0.1 c.setting-setting.ensures

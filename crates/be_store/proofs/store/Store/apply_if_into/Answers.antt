@@ -1,6 +1,9 @@
 use Rattle.be_store.proofs.Conditions.{accepts_at, unapplied}
 use Rattle.be_store.proofs.store.Store.apply_if_into.Goals as goal
 
+pub write_if-answer-requires-clause-begun : goal.write_if-answer-requires-clause-begun
+write_if-answer-requires-clause-begun c = (c.args.pass.now.knows, c.in_ok-writing.ensures.held.2)
+
 pub returns-in-Ok-clause-accepted : goal.returns-in-Ok-clause-accepted
 returns-in-Ok-clause-accepted c =
     accepts_at c.args.pass.now.knows c.in_ok-writing.writing.knows c.in_ok-writing.ensures.held.2 c.args.number c.write_if-answer.new.writing.knows c.unlock.result.knows

@@ -1,6 +1,9 @@
 use Rattle.be_store.proofs.Applied.{accepts, learns, reasons}
 use Rattle.be_store.proofs.store.Store.apply_into.Goals as goal
 
+pub write-answer-requires-clause-begun : goal.write-answer-requires-clause-begun
+write-answer-requires-clause-begun c = (c.args.pass.now.knows, c.in_ok-writing.ensures.held.2)
+
 pub returns-in-Ok-clause-accepted : goal.returns-in-Ok-clause-accepted
 returns-in-Ok-clause-accepted c =
     accepts c.args.pass.now.knows c.in_ok-writing.writing.knows c.in_ok-writing.ensures.held.2 c.write-answer.new.writing.knows c.unlock.result.knows c.args.ops.now c.in-Ok.number c.write-answer.new.dones.items c.in-Ok.ensures.answer c.unlock.ensures.pass c.is_pass.ensures c.unlock.ensures.moves

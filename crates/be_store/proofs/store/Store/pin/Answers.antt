@@ -1,5 +1,5 @@
 use Rattle.std.proofs.Common.{ap, ◌∙◌, subst}
-use Rattle.be_table.specs.declared.limits.Limits.{Limits}
+use Rattle.be_table.specs.Setting.{Setting as Limits}
 use Rattle.be_table.specs.Place.{Opened}
 use Rattle.be_table.specs.Works.{IsSeatOf}
 use Rattle.be_store.proofs.Alone.{settled_pin, pins_seen}

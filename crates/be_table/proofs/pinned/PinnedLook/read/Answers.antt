@@ -13,21 +13,21 @@ pub overflow_mul-word : goal.overflow_mul-word
 overflow_mul-word c =
     let i = c.self.invariant in let a : Knowledge = pass_of c.self.inside.base.me.0 in
     let low : c.args.page < a.limits.pages = readable_inside a c.args.page i.reported.pass (subst (λ (p : Pin). IsTrue (is_readable (pinned_page_state p.knows c.args.page))) (sym c.self.view_is) c.requires.page) in
-    let few = i.reported.pass.within.few_pages in
+    let few = i.reported.pass.within.limits.few_pages in
     omega (arith, low, few)
 
 pub overflow_add-word : goal.overflow_add-word
 overflow_add-word c =
     let i = c.self.invariant in let a : Knowledge = pass_of c.self.inside.base.me.0 in
     let low : c.args.page < a.limits.pages = readable_inside a c.args.page i.reported.pass (subst (λ (p : Pin). IsTrue (is_readable (pinned_page_state p.knows c.args.page))) (sym c.self.view_is) c.requires.page) in
-    let few = i.reported.pass.within.few_pages in
+    let few = i.reported.pass.within.limits.few_pages in
     omega (arith, low, few)
 
 pub overflow_add-word-2 : goal.overflow_add-word-2
 overflow_add-word-2 c =
     let i = c.self.invariant in let a : Knowledge = pass_of c.self.inside.base.me.0 in
     let low : c.args.page < a.limits.pages = readable_inside a c.args.page i.reported.pass (subst (λ (p : Pin). IsTrue (is_readable (pinned_page_state p.knows c.args.page))) (sym c.self.view_is) c.requires.page) in
-    let few = i.reported.pass.within.few_pages in
+    let few = i.reported.pass.within.limits.few_pages in
     omega (arith, low, few, c.requires.place)
 
 pub load-requires : goal.load-requires
@@ -35,7 +35,7 @@ load-requires c =
     let i = c.self.invariant in let a : Knowledge = pass_of c.self.inside.base.me.0 in
     let can : IsTrue (is_readable (pinned_page_state a c.args.page)) = subst (λ (p : Pin). IsTrue (is_readable (pinned_page_state p.knows c.args.page))) (sym c.self.view_is) c.requires.page in
     let low : c.args.page < a.limits.pages = readable_inside a c.args.page i.reported.pass can in
-    let few = i.reported.pass.within.few_pages in
+    let few = i.reported.pass.within.limits.few_pages in
     let r = readable_pin a c.args.page can in
     let e : c.table.inside.limits.pages ≡ a.limits.pages = ap (λ l. l.pages) c.table.invariant.2 ∙ ap (λ t. t.limits.pages) c.table.view_is ∙ sym (ap (λ l. l.pages) i.limits_are) in (
       i.table_is ∙ sym (ap (λ t. t.id) c.table.view_is),

@@ -10,7 +10,7 @@ store-requires c =
     let lt = t.1.pass.number_below in
     let k = ap (λ s. s.knows) c.move_out.ensures.0 in (
       p.0 ∙ ap (λ s. s.table) c.move_out.ensures.0 ∙ c.requires.seat.1 ∙ sym (ap (λ t. t.id) c.self.view_is),
-      omega (arith, i.0, t.1.number_is, i.3.some_pages, t.0),
+      omega (arith, i.0, t.1.number_is, i.3.limits.some_pages, t.0),
       announces_as _ _ _ c.move_out.result.knows _ _ p.1 c.args.number _ _ (ap (λ n. n.phase) k ∙ c.requires.looked) (ap (λ n. 16 + 8 * n) (sym t.1.number_is)) refl,
     )
 

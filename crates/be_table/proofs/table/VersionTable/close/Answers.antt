@@ -10,7 +10,7 @@ unreachable-requires c =
     let e = ends c.self.inside.table.shared.key c.gather.new.rest.id c.gather.new.rest.me.0 _ _ g.idle (λ k lt. g.all k (c.requires.1 k (subst (λ t. k < t.limits.passes) c.self.view_is lt))) c.close_with-closed.ensures.values.2 in
     c.in_default.not-Some e.0 (some-injective _ _ (sym c.take-slot.ensures.value ∙ e.1))
 
-closed : (c : goal.After-into_journal) → Closes c.args.self.limits (map knows_of c.args.seats.items) c.into_journal.result
+closed : (c : goal.After-drop-self-inside) → Closes c.args.self.limits (map knows_of c.args.seats.items) c.into_journal.result
 closed c =
     let g = c.gather.ensures.passes in
     let limits = ap (λ t. t.limits) c.self.view_is in

@@ -12,7 +12,7 @@ load-found-requires c =
     let k = ap (λ s. s.knows) c.move_out.ensures.0 in
     let r = c.requires.pinned in
     let phase = ap (λ n. n.phase) k ∙ r.2 in
-    let reached : IsTrue (has (reach_at c.move_out.result.knows.seen r.1) c.args.page) = subst (λ n. IsTrue (has (reach_at n.seen r.1) c.args.page)) (sym k) r.3 in
+    let reached : IsTrue (has (reach_at c.move_out.result.knows.limits c.move_out.result.knows.seen r.1) c.args.page) = subst (λ n. IsTrue (has (reach_at n.limits n.seen r.1) c.args.page)) (sym k) r.3 in
     let low : c.args.page < c.move_out.result.knows.limits.pages = page_inside _ r.0 r.1 c.args.page t.1.pass phase reached in
     let same : c.move_out.result.knows.limits.pages ≡ c.self.inside.limits.pages = ap (λ s. s.knows.limits.pages) c.move_out.ensures.0 ∙ ap (λ l. l.pages) c.requires.seat.2 ∙ sym (ap (λ t. t.limits.pages) c.self.view_is) ∙ sym (ap (λ l. l.pages) i.2) in (
       p.0 ∙ ap (λ s. s.table) c.move_out.ensures.0 ∙ c.requires.seat.1 ∙ sym (ap (λ t. t.id) c.self.view_is),

@@ -17,7 +17,7 @@ load-requires c =
     let i = c.self.invariant in let w = c.self.inside in let a = pass_of w.base.me.0 in
     let k = ap (λ (w : Rattle.be_table.specs.Place.Work). w.knows) c.self.view_is in
     let e : c.table.inside.limits.pages ≡ a.limits.pages = ap (λ l. l.pages) c.table.invariant.2 ∙ ap (λ t. t.limits.pages) c.table.view_is ∙ sym (ap (λ l. l.pages) i.limits_are) in
-    let few = i.pass.within.few_pages in
+    let few = i.pass.within.limits.few_pages in
     let low : c.args.page < a.limits.pages = let lp : c.args.page < length a.places = subst (λ (n : Knowledge). c.args.page < length n.places) (sym k) c.requires.held.0 in let z = ap length i.places in let y = i.count in let u = ap (λ l. l.pages) i.limits_are in omega (arith, lp) in
     let lp : c.args.page < length a.places = subst (λ (n : Knowledge). c.args.page < length n.places) (sym k) c.requires.held.0 in (
       i.table_is ∙ sym (ap (λ t. t.id) c.table.view_is),

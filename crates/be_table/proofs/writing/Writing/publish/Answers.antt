@@ -1,7 +1,7 @@
 use Rattle.std.proofs.Common.{◌≡◌, ◌≢◌, true≢false, ◌≤◌, ◌<◌, [], ◌∷◌, ◌++◌, None, length, map, count_by, refl, sym, ap, ◌∙◌, subst, arith}
 use Rattle.std.proofs.lemmas.List.{length-map}
 use Rattle.be_journal.specs.declared.entries.Entry.{Entry}
-use Rattle.be_journal.specs.Journal.{Agrees, replay}
+use Rattle.be_journal.specs.Journal.{Agrees, replay_from}
 use Rattle.be_pages.specs.Place.{is_retired, retired_at, place_of, published_place}
 use Rattle.be_table.specs.declared.pass.Knowledge.{Knowledge}
 use Rattle.be_table.specs.Place.{Work}
@@ -29,21 +29,21 @@ store_version-requires-clause-pass c =
     let k : a ≡ c.args.self.now.knows = ap (λ (x : Work). x.knows) c.self.view_is in
     let e : Entry = record { by = w.marks.number; ops = c.args.ops.now; dones = c.args.dones.now } in
     let n0 : Knowledge = c.args.self.now.knows in
-    let few : length n0.places ≤ largest_pool = (let p = ap length i.places in let pages = i.pass.within.few_pages in let l = ap (λ x. x.pages) i.limits_are in let n = ap (λ (x : Knowledge). length x.places) k in let count = i.count in omega arith) in
+    let few : length n0.places ≤ largest_pool = (let p = ap length i.places in let pages = i.pass.within.limits.few_pages in let l = ap (λ x. x.pages) i.limits_are in let n = ap (λ (x : Knowledge). length x.places) k in let count = i.count in omega arith) in
     let reserved : w.reserved ≡ c.args.self.now.reserved = ap (λ (x : Work). x.reserved) c.self.view_is in (
       ap (λ m. m.0) i.me_is,
       record {
         writes = i.writes;
         unpublished = ap (λ (n : Knowledge). n.published) k ∙ c.requires.open;
         by = sym i.number_is;
-        agrees = subst (λ (n : Knowledge). Agrees (replay (entries n.seen)) e) (sym k) c.requires.entry;
+        agrees = subst (λ (n : Knowledge). Agrees (replay_from n.limits.volume (entries n.seen)) e) (sym k) c.requires.entry;
         operations = (c.requires.count.1, c.all_valid.ensures);
         room = (i.room (let n = c.requires.count.0 in let r = c.requires.reserved in omega arith)).1;
         inside = subst (λ (n : Knowledge). c.args.page < length n.places) (sym k) c.is_filled.ensures.0;
         filled = ap (λ (n : Knowledge). place_of n.places c.args.page) k ∙ c.is_filled.ensures.1;
         none_reserved = λ q. unreserved a.places q (subst (λ (n : Knowledge). page_state_among n.places q ≢ Taken) (sym k) (c.requires.filled q)) (omega (arith, few, ap (λ (x : Knowledge). length x.places) k));
-        encoded = subst (λ (n : Knowledge). EncodesVolume (pages_from is_of_next 0 n.places) (word_of_page n.words) c.args.page (replay (entries n.seen ++ e ∷ []))) (sym k)
-            (subst (λ s. EncodesVolume (pages_from is_of_next 0 n0.places) (word_of_page n0.words) c.args.page s) (sym (c.replay_push.ensures (entries n0.seen) e))
+        encoded = subst (λ (n : Knowledge). EncodesVolume (pages_from is_of_next 0 n.places) (word_of_page n.words) c.args.page (replay_from n.limits.volume (entries n.seen ++ e ∷ []))) (sym k)
+            (subst (λ s. EncodesVolume (pages_from is_of_next 0 n0.places) (word_of_page n0.words) c.args.page s) (sym (c.replay_push.ensures n0.limits.volume (entries n0.seen) e))
             (encodes_kept n0.places few c.requires.filled (word_of_page n0.words) c.args.page _ c.requires.volume c.requires.exact));
       },
     )
@@ -84,7 +84,7 @@ pub append-requires-clause-room : goal.append-requires-clause-room
 append-requires-clause-room c =
     let reserved : c.self.inside.reserved ≡ c.args.self.now.reserved = ap (λ (x : Work). x.reserved) c.self.view_is in
     let room = (c.self.invariant.room (let n = c.requires.count.0 in let r = c.requires.reserved in omega arith)).0 in
-    let each = answers_each (replay (entries c.args.self.now.knows.seen)) (record { by = c.args.self.now.knows.number; ops = c.args.ops.now; dones = c.args.dones.now }) c.requires.entry in
+    let each = answers_each (replay_from c.args.self.now.knows.limits.volume (entries c.args.self.now.knows.seen)) (record { by = c.args.self.now.knows.number; ops = c.args.ops.now; dones = c.args.dones.now }) c.requires.entry in
     (c.requires.reserved ∙ sym reserved ∙ sym room, each ∙ c.requires.reserved ∙ sym reserved ∙ sym room)
 
 pub append-requires-clause-newest : goal.append-requires-clause-newest

@@ -15,7 +15,7 @@ fill_word-requires c =
     let k = ap (λ (w : Rattle.be_table.specs.Place.Work). w.knows) c.self.view_is in
     let lp : c.args.page < length a.places = subst (λ (n : Knowledge). c.args.page < length n.places) (sym k) c.requires.filled.0 in
     let count : length a.places ≡ w.table.now.limits.pages = sym (ap length i.places) ∙ i.count in
-    let few = i.pass.within.few_pages in let u = ap (λ l. l.pages) i.limits_are in
+    let few = i.pass.within.limits.few_pages in let u = ap (λ l. l.pages) i.limits_are in
     record {
       seat = i.table_is;
       pass = (ap (λ m. m.0) i.me_is, i.writes, ap (λ n. n.published) k ∙ c.requires.open);
@@ -39,7 +39,7 @@ pub returns-clause-inside : goal.returns-clause-inside
 returns-clause-inside c =
     let i = c.self.invariant in let w = c.self.inside in let a = pass_of w.base.me.0 in
     let k = ap (λ (w : Rattle.be_table.specs.Place.Work). w.knows) c.self.view_is in
-    let few = i.pass.within.few_pages in
+    let few = i.pass.within.limits.few_pages in
     let low : c.args.page < a.limits.pages = let lp : c.args.page < length a.places = subst (λ (n : Knowledge). c.args.page < length n.places) (sym k) c.requires.filled.0 in let z = ap length i.places in let y = i.count in let u = ap (λ l. l.pages) i.limits_are in omega (arith, lp) in
     let z : length a.words ≡ length c.args.self.now.knows.words = ap (λ (n : Knowledge). length n.words) k in
     let y = i.size in let x = ap (λ l. l.pages) i.limits_are in

@@ -1,7 +1,7 @@
 use Rattle.std.proofs.Common.{ℕ, length, map, arith, refl, sym, ap, ◌∙◌, subst}
 use Rattle.std.proofs.lemmas.List.{length-map}
 use Rattle.be_pages.specs.Place.{swept_place}
-use Rattle.be_table.specs.declared.limits.Limits.{Limits}
+use Rattle.be_table.specs.Setting.{Setting as Limits}
 use Rattle.be_table.specs.declared.pass.Knowledge.{Knowledge}
 use Rattle.be_table.specs.Rule.{alone, pass_of}
 use Rattle.be_table.specs.Steps.{scans_of}

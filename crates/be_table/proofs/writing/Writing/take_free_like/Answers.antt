@@ -1,7 +1,7 @@
 use Rattle.std.proofs.Common.{◌≡◌, ℕ, ◌+◌, ◌<◌, [], ◌∷◌, None, length, slice_set, sym, ap, ◌∙◌, subst}
 use Rattle.std.proofs.Common.{length-set}
 use Rattle.be_pages.specs.declared.page_pool.Place.TheVariants.{Reserved}
-use Rattle.be_table.specs.declared.limits.Limits.{Limits}
+use Rattle.be_table.specs.Setting.{Setting as Limits}
 use Rattle.be_table.specs.declared.pass.Knowledge.{Knowledge}
 use Rattle.be_pages.specs.Place.{is_retired}
 use Rattle.be_table.specs.Rule.{alone, entries, writer_state_places, page_at, pass_of}

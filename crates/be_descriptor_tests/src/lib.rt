@@ -1,0 +1,5 @@
+//! Tests of files over descriptors.
+#![tactic(auto)]
+
+#[cfg(test)]
+mod tests;

@@ -1,0 +1,4 @@
+mod Rows
+mod Scanning
+mod Opened
+mod Histories

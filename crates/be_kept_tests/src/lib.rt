@@ -1,0 +1,5 @@
+//! Tests of kept files, in memory.
+#![tactic(auto)]
+
+#[cfg(test)]
+mod tests;

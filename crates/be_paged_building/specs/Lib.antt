@@ -1,0 +1,5 @@
+pub mod Place
+pub mod Keys
+pub mod Given
+pub mod Building
+pub mod Errors

@@ -1,0 +1,4 @@
+use Rattle.be_plan_tests.proofs.tests.counting.nodes_fewest.Given as goal
+
+abbrev pub ghost-answer : goal.ghost-answer
+ghost-answer a = a.source.now.source

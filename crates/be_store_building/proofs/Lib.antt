@@ -1,0 +1,5 @@
+pub mod States
+pub mod Encoding
+pub mod Errors
+pub mod Volumes
+pub mod Calls

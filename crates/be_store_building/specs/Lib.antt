@@ -1,0 +1,4 @@
+pub mod FirstPages
+pub mod Building
+pub mod Failing
+pub mod Inside

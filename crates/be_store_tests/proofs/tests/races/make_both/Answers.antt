@@ -1,0 +1,7 @@
+use denote.Param.Send.{sendable}
+use Rattle.std.proofs.Crossing.{crosses}
+use Rattle.be_store.proofs.Crosses.{pass_send, store_sync}
+use Rattle.be_store_tests.proofs.tests.races.make_both.Goals as goal
+
+pub join-requires-send-F : goal.join-requires-send-F
+join-requires-send-F g c κs within = search (sendable, crosses, pass_send, store_sync) depth 20

@@ -1,0 +1,3 @@
+pub mod Imports
+pub mod Text
+pub mod Ways
