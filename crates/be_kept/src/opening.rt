@@ -33,7 +33,7 @@ pub enum Unused<D: Disk> {
 ///
 /// # Errors
 /// The file isn't an SQLite database with these four tables and pages of 4 KiB, it is damaged, or
-/// it can't be read. What a crash leaves of the files stays the same.
+/// it can't be read.
 pub fn open<D: Disk>(
     alloc: Global,
     files: Files<D>,

@@ -66,8 +66,8 @@ fn add<S: Store>(
 /// number of the last entry. `row` is room for a row.
 ///
 /// # Errors
-/// `Full` if an entry would have a number above 2^63 - 1, or there is no room on the disk;
-/// otherwise the store's error. The entries may be in the file after the next opening, all or none.
+/// `Full` if the disk is full, or an entry's number would exceed 2^63 - 1; otherwise the store's
+/// error. All of the entries may be in the file after the next opening, or none of them.
 pub fn append<S: Store>(
     store: &mut S,
     row: &mut Row,

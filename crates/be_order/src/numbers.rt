@@ -133,7 +133,7 @@ fn first_listed<S: OrderedSource>(
 
 /// Replaces the content of a list with the first `most` nodes that satisfy a query and have a
 /// number of `first` or above, by listing the nodes of a side and testing these. Returns `false` if
-/// there is no side, the indices don't cover it or memory runs out.
+/// no side is given, if it needs an index that is missing, or if memory runs out.
 pub(crate) fn first_of_side<S: OrderedSource>(
     alloc: Global,
     tree: &Tree,

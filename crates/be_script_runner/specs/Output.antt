@@ -219,7 +219,7 @@ abbrev pub IsWanting : Session → Request → Reply → Session → Type 0
 IsWanting s request reply after = (after ≡ unwritten s request)
     × (((reply ≡ refused OutOfMemory) × TakesMemory s request) ⊎ IsHeldUpAt s s.batch request reply)
 
--- the answer has exactly this reply and leaves this session
+-- the answer consists of exactly this reply and of the session afterwards
 abbrev pub Gives : Reply × Session → Reply → Session → Type 0
 Gives answer reply after = answer ≡ (reply, after)
 

@@ -8,7 +8,7 @@ use Rattle.be_session.specs.declared.faults.Fault.{Fault}
 use Rattle.be_session.specs.declared.faults.Fault.TheVariants.{Refused}
 use Rattle.be_value.specs.declared.refusals.Refusal.{Refusal}
 
--- without an answer there is no text, for the same reason
+-- if the query returns an error, so does the call that returns a text
 without_text : (e : Refusal) (meant : Result (List ℕ) Refusal) → IsMemory e (meant ≡ Err e) → IsMemory e (if_answered [] meant ≡ Err e)
 without_text e meant (inl memory) = inl memory
 without_text e meant (inr is) = inr (ap (if_answered []) is)

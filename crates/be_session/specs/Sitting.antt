@@ -108,8 +108,8 @@ AreAllSeats store seats = AreNew store 0 seats × (length seats ≡ store.limits
 
 -- What a pass knew when another session got it, and what that session then held. Either it is the
 -- last of those that wait here, which has seen and written nothing, or none waits, and the pass was
--- given back and isn't pinned. In both cases this session gave away one share, and the other one
--- has given away none.
+-- given back and isn't pinned. In both cases the session that is asked gave away one share, and
+-- the other one has given away none.
 abbrev pub IsTakenFrom : Sitting → Sitting → Knowledge → Holding → Type 0
 IsTakenFrom s t b held =
     (held ≡ holding_anew (length b.seen))

@@ -102,7 +102,7 @@ impl Session {
         }
     }
 
-    /// Returns whether this session's pass began the change and is pinned to its snapshot.
+    /// Returns whether the session's own pass began the change and is pinned to its snapshot.
     fn owns(&self, change: &Change) -> bool
         ensures yes { result ≡ true → IsOwnChange change.now self.now.knows }
         ensures no { result ≡ false → ¬ (IsOwnChange change.now self.now.knows) }
@@ -136,7 +136,7 @@ impl Session {
     }
 
     /// Returns an attribute of a node as the change's operations leave it, or `None` if the node
-    /// doesn't have it. Returns `NotPinned` if this session's pass didn't begin the change, or
+    /// doesn't have it. Returns `NotPinned` if the session's pass didn't begin the change, or
     /// isn't pinned to its snapshot.
     pub fn changed(
         &mut self,
@@ -158,7 +158,7 @@ impl Session {
     /// since its snapshot. Unpins the session if `begin_change` pinned it. Returns the commit
     /// number, or the snapshot's number if nothing was collected.
     ///
-    /// Returns `NotPinned` if this session's pass didn't begin the change, or isn't pinned to its
+    /// Returns `NotPinned` if the session's pass didn't begin the change, or isn't pinned to its
     /// snapshot; `Conflict` with the journal's length if another write came first; or an error of
     /// the store. After a `Conflict`, begin the change again. If the call fails, nothing is
     /// written.

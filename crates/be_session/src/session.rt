@@ -315,8 +315,8 @@ impl Session {
         Ok(())
     }
 
-    /// Closes the store, if this is its last session, and returns the journal. Takes the pass of
-    /// this session, the passes that were given back, and those that wait; they may be pinned. The
+    /// Closes the store, if this is its last session, and returns the journal. Takes the session's
+    /// own pass, the passes that were given back, and those that wait; they may be pinned. The
     /// call never waits, and costs one load and one join per pass.
     ///
     /// The journal covers everything that happened, whatever calls were made by whatever sessions.

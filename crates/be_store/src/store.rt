@@ -425,9 +425,9 @@ impl Store {
         value
     }
 
-    /// Returns `true` if the index with this name has the node in the pinned version. It then has
-    /// the node's attribute. `false` means that there is no such index, node or attribute, that the
-    /// attribute has another kind than the index, or that it was set before the index was created.
+    /// Returns whether the index with this name has the node's attribute in the pinned version. It
+    /// doesn't have an attribute of another kind, or one that was set before the index was created.
+    /// Returns `false` too if the index, the node or the attribute doesn't exist.
     /// Costs one descent of the catalog and, if the node has the attribute, one of the index.
     /// Allocates no memory.
     pub fn is_held(&self, alloc: Global, pass: &mut Pass, node: u64, name: &Name) -> bool

@@ -56,7 +56,7 @@ attribute_mild volume node name value held e (inr (there, inr (few, inl above)))
     no_attribute is (inr other) = let f = other.1 in cc
 attribute_mild volume node name value held e (inr (there, inr (few, inr (above, wrong)))) last = held_mild volume name value e wrong.1 last
 
--- an error for want of memory or pages is the last one
+-- after OutOfMemory or Full, building can't go on
 pub memory_last : (e : Refusal) → e ≡ OutOfMemory → IsLast e
 memory_last e is = inl is
 

@@ -197,8 +197,8 @@ ShowsValue value reported places filled =
     × HasNoMore reported.number bytes value
     × (reported.length ≡ length bytes) × (filled ≡ over bytes places)
 
--- Whether an index has an attribute in the pinned version, as 1 or 0. The call returns 66 if there
--- is no pin.
+-- Whether an index has an attribute in the pinned version, as 1 or 0. The call returns 66 if the
+-- pass isn't pinned.
 abbrev pub ShowsHeld : Option ℕ → Bool → ℕ → ℕ → Type 0
 ShowsHeld None is_held shown code = code ≡ 66
 ShowsHeld (Some n) is_held shown code = (code ≡ 0) × (shown ≡ (if is_held then 1 else 0))
